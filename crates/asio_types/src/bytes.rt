@@ -1,0 +1,36 @@
+ghost use Rattle.std.specs.Prelude.{◌≡◌, ℕ, List, IfOk};
+
+use crate::failure::NoMemory;
+use std::alloc::Global;
+use std::marker::Model;
+
+/// Bytes of a script: a delimiter, or what is fed, read or written. Contracts see the list of the bytes.
+#[derive(Debug, Drop)]
+pub struct Bytes {
+    items: Vec<u8>,
+}
+
+impl Model for Bytes {
+    ghost Value = { List ℕ };
+
+    ghost view = { λ b. b.items.items };
+}
+
+impl Bytes {
+    /// A copy of these bytes. Takes their length in memory.
+    pub fn from_slice(alloc: Global, bytes: &[u8]) -> Result<Bytes, NoMemory>
+        ensures { IfOk result (λ copy. copy ≡ bytes.now) }
+    {
+        match Vec::from_slice(alloc, bytes) {
+            Ok(items) => Ok(Bytes { items }),
+            Err(_) => Err(NoMemory),
+        }
+    }
+
+    /// The bytes.
+    pub fn as_slice(&self) -> &[u8]
+        ensures { result.now ≡ self.now }
+    {
+        self.items.as_slice()
+    }
+}
