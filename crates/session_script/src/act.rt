@@ -1,0 +1,100 @@
+use asio_types::{Bytes, GuardNo, SlotNo, StrandNo, StreamNo, TimerNo, Types};
+
+/// One act of a script: a posting, an asynchronous operation, a control act, or a stop. Postings and asynchronous
+/// operations have a handler, whose body is the script's (see `Script::branch`).
+#[derive(Debug, Drop)]
+pub enum Act {
+    /// `asio::post`, to a strand or to the context.
+    Post {
+        strand: Option<StrandNo>,
+    },
+    /// `asio::defer`.
+    Defer {
+        strand: Option<StrandNo>,
+    },
+    /// `asio::dispatch`.
+    Dispatch {
+        strand: Option<StrandNo>,
+    },
+    /// `steady_timer::expires_after`.
+    Expires {
+        timer: TimerNo,
+        after: u64,
+    },
+    /// `steady_timer::expires_at`, in scripted time.
+    ExpiresAt {
+        timer: TimerNo,
+        at: u64,
+    },
+    /// `steady_timer::async_wait`.
+    Wait {
+        timer: TimerNo,
+        strand: Option<StrandNo>,
+        slot: Option<SlotNo>,
+        filter: Types,
+    },
+    /// `steady_timer::cancel`.
+    Cancel {
+        timer: TimerNo,
+    },
+    /// `steady_timer::cancel_one`.
+    CancelOne {
+        timer: TimerNo,
+    },
+    /// `cancellation_signal::emit`.
+    Emit {
+        slot: SlotNo,
+        types: Types,
+    },
+    /// `async_read_some` of a stream.
+    ReadSome {
+        stream: StreamNo,
+        size: u32,
+        strand: Option<StrandNo>,
+        slot: Option<SlotNo>,
+        filter: Types,
+    },
+    /// `asio::async_read` of exactly `size` bytes.
+    ReadAll {
+        stream: StreamNo,
+        size: u32,
+        strand: Option<StrandNo>,
+        slot: Option<SlotNo>,
+        filter: Types,
+    },
+    /// `asio::async_read_until` with a limit of `max` bytes.
+    Until {
+        stream: StreamNo,
+        delimiter: Bytes,
+        max: u32,
+        strand: Option<StrandNo>,
+        slot: Option<SlotNo>,
+        filter: Types,
+    },
+    /// `async_write_some` of a stream.
+    WriteSome {
+        stream: StreamNo,
+        bytes: Bytes,
+        strand: Option<StrandNo>,
+        slot: Option<SlotNo>,
+        filter: Types,
+    },
+    /// `asio::async_write` of all bytes.
+    WriteAll {
+        stream: StreamNo,
+        bytes: Bytes,
+        strand: Option<StrandNo>,
+        slot: Option<SlotNo>,
+        filter: Types,
+    },
+    /// `close` of a stream.
+    Close {
+        stream: StreamNo,
+    },
+    /// Release of an `executor_work_guard`.
+    Release {
+        guard: GuardNo,
+    },
+    /// `io_context::stop`.
+    Stop,
+}

@@ -1,0 +1,9 @@
+//! The language of sessions. A script is accepted exactly by the grammar, and every refusal names the first fault. The
+//! history, the context and the program stand on it.
+#![tactic(auto)]
+
+mod act;
+mod round;
+
+pub use act::Act;
+pub use round::{Pace, Round};
