@@ -1,1 +1,4 @@
 pub mod Code
+pub mod Faults
+pub mod Sink
+pub mod Source

@@ -1,0 +1,34 @@
+-- What a write does to the bytes that a sink holds, where it tells them (compare AsyncWriteStream's write_some).
+use Rattle.asio_types.specs.Faults.{Plan}
+use Rattle.std.specs.Prelude.{◌≡◌, ℕ, List, ◌++◌, Option, Some, None, ⊤, ◌==◌, if◌then◌else◌}
+
+-- what is told after a write was told before it, and grew by these bytes; a sink may stop telling
+abbrev pub Extends : Option (List ℕ) → List ℕ → Option (List ℕ) → Type 0
+Extends before bytes None = ⊤
+Extends None bytes (Some after) = ⊥
+Extends (Some before) bytes (Some after) = after ≡ before ++ bytes
+
+-- bytes in reserved memory, and the room that is left
+pub record Holding : Type 0 where
+  pub bytes : List ℕ
+  pub room : ℕ
+
+-- memory as a sink: what it holds, and which writes fail
+pub record TextWriting : Type 0 where
+  pub held : Holding
+  pub plan : Plan
+
+-- memory as a sink that never fails: what it holds, and how many writes found no room
+pub record SureWriting : Type 0 where
+  pub held : Holding
+  pub lost : ℕ
+
+-- memory as a sink that takes at most step bytes at a time
+pub record SlowWriting : Type 0 where
+  pub held : Holding
+  pub step : ℕ
+  pub faults : ℕ
+
+-- a sink that lost a write tells nothing more
+abbrev pub told_unless_lost : SureWriting → Option (List ℕ)
+told_unless_lost sink = if sink.lost == 0 then Some sink.held.bytes else None
