@@ -9,6 +9,7 @@ mod code;
 mod event;
 mod failure;
 mod kept;
+mod mark;
 mod number;
 mod outside;
 mod plan;
@@ -30,6 +31,7 @@ pub use cancellation::Types;
 pub use code::{Class, Code, class_of};
 pub use event::Event;
 pub use failure::{Failed, NoMemory};
+pub use mark::{ReadMark, WriteMark};
 pub use number::{ActNo, GuardNo, Lane, OpNo, SlotNo, StrandNo, StreamNo, TimerNo};
 pub use outside::{Moved, Point, SetupFault};
 pub use sink::Sink;
@@ -43,3 +45,6 @@ pub use sure_source::SureSource;
 pub use text_sink::TextSink;
 pub use text_source::TextSource;
 pub use world::{Line, Lines, What, World};
+
+#[cfg(test)]
+mod tests;

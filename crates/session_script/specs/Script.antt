@@ -4,6 +4,7 @@ use Rattle.asio_types.specs.declared.code.Class.{Class}
 use Rattle.asio_types.specs.declared.code.Class.TheVariants as class
 use Rattle.asio_types.specs.declared.world.World.{World}
 use Rattle.session_script.specs.declared.act.Act.{Act}
+use Rattle.session_script.specs.declared.act.Act.TheVariants as act
 use Rattle.session_script.specs.declared.round.Round.{Round}
 
 -- where an act stands: in `open` itself, or in the branch of an operation for a class
@@ -65,3 +66,28 @@ act_of script n = act_in (slice_get script.acts n)
     act_in : Option Entry → Option Act
     act_in None = None
     act_in (Some entry) = Some entry.act
+
+-- whether an act has a handler: a posting or an asynchronous operation
+abbrev pub is_operation : Act → Bool
+is_operation (act.Post p) = true
+is_operation (act.Defer p) = true
+is_operation (act.Dispatch p) = true
+is_operation (act.Expires p q) = false
+is_operation (act.ExpiresAt p q) = false
+is_operation (act.Wait p q r s) = true
+is_operation (act.Cancel p) = false
+is_operation (act.CancelOne p) = false
+is_operation (act.Emit p q) = false
+is_operation (act.ReadSome p q r s t) = true
+is_operation (act.ReadAll p q r s t) = true
+is_operation (act.Until p q r s t u) = true
+is_operation (act.WriteSome p q r s t) = true
+is_operation (act.WriteAll p q r s t) = true
+is_operation (act.Close p) = false
+is_operation (act.Release p) = false
+is_operation act.Stop = false
+
+-- whether an act stops the context
+abbrev pub is_stop : Act → Bool
+is_stop act.Stop = true
+is_stop _ = false

@@ -3,7 +3,9 @@
 #![tactic(auto)]
 
 mod act;
+mod refusal;
 mod round;
 
 pub use act::Act;
+pub use refusal::{Refusal, Rule, ScriptFault};
 pub use round::{Pace, Round};
