@@ -17,6 +17,13 @@ impl Model for Bytes {
 }
 
 impl Bytes {
+    /// The bytes of a vector. Takes no memory.
+    pub fn of(items: Vec<u8>) -> Bytes
+        ensures { result ≡ items.items }
+    {
+        Bytes { items }
+    }
+
     /// A copy of these bytes. Takes their length in memory.
     pub fn from_slice(alloc: Global, bytes: &[u8]) -> Result<Bytes, NoMemory>
         ensures { IfOk result (λ copy. copy ≡ bytes.now) }
