@@ -36,11 +36,18 @@ insert_time time [] = time ∷ []
 insert_time time (first ∷ later) =
     if nat_lt time first then time ∷ (first ∷ later) else (if time == first then first ∷ later else first ∷ insert_time time later)
 
+-- the distinct numbers of a list, rising
+abbrev pub rising : List ℕ → List ℕ
+rising [] = []
+rising (time ∷ times) = insert_time time (rising times)
+
+-- the distinct times above now, rising
+abbrev pub rising_after : ℕ → List ℕ → List ℕ
+rising_after now times = rising (filter (λ time. nat_lt now time) times)
+
 -- the distinct times of lines that are still to come, rising
 abbrev pub times_after : ℕ → List Line → List ℕ
-times_after now [] = []
-times_after now (line ∷ lines) =
-    if nat_lt now line.time then insert_time line.time (times_after now lines) else times_after now lines
+times_after now lines = rising_after now (map (λ line. line.time) lines)
 
 -- the least of a limit and of rising times, or that there is neither
 abbrev pub next_point : Option ℕ → List ℕ → Point
