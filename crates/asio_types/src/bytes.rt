@@ -28,10 +28,9 @@ impl Bytes {
     pub fn from_slice(alloc: Global, bytes: &[u8]) -> Result<Bytes, NoMemory>
         ensures { IfOk result (λ copy. copy ≡ bytes.now) }
     {
-        match Vec::from_slice(alloc, bytes) {
-            Ok(items) => Ok(Bytes { items }),
-            Err(_) => Err(NoMemory),
-        }
+        Ok(Bytes {
+            items: Vec::from_slice(alloc, bytes)?,
+        })
     }
 
     /// The bytes.

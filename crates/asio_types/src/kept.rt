@@ -28,10 +28,10 @@ impl Kept {
         ensures { IfOk result (λ kept. kept ≡ record { bytes = []; room = room }) }
     {
         let room = room as usize;
-        match Vec::with_capacity(alloc, room) {
-            Ok(bytes) => Ok(Kept { bytes, room }),
-            Err(_) => Err(NoMemory),
-        }
+        Ok(Kept {
+            bytes: Vec::with_capacity(alloc, room)?,
+            room,
+        })
     }
 
     /// The bytes.

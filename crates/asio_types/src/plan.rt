@@ -26,14 +26,11 @@ impl FailPlan {
     pub(crate) fn make(alloc: Global, fails: &[u32]) -> Result<FailPlan, NoMemory>
         ensures { IfOk result (λ plan. plan ≡ record { fails = fails.now; calls = 0; faults = 0 }) }
     {
-        match Vec::from_slice(alloc, fails) {
-            Ok(fails) => Ok(FailPlan {
-                fails,
-                calls: 0,
-                faults: 0,
-            }),
-            Err(_) => Err(NoMemory),
-        }
+        Ok(FailPlan {
+            fails: Vec::from_slice(alloc, fails)?,
+            calls: 0,
+            faults: 0,
+        })
     }
 
     /// Counts a call, and answers whether it is to fail. Looks through the whole list.

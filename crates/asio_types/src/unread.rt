@@ -24,10 +24,10 @@ impl Unread {
     pub(crate) fn make(alloc: Global, bytes: &[u8]) -> Result<Unread, NoMemory>
         ensures { IfOk result (λ left. left ≡ bytes.now) }
     {
-        match Vec::from_slice(alloc, bytes) {
-            Ok(bytes) => Ok(Unread { bytes, at: 0 }),
-            Err(_) => Err(NoMemory),
-        }
+        Ok(Unread {
+            bytes: Vec::from_slice(alloc, bytes)?,
+            at: 0,
+        })
     }
 
     /// Gives the next bytes, as many as the buffer takes, but at most `most`. Copies just these.
