@@ -1,1 +1,3 @@
+pub mod Postings
 pub mod Script
+pub mod Text

@@ -3,9 +3,15 @@
 #![tactic(auto)]
 
 mod act;
+mod awaited;
+mod reader;
 mod refusal;
 mod round;
+mod script;
+mod word;
 
 pub use act::Act;
+pub use reader::read_script;
 pub use refusal::{Refusal, Rule, ScriptFault};
 pub use round::{Pace, Round};
+pub use script::Script;

@@ -1,4 +1,8 @@
 ghost use Rattle.std.specs.Prelude.{◌≡◌};
+ghost use Rattle.session_script.specs.declared.refusal.ScriptFault.TheVariants.{NoMemory as WantOfMemory};
+
+use asio_types::NoMemory;
+use std::alloc::AllocFailed;
 
 /// Why a text is no script.
 #[derive(Clone, Copy, Debug, PartialEq, Eq)]
@@ -36,4 +40,20 @@ pub enum ScriptFault {
     Refused(Refusal),
     /// Memory was asked for and not given.
     NoMemory,
+}
+
+impl From<NoMemory> for ScriptFault {
+    ghost from_gives = { λ _ fault. fault ≡ WantOfMemory };
+
+    fn from(_e: NoMemory) -> ScriptFault {
+        ScriptFault::NoMemory
+    }
+}
+
+impl<T: Drop> From<AllocFailed<T>> for ScriptFault {
+    ghost from_gives = { λ _ fault. fault ≡ WantOfMemory };
+
+    fn from(_e: AllocFailed<T>) -> ScriptFault {
+        ScriptFault::NoMemory
+    }
 }
