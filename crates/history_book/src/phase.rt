@@ -1,3 +1,6 @@
+ghost use Rattle.std.specs.Prelude.{◌≡◌};
+ghost use Rattle.history_book.specs.State.{is_open, is_uncalled, is_running, is_outstanding};
+
 use asio_types::{Class, Code};
 
 /// How far the initiating call of an act has come.
@@ -35,4 +38,32 @@ pub struct ActState {
     pub call: CallPhase,
     /// Its operation.
     pub op: OpPhase,
+}
+
+/// Whether the call was made and hasn't returned.
+pub(crate) fn is_open(call: CallPhase) -> bool
+    ensures { result ≡ is_open call }
+{
+    matches!(call, CallPhase::Open | CallPhase::Stopping)
+}
+
+/// Whether the call wasn't made.
+pub(crate) fn is_uncalled(call: CallPhase) -> bool
+    ensures { result ≡ is_uncalled call }
+{
+    call == CallPhase::Uncalled
+}
+
+/// Whether the handler runs.
+pub(crate) fn is_running(op: OpPhase) -> bool
+    ensures { result ≡ is_running op }
+{
+    matches!(op, OpPhase::Running { .. })
+}
+
+/// Whether the operation was accepted and its handler wasn't spent.
+pub(crate) fn is_outstanding(op: OpPhase) -> bool
+    ensures { result ≡ is_outstanding op }
+{
+    matches!(op, OpPhase::Ready { .. } | OpPhase::Running { .. })
 }

@@ -1,3 +1,6 @@
+ghost use Rattle.std.specs.Prelude.{◌≡◌};
+ghost use Rattle.session_script.specs.Script.{is_operation};
+
 use asio_types::{Bytes, GuardNo, SlotNo, StrandNo, StreamNo, TimerNo, Types};
 
 /// One act of a script: a posting, an asynchronous operation, a control act, or a stop. Postings and asynchronous
@@ -97,4 +100,18 @@ pub enum Act {
     },
     /// `io_context::stop`.
     Stop,
+}
+
+/// Whether an act has a handler: a posting or an asynchronous operation.
+pub fn is_operation(act: &Act) -> bool
+    ensures { result ≡ is_operation act.now }
+{
+    match act {
+        Act::Post { .. } | Act::Defer { .. } | Act::Dispatch { .. } | Act::Wait { .. } => true,
+        Act::ReadSome { .. } | Act::ReadAll { .. } | Act::Until { .. } => true,
+        Act::WriteSome { .. } | Act::WriteAll { .. } => true,
+        Act::Expires { .. } | Act::ExpiresAt { .. } | Act::Cancel { .. } => false,
+        Act::CancelOne { .. } | Act::Emit { .. } | Act::Close { .. } => false,
+        Act::Release { .. } | Act::Stop => false,
+    }
 }

@@ -10,7 +10,7 @@ mod round;
 mod script;
 mod word;
 
-pub use act::Act;
+pub use act::{Act, is_operation};
 pub use reader::read_script;
 pub use refusal::{Refusal, Rule, ScriptFault};
 pub use round::{Pace, Round};
