@@ -1,1 +1,3 @@
 pub mod Spent
+pub mod Boxed
+pub mod Racked

@@ -1,7 +1,6 @@
 -- What a rack is seen as.
-use Rattle.std.specs.Prelude.{ℕ, List, map, slice_get, All, IsSome}
+use Rattle.std.specs.Prelude.{◌≡◌, ℕ, ◌<◌, List, length, map, slice_get, All, IsSome, Option, Some}
 use Rattle.std.specs.Option.{option_flatten, option_map}
-use Rattle.std.specs.Prelude.{Option}
 use Rattle.op_handlers.specs.Marks.{Marks}
 use Rattle.op_handlers.specs.declared.rack.Rack.{Rack}
 
@@ -20,3 +19,7 @@ handler_at rack a = option_flatten (slice_get (handlers_in rack) a)
 -- no handler was taken
 abbrev pub IsWholeRack : {H : Type 0} → Rack H → Type 0
 IsWholeRack rack = All IsSome (handlers_in rack)
+
+-- each handler is there, and number n has the marks that `named` gives for n
+abbrev pub HaveMarks : {H : Type 0} → (H → Marks) → (ℕ → Marks) → List (Option H) → Type 0
+HaveMarks marks named handlers = (n : ℕ) → n < length handlers → option_map marks (option_flatten (slice_get handlers n)) ≡ Some (named n)

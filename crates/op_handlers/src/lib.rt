@@ -7,9 +7,10 @@ mod call;
 mod completion;
 mod handler;
 mod rack;
+#[cfg(test)]
+mod tests;
 
 pub use call::{Call, Ran, Spend};
 pub use completion::CompletionHandler;
 pub use handler::Handler;
 pub use rack::Rack;
-
