@@ -1,5 +1,5 @@
 -- Lists of handlers that have given marks.
-use Rattle.std.proofs.Common.{◌≡◌, ℕ, slice_get, slice_set, zero, suc, ◌<◌, List, [], ◌∷◌, ◌++◌, length, Some, None, Option, All, IsSome, ap, arith, refl}
+use Rattle.std.proofs.Common.{◌≡◌, ℕ, slice_get, slice_set, zero, suc, List, [], ◌∷◌, ◌++◌, length, Some, None, Option, All, IsSome, ap, arith, refl}
 use Rattle.std.specs.Option.{option_map, option_flatten}
 use Rattle.op_handlers.specs.Marks.{Marks}
 use Rattle.op_handlers.specs.Rack.{HaveMarks}

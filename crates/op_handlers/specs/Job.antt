@@ -1,14 +1,13 @@
 -- What a job answers (Asio reference, "Requirements on asynchronous operations": a handler is called at most once).
-use Rattle.std.specs.Prelude.{◌≡◌, ℕ, ◌<◌, ◌^◌, refl}
+use Rattle.std.specs.Prelude.{◌≡◌, ◌<◌, ◌^◌}
 use Rattle.std.specs.Coded.{Coded-set}
-use Rattle.std.proofs.Common.{sym, ◌∙◌, ap, lit<}
+use Rattle.std.proofs.Common.{ap, lit<}
 use Rattle.std.proofs.Math.Logic.{∥∥₁_elim, ∥∥₁_prop}
 use mathlib.Core.HLevel.{Σ_prop_path}
 use Rattle.asio_types.specs.Code.{class_of_code}
 use Rattle.asio_types.specs.declared.code.Class.TheVariants as class
 use Rattle.asio_types.specs.declared.code.Code.TheVariants as code
 use Rattle.op_handlers.specs.Marks.{Marks, marks_code}
-use Rattle.op_handlers.specs.declared.call.Call.{Call}
 use Rattle.op_handlers.specs.declared.call.Spend.{Spend}
 use Rattle.op_handlers.specs.declared.call.Spend.TheVariants.{Execute, Discard}
 use Rattle.op_handlers.specs.declared.call.Ran.{Ran}

@@ -8,7 +8,6 @@ use crate::completion::CompletionHandler;
 use crate::handler::Handler;
 use crate::rack::Rack;
 use asio_types::{Class, Code, class_of};
-use std::process::Abort;
 use std::test::Fail;
 
 type Job = Box<dyn FnOnce(Spend) -> Ran + Send>;
@@ -19,6 +18,24 @@ const ABORTED: Call = Call {
     size: 0,
     begun: 12,
 };
+
+// What a job answers that has these marks.
+fn answered(run: u64, discard: u64, spend: Spend) -> Ran
+    ensures { result ≡ answer (record { run = run; drop = discard }) spend }
+{
+    match spend {
+        Spend::Execute(call) => Ran {
+            mark: run,
+            class: class_of(call.code),
+            begun: call.begun,
+        },
+        Spend::Discard => Ran {
+            mark: discard,
+            class: Class::Ok,
+            begun: 0,
+        },
+    }
+}
 
 // Spends a handler through its bound alone.
 fn executed<H: CompletionHandler>(handler: H) -> Ran {
@@ -46,6 +63,11 @@ fn put_back(rack: &mut Rack, a: u32) -> bool {
 
 fn needs_send<T: Send>(_value: &T) {}
 
+// A rack moves between threads where its handlers do.
+fn rack_needs_send<H: Send>(rack: &Rack<H>) {
+    needs_send(rack);
+}
+
 // Each number of this rack has both marks 1000 more than it.
 fn count_numbered(rack: &Rack) -> u32
     requires whole { IsWholeRack rack.now }
@@ -61,20 +83,7 @@ fn a_handler_answers_by_its_marks(rt: HostRuntime) -> Result<(), Fail> {
         rt.alloc(),
         |spend: Spend| -> Ran
             ensures { result ≡ answer (record { run = 7; drop = 70 }) spend }
-        {
-            match spend {
-                Spend::Execute(call) => Ran {
-                    mark: 7,
-                    class: class_of(call.code),
-                    begun: call.begun,
-                },
-                Spend::Discard => Ran {
-                    mark: 70,
-                    class: Class::Ok,
-                    begun: 0,
-                },
-            }
-        },
+        { answered(7, 70, spend) },
     )?;
     let handler = Handler::of(seven);
     needs_send(&handler);
@@ -90,20 +99,7 @@ fn a_handler_answers_by_its_marks(rt: HostRuntime) -> Result<(), Fail> {
         rt.alloc(),
         |spend: Spend| -> Ran
             ensures { result ≡ answer (record { run = 9; drop = 90 }) spend }
-        {
-            match spend {
-                Spend::Execute(call) => Ran {
-                    mark: 9,
-                    class: class_of(call.code),
-                    begun: call.begun,
-                },
-                Spend::Discard => Ran {
-                    mark: 90,
-                    class: Class::Ok,
-                    begun: 0,
-                },
-            }
-        },
+        { answered(9, 90, spend) },
     )?;
     assert_eq!(rt; Handler::of(nine).discard(), 90);
     Ok(())
@@ -115,7 +111,7 @@ fn none_counts_as_taken(rt: HostRuntime) -> Result<(), Fail> {
     slots.push_reserved(None);
     slots.push_reserved(None);
     let mut rack = Rack::of(slots);
-    needs_send(&rack);
+    rack_needs_send(&rack);
     let outcome = (
         rack.count(),
         rack.is_whole(),
@@ -137,20 +133,7 @@ fn a_rack_gives_each_handler_once(rt: HostRuntime) -> Result<(), Fail> {
             alloc,
             move |spend: Spend| -> Ran
                 ensures { result ≡ answer (record { run = mark; drop = mark }) spend }
-            {
-                match spend {
-                    Spend::Execute(call) => Ran {
-                        mark,
-                        class: class_of(call.code),
-                        begun: call.begun,
-                    },
-                    Spend::Discard => Ran {
-                        mark,
-                        class: Class::Ok,
-                        begun: 0,
-                    },
-                }
-            },
+            { answered(mark, mark, spend) },
         );
         let job: Job = match boxed {
             Ok(job) => job,

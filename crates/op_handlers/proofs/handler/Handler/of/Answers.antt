@@ -2,4 +2,4 @@ use Rattle.op_handlers.proofs.Spent.{marks-HasMarks}
 use Rattle.op_handlers.proofs.handler.Handler.of.Goals as goal
 
 pub returns : goal.returns
-returns g c m a = marks-HasMarks c.result-1.given.0 m a
+returns g c m a = search marks-HasMarks
