@@ -24,5 +24,5 @@ module _ (T : Table Closures Dict) (e : Entry Closures Dict) (at : T.I) (same : 
   AnswersBy-boxed m {i} {y} {x} made asks tells may = record {
     callable = λ s n. made_asks T e at same made (s, tt) (asks s);
     only = λ s r n p. tells s r (made_tells T e at same made (s, tt) r p);
-    some = λ s n. subst (λ (P : Type 0). P) (sym (read_made T e at same (Type 0) (λ j v. j.1.post v (s, tt) (answer m s)) i y x made)) (may s);
+    possible = λ s n. subst (λ (P : Type 0). P) (sym (read_made T e at same (Type 0) (λ j v. j.1.post v (s, tt) (answer m s)) i y x made)) (may s);
   }

@@ -19,6 +19,9 @@ impl Handler {
     ghost use Rattle.op_handlers.specs.Handler.{marks_of};
 
     /// The handler that does this job when it is spent. It takes no memory.
+    ///
+    /// The job may be called either way, and its contract names its two marks: executed it answers the run mark, the
+    /// class of the code and the position of the begin, discarded the drop mark, `Ok` and 0.
     pub fn of(job: Box<dyn FnOnce(Spend) -> Ran + Send>) -> Handler
         requires { (marks : Marks) × AnswersBy (pre job) (post job) marks }
         ensures { (marks : Marks) → AnswersBy (pre job) (post job) marks → marks_of result ≡ marks }
