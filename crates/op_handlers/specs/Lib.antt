@@ -1,0 +1,4 @@
+pub mod Marks
+pub mod Job
+pub mod Handler
+pub mod Rack

@@ -1,0 +1,78 @@
+ghost use Rattle.std.specs.Prelude.{◌<◌, ◌^◌, length};
+
+use crate::completion::CompletionHandler;
+use crate::handler::Handler;
+use asio_types::ActNo;
+
+/// The handlers of a session: number n is the handler of act n, or nothing where it was taken. It must be spent.
+///
+/// It is seen as that list, and by the marks of its handlers as a list of marks.
+pub struct Rack<H = Handler> {
+    slots: Vec<Option<H>>,
+    ghost few: { length slots.items < 2 ^ 32 },
+}
+
+impl<H> Rack<H> {
+    ghost use Rattle.std.specs.Prelude.{◌≡◌, ◌↔◌, IsTrue, slice_get, slice_set, vec_len};
+    ghost use Rattle.op_handlers.specs.Rack.{handlers_in, handler_at, IsWholeRack};
+
+    /// The rack of these handlers, where a `None` counts as taken. It takes no memory.
+    pub fn of(handlers: Vec<Option<H>>) -> Rack<H>
+        requires { vec_len handlers < 2 ^ 32 }
+        ensures { handlers_in result ≡ handlers.items }
+    {
+        Rack { slots: handlers }
+    }
+
+    /// How many numbers there are, with those that were taken.
+    pub fn count(&self) -> u32
+        ensures { result ≡ length (handlers_in self.now) }
+    {
+        self.slots.len() as u32
+    }
+
+    /// Whether no handler was taken. It looks at each number.
+    pub fn is_whole(&self) -> bool
+        ensures { IsTrue result ↔ IsWholeRack self.now }
+    {
+        self.slots.iter().all(|slot| slot.is_some())
+    }
+
+    /// Takes the handler of an act: `None` exactly where the number is not below the count or was taken.
+    pub fn take(&mut self, a: ActNo) -> Option<H>
+        ensures taken { result ≡ handler_at self.old a }
+        ensures after { handlers_in self.new ≡ slice_set (handlers_in self.old) a None }
+    {
+        let number = a as usize;
+        if number < self.slots.len() {
+            self.slots[number].take()
+        } else {
+            None
+        }
+    }
+
+    /// Puts a handler at a number where nothing is.
+    pub fn put(&mut self, a: ActNo, handler: H)
+        requires { slice_get (handlers_in self.old) a ≡ Some None }
+        ensures { handlers_in self.new ≡ slice_set (handlers_in self.old) a (Some handler) }
+    {
+        match self.slots[a as usize].replace(handler) {
+            None => {}
+            Some(_) => unreachable!(),
+        }
+    }
+}
+
+impl<H: CompletionHandler> Rack<H> {
+    /// Discards the handlers that are left, in rising number. It executes none.
+    pub fn discard_all(self) {
+        let Rack { slots } = self;
+        let mut rest = slots.into_iter();
+        while let Some(slot) = rest.next() {
+            if let Some(handler) = slot {
+                handler.discard();
+            }
+        }
+        rest.destroy_empty();
+    }
+}
