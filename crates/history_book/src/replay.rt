@@ -1,10 +1,10 @@
 ghost use Rattle.std.specs.Prelude.{◌≡◌, ◌<◌, ◌≤◌, ◌↔◌, ℕ, length, IsTrue, IfOk, IfSome, IfNone, find, true, false};
 ghost use Rattle.std.specs.Bool.{OnTrue, OnFalse};
-ghost use Rattle.history_book.specs.Calls.{MayCall, MayReturn, MayStop, NoCallIsOpen, stops, operates, accepted};
-ghost use Rattle.history_book.specs.Executions.{MayBegin, MayEnd};
+ghost use Rattle.history_book.specs.Calls.{MayCall, MayReturn, MayStop, NoCallIsOpen, stops, operates, after_call, after_return, after_stop};
+ghost use Rattle.history_book.specs.Executions.{MayBegin, MayEnd, after_begin, after_end};
 ghost use Rattle.history_book.specs.Legal.{MayHappen, after_event};
-ghost use Rattle.history_book.specs.Rounds.{AllClosed, MayDrop, MayEndRound, MayStopRound, NothingRuns, RoundIsOpen};
-ghost use Rattle.history_book.specs.State.{first_state, outstanding_work, call_at, op_at, is_uncalled, is_outstanding};
+ghost use Rattle.history_book.specs.Rounds.{MayDrop, MayEndRound, MayStopRound, NothingRuns, RoundIsOpen, after_closing, after_drop};
+ghost use Rattle.history_book.specs.State.{first_state, outstanding_work, call_at, op_at, is_uncalled, is_outstanding, with_act};
 ghost use Rattle.session_script.specs.Script.{opening_of};
 
 use crate::phase::{
@@ -28,7 +28,7 @@ pub struct Replay<'a> {
     acts: Vec<ActState>,
     stopped: bool,
     may_begin: bool,
-    closings: u32,
+    closings: usize,
 }
 
 impl<'a> Model for Replay<'a> {
@@ -99,7 +99,7 @@ impl<'a> Replay<'a> {
         ensures { IsTrue result ↔ RoundIsOpen self.now.script self.now.state }
     {
         let opening = self.script.opening();
-        (self.closings as usize) < self.script.rounds().len()
+        self.closings < self.script.rounds().len()
             && opening.iter().all(|n| self.act(*n).call == CallPhase::Back)
     }
 
@@ -177,7 +177,179 @@ impl<'a> Replay<'a> {
     fn may_drop(&self, o: OpNo) -> bool
         ensures { IsTrue result ↔ MayDrop self.now.script self.now.state o }
     {
-        let over = self.closings as usize == self.script.rounds().len();
+        let over = self.closings == self.script.rounds().len();
         over && self.first_outstanding() == Some(o as usize)
+    }
+
+    /// Takes the event where it is legal; else nothing changes. Looks at each act where a round or a call of `open` is
+    /// concerned, and else at one act.
+    pub fn step(&mut self, event: Event) -> bool
+        ensures legal { IsTrue result ↔ MayHappen self.old.script self.old.told self.old.state event }
+        ensures next { OnTrue result (self.new.state ≡ after_event self.old.script self.old.told self.old.state event) }
+        ensures unchanged { OnFalse result (self.new.state ≡ self.old.state) }
+        ensures script { self.new.script ≡ self.old.script }
+        ensures told { self.new.told ≡ self.old.told }
+    {
+        match event {
+            Event::Call { act } => self.call(act),
+            Event::Back { act } => self.back(act),
+            Event::Stop { act: Some(act) } => self.stop(act),
+            Event::Begin { op, code, size } => self.begin(op, code, size),
+            Event::End { op, .. } => self.end(op),
+            Event::Ended => self.end_round(),
+            Event::Stopped => self.stop_round(),
+            Event::Dropped { op, .. } => self.drop_op(op),
+            _ => false,
+        }
+    }
+
+    fn call(&mut self, a: ActNo) -> bool
+        ensures legal { IsTrue result ↔ MayCall self.old.script self.old.state a }
+        ensures next { OnTrue result (self.new.state ≡ after_call self.old.script self.old.state a) }
+        ensures unchanged { OnFalse result (self.new.state ≡ self.old.state) }
+        ensures script { self.new.script ≡ self.old.script }
+        ensures told { self.new.told ≡ self.old.told }
+    {
+        if !self.may_call(a) {
+            return false;
+        }
+        let ready = OpPhase::Ready {
+            code: Code::Ok,
+            size: 0,
+        };
+        let op = if self.operates(a) {
+            ready
+        } else {
+            OpPhase::Absent
+        };
+        self.put(a, CallPhase::Open, op);
+        true
+    }
+
+    fn back(&mut self, a: ActNo) -> bool
+        ensures legal { IsTrue result ↔ MayReturn self.old.script self.old.state a }
+        ensures next { OnTrue result (self.new.state ≡ after_return self.old.script self.old.state a) }
+        ensures unchanged { OnFalse result (self.new.state ≡ self.old.state) }
+        ensures script { self.new.script ≡ self.old.script }
+        ensures told { self.new.told ≡ self.old.told }
+    {
+        if !self.may_return(a) {
+            return false;
+        }
+        if self.stops(a) {
+            self.may_begin = false;
+        }
+        self.put(a, CallPhase::Back, self.act(a).op);
+        true
+    }
+
+    fn stop(&mut self, a: ActNo) -> bool
+        ensures legal { IsTrue result ↔ MayStop self.old.script self.old.state a }
+        ensures next { OnTrue result (self.new.state ≡ after_stop self.old.state a) }
+        ensures unchanged { OnFalse result (self.new.state ≡ self.old.state) }
+        ensures script { self.new.script ≡ self.old.script }
+        ensures told { self.new.told ≡ self.old.told }
+    {
+        if !self.may_stop(a) {
+            return false;
+        }
+        self.stopped = true;
+        self.put(a, CallPhase::Stopping, self.act(a).op);
+        true
+    }
+
+    fn begin(&mut self, o: OpNo, code: Code, size: u32) -> bool
+        ensures legal { IsTrue result ↔ MayBegin self.old.script self.old.state o code size }
+        ensures next { OnTrue result (self.new.state ≡ after_begin self.old.state o code) }
+        ensures unchanged { OnFalse result (self.new.state ≡ self.old.state) }
+        ensures script { self.new.script ≡ self.old.script }
+        ensures told { self.new.told ≡ self.old.told }
+    {
+        if !self.may_begin(o, code, size) {
+            return false;
+        }
+        let class = class_of(code);
+        self.put(o, self.act(o).call, OpPhase::Running { class });
+        true
+    }
+
+    fn end(&mut self, o: OpNo) -> bool
+        ensures legal { IsTrue result ↔ MayEnd self.old.state o }
+        ensures next { OnTrue result (self.new.state ≡ after_end self.old.state o) }
+        ensures unchanged { OnFalse result (self.new.state ≡ self.old.state) }
+        ensures script { self.new.script ≡ self.old.script }
+        ensures told { self.new.told ≡ self.old.told }
+    {
+        if !is_running(self.act(o).op) {
+            return false;
+        }
+        self.put(o, self.act(o).call, OpPhase::Ended);
+        true
+    }
+
+    fn end_round(&mut self) -> bool
+        ensures legal { IsTrue result ↔ MayEndRound self.old.script self.old.state }
+        ensures next { OnTrue result (self.new.state ≡ after_closing self.old.state) }
+        ensures unchanged { OnFalse result (self.new.state ≡ self.old.state) }
+        ensures script { self.new.script ≡ self.old.script }
+        ensures told { self.new.told ≡ self.old.told }
+    {
+        let legal = self.may_end_round();
+        if legal {
+            self.close();
+        }
+        legal
+    }
+
+    fn stop_round(&mut self) -> bool
+        ensures legal { IsTrue result ↔ MayStopRound self.old.script self.old.state }
+        ensures next { OnTrue result (self.new.state ≡ after_closing self.old.state) }
+        ensures unchanged { OnFalse result (self.new.state ≡ self.old.state) }
+        ensures script { self.new.script ≡ self.old.script }
+        ensures told { self.new.told ≡ self.old.told }
+    {
+        let legal = self.may_stop_round();
+        if legal {
+            self.close();
+        }
+        legal
+    }
+
+    fn drop_op(&mut self, o: OpNo) -> bool
+        ensures legal { IsTrue result ↔ MayDrop self.old.script self.old.state o }
+        ensures next { OnTrue result (self.new.state ≡ after_drop self.old.state o) }
+        ensures unchanged { OnFalse result (self.new.state ≡ self.old.state) }
+        ensures script { self.new.script ≡ self.old.script }
+        ensures told { self.new.told ≡ self.old.told }
+    {
+        if !self.may_drop(o) {
+            return false;
+        }
+        self.put(o, self.act(o).call, OpPhase::Dropped);
+        true
+    }
+
+    // What has become of one act; an act that isn't there stays so.
+    fn put(&mut self, n: u32, call: CallPhase, op: OpPhase)
+        ensures state { self.new.state ≡ with_act self.old.state n (record { call = call; op = op }) }
+        ensures script { self.new.script ≡ self.old.script }
+        ensures told { self.new.told ≡ self.old.told }
+    {
+        if let Some(act) = self.acts.get_mut(n as usize) {
+            *act = ActState { call, op };
+        }
+    }
+
+    fn close(&mut self)
+        requires { self.old.state.closings < length self.old.script.rounds }
+        ensures state { self.new.state ≡ after_closing self.old.state }
+        ensures script { self.new.script ≡ self.old.script }
+        ensures told { self.new.told ≡ self.old.told }
+    {
+        let rounds = self.script.rounds().len();
+        prove!(self.closings < rounds);
+        self.closings += 1;
+        self.stopped = true;
+        self.may_begin = false;
     }
 }
