@@ -1,0 +1,6 @@
+//! Whole sessions: a script is read from a source, run on one io_context with the caller's handlers, and its history is
+//! written to a sink. Each status is answered exactly with its cause. The program stands on it.
+#![tactic(auto)]
+
+mod note;
+mod opening;
