@@ -28,7 +28,7 @@ find-numbers p i k (act ∷ acts) from below none here =
     (λ less. find-numbers p (i + 1) k acts (omega arith) (omega arith) (λ j after. none j (omega arith)) here)
 
 -- what holds of each number from i on
-All-numbers : (P : ℕ → Type 0) (i : ℕ) (acts : List Act) → ((j : ℕ) → i ≤ j → j < i + length acts → P j) → All P (numbers_in None i (map in_open acts))
+pub All-numbers : (P : ℕ → Type 0) (i : ℕ) (acts : List Act) → ((j : ℕ) → i ≤ j → j < i + length acts → P j) → All P (numbers_in None i (map in_open acts))
 All-numbers P i [] each = All-nil P
 All-numbers P i (act ∷ acts) each =
     All-cons P i (numbers_in None (i + 1) (map in_open acts)) (each i (omega arith) (omega arith)) (All-numbers P (i + 1) acts (λ j from below. each j (omega arith) (omega arith)))

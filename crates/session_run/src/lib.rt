@@ -2,5 +2,6 @@
 //! written to a sink. Each status is answered exactly with its cause. The program stands on it.
 #![tactic(auto)]
 
+mod execution;
 mod note;
 mod opening;

@@ -1,0 +1,80 @@
+-- Executions of ready postings, one after another.
+use Rattle.std.proofs.Common.{◌≡◌, ◌≢◌, ℕ, ◌+◌, ◌<◌, ◌≤◌, Bool, true, false, List, [], ◌∷◌, length, map, refl, arith, ap, subst, sym, ◌⊎◌, inl, inr, ◌∙◌}
+use Rattle.std.proofs.lemmas.Bool.Decides.{eqb_tells}
+use Rattle.asio_types.specs.declared.code.Class.TheVariants as class
+use Rattle.std.proofs.Math.Nat.{eq-or-lt_of_le}
+use Rattle.std.proofs.Math.ListN.{length-set}
+use Rattle.asio_types.specs.declared.code.Code.TheVariants as code
+use Rattle.session_script.specs.declared.act.Act.{Act}
+use Rattle.session_script.specs.Script.{ScriptModel, opening_of}
+use Rattle.session_script.specs.Postings.{postings, in_open}
+use Rattle.history_book.specs.State.{State, act_at, call_at, op_at, is_outstanding, is_running, with_op, with_act}
+use Rattle.history_book.specs.Calls.{accepted, operates}
+use Rattle.history_book.specs.Executions.{MayBegin, MayEnd, after_begin, after_end}
+use Rattle.history_book.specs.Rounds.{RoundIsOpen}
+use Rattle.history_book.specs.declared.phase.ActState.{ActState}
+use Rattle.history_book.specs.declared.phase.CallPhase.TheVariants as call
+use Rattle.history_book.specs.declared.phase.OpPhase.{OpPhase}
+use Rattle.history_book.specs.declared.phase.OpPhase.TheVariants as op
+use Rattle.std.proofs.lemmas.List.{length-map}
+use Rattle.session_run.specs.Progress.{RanTo, IsPostings}
+use Rattle.session_run.proofs.OpeningLemmas.{All-numbers, act_at-same, act_at-other}
+
+-- the round of postings is open once all calls are back
+pub round_open : (script : ScriptModel) (s : State) → IsPostings script → ((i : ℕ) → i < length script.acts → call_at s i ≡ call.Back) → s.closings ≡ 0 → RoundIsOpen script s
+round_open script s (acts, same) back closings =
+    subst (λ (w : ScriptModel). ((i : ℕ) → i < length w.acts → call_at s i ≡ call.Back) → RoundIsOpen w s) (sym same)
+    (λ b. record { opened = All-numbers (λ n. call_at s n ≡ call.Back) 0 acts (λ j from below. b j (omega (arith, below, length-map acts in_open))); left = omega (arith, closings) }) back
+
+-- an operation is ready once it was accepted
+pub accepted_ready : (script : ScriptModel) (o : ℕ) → operates script o ≡ true → accepted script o ≡ op.Ready code.Ok 0
+accepted_ready script o is = rw is refl
+
+-- one operation was changed, and the others stay
+pub op_at-same : (s : State) (n : ℕ) (new : OpPhase) → n < length s.acts → op_at (with_op s n new) n ≡ new
+op_at-same s n new below = ap (λ act. act.op) (act_at-same s n (record (act_at s n) { op = new }) below)
+
+pub op_at-other : (s : State) (n : ℕ) (new : OpPhase) (j : ℕ) → j ≢ n → op_at (with_op s n new) j ≡ op_at s j
+op_at-other s n new j other = ap (λ act. act.op) (act_at-other s n (record (act_at s n) { op = new }) j other)
+
+-- a number is this one, or another
+pub same_or_other : (j n : ℕ) → (j ≡ n) ⊎ (j ≢ n)
+same_or_other j n = elim (eqb_tells j n) [ inl same ↦ inl same.1 | inr other ↦ inr other.1 ]
+
+-- no call changes
+pub call_at-with_op : (s : State) (n : ℕ) (new : OpPhase) (j : ℕ) → n < length s.acts → call_at (with_op s n new) j ≡ call_at s j
+call_at-with_op s n new j below = by_place (same_or_other j n)
+  where
+    by_place : (j ≡ n) ⊎ (j ≢ n) → call_at (with_op s n new) j ≡ call_at s j
+    by_place (inl same) = rw same (ap (λ act. act.call) (act_at-same s n (record (act_at s n) { op = new }) below))
+    by_place (inr other) = ap (λ act. act.call) (act_at-other s n (record (act_at s n) { op = new }) j other)
+
+-- the next ready posting may begin
+pub may_begin_next : (script : ScriptModel) (s : State) (o : ℕ) → IsPostings script → RanTo script s o → o < length script.acts → operates script o ≡ true → MayBegin script s o code.Ok 0
+may_begin_next script s o postings ran below is =
+    record { round = round_open script s postings ran.back ran.closings; ready = ran.ready o (omega arith) below ∙ accepted_ready script o is; allowed = ran.allowed }
+
+-- the operations so far have run, and this one
+pub executed : (script : ScriptModel) (s : State) (o : ℕ) → RanTo script s o → o < length script.acts → RanTo script (after_end (after_begin s o code.Ok) o) (o + 1)
+executed script s o ran below =
+    record {
+      size = simp length-set ran.size;
+      back = λ i inside. call_at-with_op t o op.Ended i (simp length-set within) ∙ (call_at-with_op s o running i within ∙ ran.back i inside);
+      ended = λ i before. ended_at i (eq-or-lt_of_le (omega arith));
+      ready = λ i after inside. others i (λ same. absurd (omega (arith, after, same))) ∙ ran.ready i (omega arith) inside;
+      going = ran.going;
+      allowed = ran.allowed;
+      closings = ran.closings;
+    }
+  where
+    running : OpPhase
+    running = op.Running class.Ok
+    t : State
+    t = after_begin s o code.Ok
+    within : o < length s.acts
+    within = omega (arith, below, ran.size)
+    others : (i : ℕ) → i ≢ o → op_at (after_end t o) i ≡ op_at s i
+    others i other = op_at-other t o op.Ended i other ∙ op_at-other s o running i other
+    ended_at : (i : ℕ) → (i ≡ o) ⊎ (i < o) → is_outstanding (op_at (after_end t o) i) ≡ false
+    ended_at i (inl same) = rw same (ap is_outstanding (op_at-same t o op.Ended (simp length-set within)))
+    ended_at i (inr before) = ap is_outstanding (others i (λ same. absurd (omega (arith, before, same)))) ∙ ran.ended i before
