@@ -11,13 +11,13 @@ use Rattle.session_script.specs.Postings.{postings, in_open}
 use Rattle.history_book.specs.State.{State, act_at, call_at, op_at, is_outstanding, is_running, with_op, with_act}
 use Rattle.history_book.specs.Calls.{accepted, operates}
 use Rattle.history_book.specs.Executions.{MayBegin, MayEnd, after_begin, after_end}
-use Rattle.history_book.specs.Rounds.{RoundIsOpen}
+use Rattle.history_book.specs.Rounds.{RoundIsOpen, MayDrop, after_drop}
 use Rattle.history_book.specs.declared.phase.ActState.{ActState}
 use Rattle.history_book.specs.declared.phase.CallPhase.TheVariants as call
 use Rattle.history_book.specs.declared.phase.OpPhase.{OpPhase}
 use Rattle.history_book.specs.declared.phase.OpPhase.TheVariants as op
 use Rattle.std.proofs.lemmas.List.{length-map}
-use Rattle.session_run.specs.Progress.{RanTo, IsPostings}
+use Rattle.session_run.specs.Progress.{RanTo, SpentTo, IsPostings}
 use Rattle.session_run.proofs.OpeningLemmas.{All-numbers, act_at-same, act_at-other}
 
 -- the round of postings is open once all calls are back
@@ -69,12 +69,64 @@ executed script s o ran below =
   where
     running : OpPhase
     running = op.Running class.Ok
+
     t : State
     t = after_begin s o code.Ok
+
     within : o < length s.acts
     within = omega (arith, below, ran.size)
+
     others : (i : ℕ) → i ≢ o → op_at (after_end t o) i ≡ op_at s i
     others i other = op_at-other t o op.Ended i other ∙ op_at-other s o running i other
+
     ended_at : (i : ℕ) → (i ≡ o) ⊎ (i < o) → is_outstanding (op_at (after_end t o) i) ≡ false
     ended_at i (inl same) = rw same (ap is_outstanding (op_at-same t o op.Ended (simp length-set within)))
     ended_at i (inr before) = ap is_outstanding (others i (λ same. absurd (omega (arith, before, same)))) ∙ ran.ended i before
+
+-- an act that is no operation was not accepted
+not_accepted : (script : ScriptModel) (o : ℕ) → operates script o ≡ false → accepted script o ≡ op.Absent
+not_accepted script o isnt = rw isnt refl
+
+-- an act without a handler is passed
+pub passed : (script : ScriptModel) (s : State) (o : ℕ) → RanTo script s o → o < length script.acts → operates script o ≡ false → RanTo script s (o + 1)
+passed script s o ran below isnt =
+    record {
+      size = ran.size;
+      back = ran.back;
+      ended = λ i before. ended_at i (eq-or-lt_of_le (omega arith));
+      ready = λ i after. ran.ready i (omega arith);
+      going = ran.going;
+      allowed = ran.allowed;
+      closings = ran.closings;
+    }
+  where
+    ended_at : (i : ℕ) → (i ≡ o) ⊎ (i < o) → is_outstanding (op_at s i) ≡ false
+    ended_at i (inl same) = rw same (ap is_outstanding (ran.ready o (omega arith) below ∙ not_accepted script o isnt))
+    ended_at i (inr before) = ran.ended i before
+
+-- the next operation that never ran may be destroyed
+pub may_drop_next : (script : ScriptModel) (s : State) (o : ℕ) → SpentTo script s o → o < length script.acts → operates script o ≡ true → MayDrop script s o
+may_drop_next script s o spent below is =
+    record { over = spent.over; left = ap is_outstanding (spent.left o (omega arith) below ∙ accepted_ready script o is); least = spent.spent }
+
+-- the operations so far were spent, and this one
+pub destroyed : (script : ScriptModel) (s : State) (o : ℕ) → SpentTo script s o → o < length script.acts → SpentTo script (after_drop s o) (o + 1)
+destroyed script s o spent below =
+    record {
+      size = simp length-set spent.size;
+      over = spent.over;
+      spent = λ i before. spent_at i (eq-or-lt_of_le (omega arith));
+      left = λ i after inside. op_at-other s o op.Dropped i (λ same. absurd (omega (arith, after, same))) ∙ spent.left i (omega arith) inside;
+    }
+  where
+    spent_at : (i : ℕ) → (i ≡ o) ⊎ (i < o) → is_outstanding (op_at (after_drop s o) i) ≡ false
+    spent_at i (inl same) = rw same (ap is_outstanding (op_at-same s o op.Dropped (omega (arith, below, spent.size))))
+    spent_at i (inr before) = ap is_outstanding (op_at-other s o op.Dropped i (λ same. absurd (omega (arith, before, same)))) ∙ spent.spent i before
+
+pub passed_over : (script : ScriptModel) (s : State) (o : ℕ) → SpentTo script s o → o < length script.acts → operates script o ≡ false → SpentTo script s (o + 1)
+passed_over script s o spent below isnt =
+    record { size = spent.size; over = spent.over; spent = λ i before. spent_at i (eq-or-lt_of_le (omega arith)); left = λ i after. spent.left i (omega arith) }
+  where
+    spent_at : (i : ℕ) → (i ≡ o) ⊎ (i < o) → is_outstanding (op_at s i) ≡ false
+    spent_at i (inl same) = rw same (ap is_outstanding (spent.left o (omega arith) below ∙ not_accepted script o isnt))
+    spent_at i (inr before) = spent.spent i before

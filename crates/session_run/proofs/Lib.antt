@@ -1,3 +1,4 @@
 pub mod EventLemmas
 pub mod OpeningLemmas
 pub mod ExecutionLemmas
+pub mod RackLemmas

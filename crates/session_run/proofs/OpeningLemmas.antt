@@ -72,9 +72,11 @@ opened_more script s k u opened size here others going allowed closings =
   where
     eq_or_lt : (i : ℕ) → i < k + 1 → (i ≡ k) ⊎ (i < k)
     eq_or_lt i before = eq-or-lt_of_le (omega arith)
+
     back_at : (i : ℕ) → (i ≡ k) ⊎ (i < k) → act_at u i ≡ record { call = call.Back; op = accepted script i }
     back_at i (inl same) = rw same here
     back_at i (inr before) = others i (λ same. absurd (omega (arith, before, same))) ∙ opened.back i before
+
     going_at : u.stopped ≡ false → (i : ℕ) → (i ≡ k) ⊎ (i < k) → stops script i ≡ false
     going_at running i (inl same) = rw same ((going running).1)
     going_at running i (inr before) = opened.going ((going running).0) i before
@@ -103,8 +105,8 @@ stopped script s k opened below stop =
     let inside : k < length s.acts = omega (arith, below, opened.size) in
     opened_more script s k (after_return script v k) opened (simp length-set)
     (act_at-same v k (record (act_at v k) { call = call.Back }) (simp length-set inside)
-        ∙ ap (λ (act : ActState). record act { call = call.Back }) (act_at-same t k (record (act_at t k) { call = call.Stopping }) (simp length-set inside) ∙ ap (λ (act : ActState). record act { call = call.Stopping }) (act_at-same s k (record { call = call.Open; op = accepted script k }) inside)))
+    ∙ ap (λ (act : ActState). record act { call = call.Back }) (act_at-same t k (record (act_at t k) { call = call.Stopping }) (simp length-set inside) ∙ ap (λ (act : ActState). record act { call = call.Stopping }) (act_at-same s k (record { call = call.Open; op = accepted script k }) inside)))
     (λ j other.
-        act_at-other v k (record (act_at v k) { call = call.Back }) j other
-        ∙ (act_at-other t k (record (act_at t k) { call = call.Stopping }) j other ∙ act_at-other s k (record { call = call.Open; op = accepted script k }) j other))
+    act_at-other v k (record (act_at v k) { call = call.Back }) j other
+    ∙ (act_at-other t k (record (act_at t k) { call = call.Stopping }) j other ∙ act_at-other s k (record { call = call.Open; op = accepted script k }) j other))
     (λ running. absurd (cc running)) (rw stop refl) refl

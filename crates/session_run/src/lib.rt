@@ -2,6 +2,8 @@
 //! written to a sink. Each status is answered exactly with its cause. The program stands on it.
 #![tactic(auto)]
 
+mod acts;
+mod destruction;
 mod execution;
 mod note;
 mod opening;

@@ -4,18 +4,11 @@ ghost use Rattle.history_book.specs.Legal.{IsLegalSoFar, state_of};
 ghost use Rattle.history_book.specs.Marks.{HasMarks};
 ghost use Rattle.session_run.specs.Progress.{IsPostings, OpenedTo};
 
+use crate::acts::stops;
 use crate::note::note;
 use asio_types::{ActNo, Event};
 use history_book::History;
-use session_script::{Act, Script};
-
-/// Whether an act stops the context.
-fn stops(script: &Script, a: ActNo) -> bool
-    requires { a < length script.now.acts }
-    ensures { result ≡ stops script.now a }
-{
-    matches!(script.act(a), Act::Stop)
-}
+use session_script::Script;
 
 /// The call of a posting in `open`: it is ready at once, and the call returns.
 fn post(script: &Script, history: &mut History, a: ActNo)

@@ -1,0 +1,15 @@
+use Rattle.std.proofs.Common.{arith, ap, ◌∙◌}
+use Rattle.std.specs.Prelude.{IsSome}
+use Rattle.session_run.specs.RackMarks.{run_mark, drop_mark, mark_by}
+use Rattle.session_run.proofs.execution.run.Goals as goal
+
+pub loop-o-preserved : goal.loop-o-preserved
+loop-o-preserved g c =
+    record {
+      legal = c.execute_act.ensures.legal;
+      ran = c.execute_act.ensures.one_more;
+      marks = c.execute_act.ensures.marks (run_mark g.H.CompletionHandler.marks c.args.rack.now) (drop_mark g.H.CompletionHandler.marks c.args.rack.now) c.loop-o.invariant.marks (ap (mark_by (λ m. m.run) g.H.CompletionHandler.marks) (c.loop-o.invariant.rest c.loop-o.o (omega arith)));
+      spare = omega arith;
+      size = c.execute_act.ensures.size ∙ c.loop-o.invariant.size;
+      rest = λ i after. c.execute_act.ensures.others i (omega arith) ∙ c.loop-o.invariant.rest i (omega arith);
+    }
