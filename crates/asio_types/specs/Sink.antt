@@ -1,5 +1,6 @@
 -- What a write does to the bytes that a sink holds, where it tells them (compare AsyncWriteStream's write_some).
 use Rattle.asio_types.specs.Faults.{Plan}
+use Rattle.std.specs.Io.{StartsWith}
 use Rattle.std.specs.Prelude.{◌≡◌, ℕ, List, ◌++◌, Option, Some, None, ⊤, ◌==◌, if◌then◌else◌}
 
 -- what is told after a write was told before it, and grew by these bytes; a sink may stop telling
@@ -7,6 +8,10 @@ abbrev pub Extends : Option (List ℕ) → List ℕ → Option (List ℕ) → Ty
 Extends before bytes None = ⊤
 Extends None bytes (Some after) = ⊥
 Extends (Some before) bytes (Some after) = after ≡ before ++ bytes
+
+-- what is told grew by a first part of these bytes
+abbrev pub ExtendsByPart : Option (List ℕ) → List ℕ → Option (List ℕ) → Type 0
+ExtendsByPart before bytes after = (piece : List ℕ) × StartsWith bytes piece × Extends before piece after
 
 -- bytes in reserved memory, and the room that is left
 pub record Holding : Type 0 where

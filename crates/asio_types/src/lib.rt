@@ -24,6 +24,7 @@ mod sure_source;
 mod text_sink;
 mod text_source;
 mod unread;
+mod whole_write;
 mod world;
 
 pub use bytes::Bytes;
@@ -44,6 +45,7 @@ pub use sure_sink::SureSink;
 pub use sure_source::SureSource;
 pub use text_sink::TextSink;
 pub use text_source::TextSource;
+pub use whole_write::write_all;
 pub use world::{Line, Lines, What, World};
 
 #[cfg(test)]

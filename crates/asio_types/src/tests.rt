@@ -124,3 +124,16 @@ fn sinks_take_bytes_and_fail_as_told(rt: HostRuntime) -> Result<(), Refused> {
     assert_eq!(rt; held.as_slice(), b"ababab".as_slice());
     Ok(())
 }
+
+#[test]
+fn all_bytes_are_written_or_the_first_ones(rt: HostRuntime) -> Result<(), Refused> {
+    let alloc = rt.alloc();
+    let mut slow = SlowSink::make(alloc, 2, 7)?;
+    assert_eq!(rt; write_all(&mut slow, b"abcde"), Ok(()));
+    assert_eq!(rt; write_all(&mut slow, b""), Ok(()));
+    assert_eq!(rt; write_all(&mut slow, b"fgh"), Err(Failed));
+    assert_eq!(rt; slow.bytes(), b"abcdefg".as_slice());
+    let mut std = StdSink::of(Vec::new(alloc));
+    assert_eq!(rt; write_all(&mut std, b"abc"), Ok(()));
+    Ok(())
+}
