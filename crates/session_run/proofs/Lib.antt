@@ -2,3 +2,4 @@ pub mod EventLemmas
 pub mod OpeningLemmas
 pub mod ExecutionLemmas
 pub mod RackLemmas
+pub mod ClosingLemmas

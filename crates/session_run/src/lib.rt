@@ -7,3 +7,4 @@ mod destruction;
 mod execution;
 mod note;
 mod opening;
+mod session;
