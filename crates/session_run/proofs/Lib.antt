@@ -3,3 +3,4 @@ pub mod OpeningLemmas
 pub mod ExecutionLemmas
 pub mod RackLemmas
 pub mod ClosingLemmas
+pub mod TextLemmas

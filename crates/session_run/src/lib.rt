@@ -8,3 +8,4 @@ mod execution;
 mod note;
 mod opening;
 mod session;
+mod text;
