@@ -6,3 +6,4 @@ pub mod Marks
 pub mod Replay
 pub mod Rounds
 pub mod State
+pub mod Trace

@@ -4,9 +4,12 @@
 #![tactic(auto)]
 
 mod history;
+mod line;
 mod phase;
 mod replay;
+mod trace;
 
 pub use history::History;
 pub use phase::{ActState, CallPhase, OpPhase};
 pub use replay::Replay;
+pub use trace::write_trace;
