@@ -4,3 +4,5 @@ pub mod ExecutionLemmas
 pub mod RackLemmas
 pub mod ClosingLemmas
 pub mod TextLemmas
+pub mod WordLemmas
+pub mod AnswerLemmas

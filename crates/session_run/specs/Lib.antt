@@ -1,3 +1,5 @@
+pub mod Answer
 pub mod Progress
 pub mod RackMarks
+pub mod Status
 pub mod Text

@@ -1,5 +1,5 @@
 -- The marks that the handlers of a rack have.
-use Rattle.std.specs.Prelude.{◌≡◌, ◌≤◌, ◌<◌, ℕ, Option, Some, None, length, List, All, IsSome, IsNone}
+use Rattle.std.specs.Prelude.{◌≡◌, ℕ, Option, Some, None, length}
 use Rattle.op_handlers.specs.Marks.{Marks}
 use Rattle.op_handlers.specs.Rack.{handler_at, handlers_in}
 use Rattle.op_handlers.specs.declared.rack.Rack.{Rack}
@@ -17,12 +17,7 @@ run_mark marks rack n = mark_by (λ m. m.run) marks (handler_at rack n)
 abbrev pub drop_mark : {H : Type 0} → (H → Marks) → Rack H → ℕ → ℕ
 drop_mark marks rack n = mark_by (λ m. m.drop) marks (handler_at rack n)
 
--- the handlers from number k on are as they were
-pub record TakenBelow {H : Type 0} (k : ℕ) (old new : Rack H) : Type 0 where
-  pub size : length (handlers_in new) ≡ length (handlers_in old)
-  pub rest : (i : ℕ) → k ≤ i → handler_at new i ≡ handler_at old i
-
--- each handler was taken, and the numbers stay
+-- no handler is left, and the numbers stay
 pub record AllTaken {H : Type 0} (old new : Rack H) : Type 0 where
   pub size : length (handlers_in new) ≡ length (handlers_in old)
-  pub none : All IsNone (handlers_in new)
+  pub none : (n : ℕ) → handler_at new n ≡ None

@@ -7,5 +7,11 @@ mod destruction;
 mod execution;
 mod note;
 mod opening;
+mod rest;
 mod session;
+mod status;
 mod text;
+mod top;
+
+pub use status::Status;
+pub use top::asio_session;

@@ -1,0 +1,104 @@
+-- What each status says of a session.
+use Rattle.std.specs.Prelude.{◌≡◌, ◌≤◌, ◌<◌, ◌+◌, ◌^◌, ◌⊎◌, ℕ, true, List, [], ◌∷◌, codes, Option}
+use Rattle.asio_types.specs.Faults.{Rose}
+use Rattle.asio_types.specs.Sink.{Extends, ExtendsByPart}
+use Rattle.asio_types.specs.declared.event.Event.{Event}
+use Rattle.session_script.specs.Script.{ScriptModel}
+use Rattle.session_script.specs.Postings.{IsScript}
+use Rattle.history_book.specs.Legal.{IsLegal}
+use Rattle.history_book.specs.Marks.{HasMarks}
+use Rattle.history_book.specs.Trace.{trace_of}
+use Rattle.op_handlers.specs.Marks.{Marks}
+use Rattle.op_handlers.specs.declared.rack.Rack.{Rack}
+use Rattle.session_run.specs.RackMarks.{AllTaken, drop_mark, run_mark}
+use Rattle.session_run.specs.Status.{note_of}
+use Rattle.session_run.specs.Text.{ReadsText}
+use Rattle.session_run.specs.declared.status.Status.{Status}
+use Rattle.session_run.specs.declared.status.Status.TheVariants as status
+
+-- What a session was given and what it left: its words, the bytes that its source has left and that its out holds,
+-- where they tell them, and how often each had failed.
+pub record Seen : Type 0 where
+  pub words : List (List ℕ)
+  pub left_before : Option (List ℕ)
+  pub left_after : Option (List ℕ)
+  pub read_faults_before : ℕ
+  pub read_faults_after : ℕ
+  pub written_before : Option (List ℕ)
+  pub written_after : Option (List ℕ)
+  pub write_faults_before : ℕ
+  pub write_faults_after : ℕ
+
+-- the one form of the command
+abbrev pub IsRun : List (List ℕ) → Type 0
+IsRun words = words ≡ codes "run" ∷ []
+
+-- The history of a script: it is legal and whole, shows the marks of the handlers, and all of them were spent.
+pub record RunsTo {H : Type 0} (marks : H → Marks) (script : ScriptModel) (old new : Rack H) (events : List Event) : Type 0 where
+  pub legal : IsLegal script true events
+  pub marked : HasMarks (run_mark marks old) (drop_mark marks old) events
+  pub spent : AllTaken old new
+
+-- the script was run to a history of which this holds
+abbrev pub RunsScript : {H : Type 0} → (H → Marks) → ScriptModel → Rack H → Rack H → (List Event → Type 0) → Type 0
+RunsScript marks script old new P = (events : List Event) × RunsTo marks script old new events × P events
+
+-- a script was read, and run to a history of which this holds
+pub record Ran {H : Type 0} (marks : H → Marks) (seen : Seen) (old new : Rack H) (P : List Event → Type 0) : Type 0 where
+  pub form : IsRun seen.words
+  pub text : List ℕ
+  pub read : ReadsText seen.left_before text seen.left_after
+  pub script : ScriptModel
+  pub is : IsScript text script
+  pub run : RunsScript marks script old new P
+
+-- the whole trace of such a history was written
+abbrev pub IsDone : {H : Type 0} → (H → Marks) → Seen → Rack H → Rack H → Type 0
+IsDone marks seen old new = Ran marks seen old new (λ events. Extends seen.written_before (trace_of events) seen.written_after)
+
+-- the first part of the trace of such a history was written, and out failed
+abbrev pub IsCutOff : {H : Type 0} → (H → Marks) → Seen → Rack H → Rack H → Type 0
+IsCutOff marks seen old new =
+    Ran marks seen old new (λ events. ExtendsByPart seen.written_before (trace_of events) seen.written_after)
+    × Rose seen.write_faults_before seen.write_faults_after
+
+-- what was read is a text of no script
+pub record IsNoScript (seen : Seen) : Type 0 where
+  pub form : IsRun seen.words
+  pub text : List ℕ
+  pub read : ReadsText seen.left_before text seen.left_after
+  pub none : (script : ScriptModel) → IsScript text script → ⊥
+
+-- reading failed
+pub record IsUnread (seen : Seen) : Type 0 where
+  pub form : IsRun seen.words
+  pub failed : Rose seen.read_faults_before seen.read_faults_after
+
+-- what each status says
+abbrev pub Answers : {H : Type 0} → (H → Marks) → Seen → Rack H → Rack H → Status → Type 0
+Answers marks seen old new status.Done = IsDone marks seen old new
+Answers marks seen old new status.Usage = IsRun seen.words → ⊥
+Answers marks seen old new status.Refused = IsNoScript seen
+Answers marks seen old new status.ReadFault = IsUnread seen
+Answers marks seen old new status.WriteFault = IsCutOff marks seen old new
+Answers marks seen old new status.ReactorFault = ⊥
+Answers marks seen old new status.NoMemory = IsRun seen.words
+
+-- the statuses with which nothing was run and nothing written
+abbrev pub LeavesAll : Status → Type 0
+LeavesAll status.Done = ⊥
+LeavesAll status.Usage = Unit {0}
+LeavesAll status.Refused = Unit {0}
+LeavesAll status.ReadFault = Unit {0}
+LeavesAll status.WriteFault = ⊥
+LeavesAll status.ReactorFault = ⊥
+LeavesAll status.NoMemory = Unit {0}
+
+-- a count that did not rise in a call, and could have
+abbrev pub Stood : ℕ → ℕ → Type 0
+Stood before after = (before + 1 < 2 ^ 64) × (after ≤ before)
+
+-- the notes got the whole note, or its first part where they failed
+abbrev pub IsNoted : Option (List ℕ) → ℕ → Status → Option (List ℕ) → ℕ → Type 0
+IsNoted before faults_before answer after faults_after =
+    Extends before (note_of answer) after ⊎ (ExtendsByPart before (note_of answer) after × Rose faults_before faults_after)

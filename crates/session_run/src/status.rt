@@ -1,0 +1,45 @@
+ghost use Rattle.std.specs.Prelude.{◌≡◌};
+ghost use Rattle.session_run.specs.Status.{number_of, note_of};
+
+/// How a session ended: the program's exit status.
+#[derive(Clone, Copy, Debug, PartialEq, Eq)]
+pub enum Status {
+    /// The script was read to its end, run to its end, and the whole trace was written.
+    Done,
+    /// The words are no form of the command.
+    Usage,
+    /// What was read is no script.
+    Refused,
+    /// Reading failed.
+    ReadFault,
+    /// Writing failed; the first part of the trace was written.
+    WriteFault,
+    /// The reactor failed; the trace was written whole and shows it.
+    ReactorFault,
+    /// Memory was asked for and not given.
+    NoMemory,
+}
+
+impl Status {
+    /// The exit status, from 0 to 6.
+    pub fn number(self) -> u8
+        ensures { result ≡ number_of self }
+    {
+        self as u8
+    }
+
+    /// The line that is written to the notes; none for a session that is done.
+    pub fn note(self) -> &'static [u8]
+        ensures { result.now ≡ note_of self }
+    {
+        match self {
+            Status::Done => b"",
+            Status::Usage => b"asio_run: usage: asio_run run\n",
+            Status::Refused => b"asio_run: refused 10 at line 0 token 0\n",
+            Status::ReadFault => b"asio_run: read fault\n",
+            Status::WriteFault => b"asio_run: write fault\n",
+            Status::ReactorFault => b"asio_run: reactor fault\n",
+            Status::NoMemory => b"asio_run: no memory\n",
+        }
+    }
+}
