@@ -1,4 +1,3 @@
+pub mod Entry
 pub mod Heap
-pub mod Order
 pub mod Queue
-pub mod Timers

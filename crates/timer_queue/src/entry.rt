@@ -1,5 +1,5 @@
 ghost use Rattle.std.specs.Prelude.{◌≡◌, ◌+◌};
-ghost use Rattle.timer_queue.specs.Order.{is_before};
+ghost use Rattle.timer_queue.specs.Entry.{is_before};
 
 use crate::steps::Steps;
 use asio_types::OpNo;

@@ -9,6 +9,8 @@ mod heap;
 mod places;
 mod queue;
 mod steps;
+#[cfg(test)]
+mod tests;
 
 pub use entry::Entry;
 pub use queue::TimerQueue;
