@@ -30,10 +30,8 @@ impl CancelSlots {
     pub fn with_room(alloc: Global, slots: u8) -> Result<CancelSlots, NoMemory>
         ensures { IfOk result (λ made. made ≡ replicate slots None) }
     {
-        match vec![in alloc; None; slots as usize] {
-            Ok(slots) => Ok(CancelSlots { slots }),
-            Err(_) => Err(NoMemory),
-        }
+        let slots = vec![in alloc; None; slots as usize]?;
+        Ok(CancelSlots { slots })
     }
 
     /// Connects an operation to a slot, where it replaces what was there: from now on an emit on that slot reaches this

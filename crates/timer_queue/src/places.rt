@@ -22,10 +22,8 @@ impl Places {
     pub(crate) fn with_room(alloc: Global, room: u32) -> Result<Places, NoMemory>
         ensures { IfOk result (λ made. made ≡ room) }
     {
-        match vec![in alloc; 0; room as usize] {
-            Ok(last) => Ok(Places { last }),
-            Err(_) => Err(NoMemory),
-        }
+        let last = vec![in alloc; 0; room as usize]?;
+        Ok(Places { last })
     }
 
     pub(crate) fn note(&mut self, op: OpNo, at: usize)
