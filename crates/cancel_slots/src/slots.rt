@@ -1,7 +1,7 @@
 ghost use Rattle.std.specs.Prelude.{◌≡◌, ◌≢◌, ℕ, ◌<◌, ◌↔◌, length, replicate, slice_set, IfOk, IsTrue, IsSomeAnd, bit_and};
 ghost use Rattle.std.specs.Bool.{OnTrue, OnFalse};
 ghost use Rattle.std.specs.Option.{option_map};
-ghost use Rattle.cancel_slots.specs.Slots.{connection_of, chosen_by};
+ghost use Rattle.cancel_slots.specs.Slots.{connection_of, chosen_by, IsSameBut};
 
 use crate::connection::Connection;
 use asio_types::{NoMemory, OpNo, SlotNo, Types};
@@ -40,7 +40,7 @@ impl CancelSlots {
     pub fn connect(&mut self, slot: SlotNo, op: OpNo, supported: Types)
         requires { slot < length self.old }
         ensures slots { self.new ≡ slice_set self.old slot (Some (record { op = op; supported = supported })) }
-        ensures others { (other : ℕ) → other ≢ slot → connection_of self.new other ≡ connection_of self.old other }
+        ensures others { IsSameBut slot self.old self.new }
     {
         self.slots[slot as usize] = Some(Connection { op, supported });
     }
@@ -52,7 +52,7 @@ impl CancelSlots {
         ensures there { IsTrue result ↔ IsSomeAnd (connection_of self.old slot) (λ there. there.op ≡ op) }
         ensures cleared { OnTrue result (self.new ≡ slice_set self.old slot None) }
         ensures unchanged { OnFalse result (self.new ≡ self.old) }
-        ensures others { (other : ℕ) → other ≢ slot → connection_of self.new other ≡ connection_of self.old other }
+        ensures others { IsSameBut slot self.old self.new }
     {
         if self.connected(slot) == Some(op) {
             self.slots[slot as usize] = None;
@@ -76,7 +76,9 @@ impl CancelSlots {
         requires { slot < length self.now }
         ensures value { result ≡ chosen_by (connection_of self.now slot) types }
         // an operation is chosen exactly where it is connected and supports a type that is emitted
-        ensures exactly { (op : ℕ) → (result ≡ Some op) ↔ IsSomeAnd (connection_of self.now slot) (λ there. (there.op ≡ op) × (bit_and there.supported types ≢ 0)) }
+        ensures exactly { (op : ℕ) →
+            (result ≡ Some op) ↔ IsSomeAnd (connection_of self.now slot)
+            (λ there. (there.op ≡ op) × (bit_and there.supported types ≢ 0)) }
     {
         let there = self.slots[slot as usize]?;
         if there.supported.meets(types) {
