@@ -1,0 +1,6 @@
+pub mod EditLemmas
+pub mod EntryLemmas
+pub mod HeapLemmas
+pub mod LevelLemmas
+pub mod OrderLemmas
+pub mod QueueLemmas

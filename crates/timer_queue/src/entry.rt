@@ -1,0 +1,29 @@
+ghost use Rattle.std.specs.Prelude.{◌≡◌, ◌+◌};
+ghost use Rattle.timer_queue.specs.Entry.{is_before};
+
+use crate::steps::Steps;
+use asio_types::OpNo;
+use std::sync::ledger::Ledger;
+
+/// A pending wait (Asio reference, `steady_timer::async_wait`).
+#[derive(Clone, Copy, Debug, PartialEq, Eq)]
+pub struct Entry {
+    /// When it is due.
+    pub expiry: u64,
+    /// Its place in the order of acceptance. No two entries of a queue share one.
+    pub serial: u32,
+    /// The operation that waits. No two entries of a queue share one.
+    pub op: OpNo,
+}
+
+impl Entry {
+    /// Whether this entry comes before another: by expiry, and at one expiry by acceptance. It is the only comparison of
+    /// entries, and one step.
+    pub(crate) fn precedes<L: Ledger>(&self, other: &Entry, steps: &mut Steps<L>) -> bool
+        ensures value { result ≡ is_before self.now other.now }
+        ensures counted { steps.new ≡ steps.old + 1 }
+    {
+        steps.tick();
+        self.expiry < other.expiry || (self.expiry == other.expiry && self.serial < other.serial)
+    }
+}
