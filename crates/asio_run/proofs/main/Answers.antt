@@ -1,0 +1,34 @@
+use Rattle.std.proofs.Common.{◌≡◌, ℕ, ◌+◌, ◌∙◌, ap, sym, refl, arith, length}
+use Rattle.op_handlers.specs.Handler.{marks_of}
+use Rattle.op_handlers.specs.Marks.{Marks}
+use Rattle.op_handlers.proofs.Boxed.{AnswersBy-boxed}
+use Rattle.op_handlers.proofs.Racked.{HaveMarks-push, All-HaveMarks}
+use Rattle.asio_run.proofs.main.OwnLists.{own-1, entry-1-1, at-1-1, same-1-1}
+use Rattle.asio_run.proofs.main.Goals as goal
+use Rattle.asio_run.proofs.main.Goals.{After-into_dyn_box}
+
+-- the marks of number n
+abbrev named : ℕ → Marks
+named n = record { run = 1000 + n; drop = 1000 + n }
+
+pub of-handler-requires : goal.of-handler-requires
+of-handler-requires c =
+    let job = c.in-Ok-boxed.job.value in
+    (record { run = job.0; drop = job.0 }, AnswersBy-boxed own-1 entry-1-1 at-1-1 same-1-1 _ c.into_dyn_box.ensures.1 (λ s. tt) (λ s r p. p.2) (λ s. (job, s, refl)))
+
+pub loop-n-preserved : goal.loop-n-preserved
+unfolding of-handler-requires
+loop-n-preserved c =
+    let known = of-handler-requires (goal.at.loop-n-preserved c).After-into_dyn_box in
+    let marked : marks_of c.of-handler.result ≡ known.0 = c.of-handler.ensures known.0 known.1 in
+    let mark : c.in-Ok-boxed.job.value.0 ≡ 1000 + c.loop-n.n = ap (λ job. job.0) c.in-Ok-boxed.ensures.ok in
+    let as_named : marks_of c.of-handler.result ≡ named (length c.loop-n.handlers.items) =
+    marked ∙ (λ i. record { run = mark i; drop = mark i }) ∙ ap named (sym c.loop-n.invariant.count) in
+    record {
+      room = omega arith;
+      count = omega arith;
+      marks = rw c.push_reserved.ensures.items (HaveMarks-push marks_of named c.loop-n.handlers.items c.of-handler.result c.loop-n.invariant.marks as_named);
+    }
+
+pub asio_session-status-requires-clause-whole : goal.asio_session-status-requires-clause-whole
+asio_session-status-requires-clause-whole c = rw c.of-rack.ensures (All-HaveMarks marks_of named c.loop-n.handlers.items c.loop-n.invariant.marks)
