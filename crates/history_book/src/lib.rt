@@ -12,4 +12,4 @@ mod trace;
 pub use history::History;
 pub use phase::{ActState, CallPhase, OpPhase};
 pub use replay::Replay;
-pub use trace::write_trace;
+pub use trace::{one_to_one, write_trace};

@@ -1,7 +1,8 @@
-ghost use Rattle.std.specs.Prelude.{◌≤◌, IfOk, OnErr};
+ghost use Rattle.std.specs.Prelude.{◌≡◌, ◌≤◌, List, IfOk, OnErr};
 ghost use Rattle.asio_types.specs.Faults.{Rose};
 ghost use Rattle.asio_types.specs.Sink.{Extends, ExtendsByPart};
-ghost use Rattle.history_book.specs.Trace.{trace_of};
+ghost use Rattle.history_book.specs.Trace.{AreEvents, trace_of};
+ghost use Rattle.asio_types.specs.declared.event.Event.{Event};
 
 use crate::history::History;
 use crate::line::Line;
@@ -21,3 +22,8 @@ pub fn write_trace<K: Sink>(history: &History, sink: &mut K) -> Result<(), Faile
     }
     Ok(())
 }
+
+/// A trace fixes its history: events with the same trace are the same events.
+pub fn one_to_one()
+    ensures { (first second : List Event) → AreEvents first → AreEvents second → trace_of first ≡ trace_of second → first ≡ second }
+{}

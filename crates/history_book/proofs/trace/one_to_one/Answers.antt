@@ -1,0 +1,5 @@
+use Rattle.history_book.proofs.Reading.{same_events}
+use Rattle.history_book.proofs.trace.one_to_one.Goals as goal
+
+pub returns : goal.returns
+returns c = same_events
