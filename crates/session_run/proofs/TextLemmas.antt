@@ -49,12 +49,14 @@ filled_more (Some before) len n buf ys now after filled next lose inside size bo
   where
     whole : List ℕ
     whole = put_mid len (length buf - len) buf ys
+
     front : take (len + n) whole ≡ take len buf ++ take n ys
     front =
         sym (take_take (len + n) (len + length ys) whole (omega (arith, bound)))
         ∙ ap (take (len + n)) (take-put_mid len (length buf - len) buf ys (len + length ys) refl inside)
         ∙ ap (λ k. take (k + n) (take len buf ++ ys)) (sym (length-take-le len buf inside))
         ∙ take-append-add (take len buf) ys n
+
     text : take n ys ≡ take n (drop len before) → take (len + n) whole ≡ take (len + n) before
     text same = front ∙ ap (λ zs. zs ++ take n ys) filled.1 ∙ ap (λ zs. take len before ++ zs) same ∙ sym (take-add len n before)
 
@@ -66,11 +68,13 @@ full (Some before) len buf now same filled = (filled.1 ∙ ap (λ k. take k befo
 -- the source is at its end
 pub at_end : (told : Option (List ℕ)) (len : ℕ) (buf ys : List ℕ) (now after : Option (List ℕ)) → IsFilled told len buf now → GivesNext now 0 ys → LosesFirst now 0 after → len ≤ length buf → len ≤ most_read → ReadsText told (take len (put_mid len (length buf - len) buf ys)) after
 at_end None len buf ys now after filled next lose inside few = tt
-at_end (Some before) len buf ys now after filled next lose inside few =
-    (take-put_mid_below len (length buf - len) buf ys len (omega arith) inside ∙ filled.1 ∙ take_all len before short ∙ sym (take_all most_read before (omega (arith, short, few))),
-    lost now after (drop len before) 0 filled.2 lose ∙ ap Some (nothing ∙ sym (drop_of_length-le before {i = most_read} (omega (arith, short, few)))))
+at_end (Some before) len buf ys now after filled next lose inside few = (
+  take-put_mid_below len (length buf - len) buf ys len (omega arith) inside ∙ filled.1 ∙ take_all len before short ∙ sym (take_all most_read before (omega (arith, short, few))),
+  lost now after (drop len before) 0 filled.2 lose ∙ ap Some (nothing ∙ sym (drop_of_length-le before {i = most_read} (omega (arith, short, few)))),
+)
   where
     nothing : drop len before ≡ []
     nothing = (is_next now (drop len before) 0 ys filled.2 next).end.0 refl
+
     short : length before ≤ len
     short = omega (arith, simp length-drop at (ap length nothing))

@@ -10,6 +10,8 @@ mod opening;
 mod rest;
 mod session;
 mod status;
+#[cfg(test)]
+mod tests;
 mod text;
 mod top;
 

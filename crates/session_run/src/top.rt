@@ -22,6 +22,7 @@ use std::alloc::Global;
 
 /// Room for the events of a history: at most so many for each act, and for ticks, rounds and faults.
 const EVENTS_PER_ACT: u32 = 7;
+
 const FURTHER_EVENTS: u32 = 1154;
 
 /// Whether this is the word `run`.
@@ -81,11 +82,16 @@ fn session<S: Source, K: Sink, H: CompletionHandler>(
     requires whole { IsWholeRack rack.old }
     requires count { length (handlers_in rack.old) ≡ 4096 }
     ensures answer { Answers H.marks (record {
-        words = map string_bytes words.now;
-        left_before = S.left source.old; left_after = S.left source.new;
-        read_faults_before = S.faults source.old; read_faults_after = S.faults source.new;
-        written_before = K.written out.old; written_after = K.written out.new;
-        write_faults_before = K.faults out.old; write_faults_after = K.faults out.new }) rack.old rack.new result }
+      words = map string_bytes words.now;
+      left_before = S.left source.old;
+      left_after = S.left source.new;
+      read_faults_before = S.faults source.old;
+      read_faults_after = S.faults source.new;
+      written_before = K.written out.old;
+      written_after = K.written out.new;
+      write_faults_before = K.faults out.old;
+      write_faults_after = K.faults out.new;
+    }) rack.old rack.new result }
     ensures quiet { LeavesAll result → out.new ≡ out.old }
     ensures kept { LeavesAll result → handlers_in rack.new ≡ handlers_in rack.old }
     ensures unread { result ≡ status.Usage → source.new ≡ source.old }
@@ -125,11 +131,16 @@ pub fn asio_session<S: Source, K: Sink, N: Sink, H: CompletionHandler>(
     requires whole { IsWholeRack rack.old }
     requires count { length (handlers_in rack.old) ≡ 4096 }
     ensures answer { Answers H.marks (record {
-        words = map string_bytes words.now;
-        left_before = S.left source.old; left_after = S.left source.new;
-        read_faults_before = S.faults source.old; read_faults_after = S.faults source.new;
-        written_before = K.written out.old; written_after = K.written out.new;
-        write_faults_before = K.faults out.old; write_faults_after = K.faults out.new }) rack.old rack.new result }
+      words = map string_bytes words.now;
+      left_before = S.left source.old;
+      left_after = S.left source.new;
+      read_faults_before = S.faults source.old;
+      read_faults_after = S.faults source.new;
+      written_before = K.written out.old;
+      written_after = K.written out.new;
+      write_faults_before = K.faults out.old;
+      write_faults_after = K.faults out.new;
+    }) rack.old rack.new result }
     // With these statuses nothing was run and nothing written.
     ensures quiet { LeavesAll result → out.new ≡ out.old }
     ensures kept { LeavesAll result → handlers_in rack.new ≡ handlers_in rack.old }
