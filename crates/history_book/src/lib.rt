@@ -13,3 +13,6 @@ pub use history::History;
 pub use phase::{ActState, CallPhase, OpPhase};
 pub use replay::Replay;
 pub use trace::{one_to_one, write_trace};
+
+#[cfg(test)]
+mod tests;

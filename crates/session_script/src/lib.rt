@@ -15,3 +15,6 @@ pub use reader::read_script;
 pub use refusal::{Refusal, Rule, ScriptFault};
 pub use round::{Pace, Round};
 pub use script::Script;
+
+#[cfg(test)]
+mod tests;
