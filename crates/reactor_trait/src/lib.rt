@@ -4,5 +4,7 @@
 #![tactic(auto)]
 
 mod reactor;
+#[cfg(test)]
+mod tests;
 
 pub use reactor::Reactor;
