@@ -4,7 +4,9 @@
 #![tactic(auto)]
 
 mod reactor;
+mod schedule;
 #[cfg(test)]
 mod tests;
 
 pub use reactor::Reactor;
+pub use schedule::Schedule;

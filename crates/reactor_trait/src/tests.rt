@@ -1,10 +1,9 @@
 //! The trait can be met by a reactor that tells no bytes.
 
-ghost use Rattle.std.specs.Prelude.{◌≡◌, ◌<◌, map, min, None, IfOk, replicate, false};
-ghost use Rattle.std.specs.Option.{option_map_or};
-ghost use Rattle.asio_types.specs.World.{next_point, rising_after, HasItsStreams};
+ghost use Rattle.std.specs.Prelude.{◌≡◌, ◌<◌, None, IfOk, replicate, false};
+ghost use Rattle.asio_types.specs.World.{HasItsStreams, times_after};
 
-use crate::Reactor;
+use crate::{Reactor, Schedule};
 use asio_types::{Bytes, Failed, Line, Lines, Moved, Point, SetupFault, StreamNo, What, World};
 use std::alloc::{AllocError, Global};
 use std::test::Fail;
@@ -13,16 +12,9 @@ use std::test::Fail;
 #[derive(Drop)]
 struct Silence {
     up: bool,
-    now: u64,
-    times: Vec<u64>,
+    schedule: Schedule,
     closed: Vec<bool>,
     last: bool,
-}
-
-fn times_of(alloc: Global, lines: &[Line]) -> Result<Vec<u64>, AllocError>
-    ensures { IfOk result (λ times. times.items ≡ map (λ line. line.time) lines.now) }
-{
-    lines.iter().map(|line| line.time).collect(alloc)
 }
 
 fn all_open(alloc: Global, streams: u8) -> Result<Vec<bool>, AllocError>
@@ -31,51 +23,30 @@ fn all_open(alloc: Global, streams: u8) -> Result<Vec<bool>, AllocError>
     vec![in alloc; false; streams as usize]
 }
 
-/// The earlier of a time and of what was the earliest so far.
-fn earlier(time: u64, best: Option<u64>) -> u64
-    ensures { result ≡ option_map_or (λ other. min time other) best time }
-{
-    best.map_or(time, |other| time.min(other))
-}
-
-fn point_after(limit: Option<u64>, times: &[u64], now: u64) -> Point
-    ensures { result ≡ next_point limit (rising_after now times.now) }
-{
-    let mut best = limit;
-    for time in times {
-        if *time > now {
-            best = Some(earlier(*time, best));
-        }
-    }
-    match best {
-        Some(time) => Point::Time(time),
-        None => Point::Last,
-    }
-}
-
 impl Reactor for Silence {
     ghost faults = { λ s. 0 };
 
-    ghost state = { λ s. record { up = s.up; now = s.now; times = rising_after s.now s.times.items; closed = s.closed.items; last = s.last } };
+    ghost state = { λ s. record { up = s.up; now = s.schedule.time; times = times_after s.schedule.time s.schedule.lines; closed = s.closed.items; last = s.last } };
 
     ghost told = { λ s. None };
 
     fn set_up(&mut self, alloc: Global, world: &World) -> Result<(), SetupFault> {
         self.up = false;
-        let times = times_of(alloc, world.lines.as_slice()).map_err(|_| SetupFault::NoMemory)?;
+        let schedule = Schedule::of(alloc, world.lines.as_slice()).map_err(
+            |_| SetupFault::NoMemory,
+        )?;
         let closed = all_open(alloc, world.streams).map_err(|_| SetupFault::NoMemory)?;
         self.up = true;
-        self.now = 0;
-        self.times = times;
+        self.schedule = schedule;
         self.closed = closed;
         self.last = false;
         Ok(())
     }
 
     fn advance(&mut self, limit: Option<u64>) -> Result<Point, Failed> {
-        let point = point_after(limit, self.times.as_slice(), self.now);
+        let point = self.schedule.advance(limit);
         match point {
-            Point::Time(time) => self.now = time,
+            Point::Time(_) => {}
             Point::Last => self.last = true,
         }
         Ok(point)
@@ -134,8 +105,7 @@ fn silence_meets_the_trait(rt: HostRuntime) -> Result<(), Fail> {
     };
     let mut silence = Silence {
         up: false,
-        now: 0,
-        times: Vec::new(alloc),
+        schedule: Schedule::empty(alloc),
         closed: Vec::new(alloc),
         last: false,
     };

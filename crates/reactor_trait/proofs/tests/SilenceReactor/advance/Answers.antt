@@ -1,13 +1,8 @@
-use Rattle.std.proofs.Common.{◌≡◌, arith}
-use Rattle.asio_types.specs.declared.outside.Point.TheVariants as point
-use Rattle.asio_types.specs.World.{next_point, rising_after}
-use Rattle.asio_types.proofs.WorldLemmas.{next_point-later, rising_after-later}
+use Rattle.reactor_trait.proofs.ReactorLemmas.{state_at-moved}
 use Rattle.reactor_trait.proofs.tests.SilenceReactor.advance.Goals as goal
 
 pub returns-in-Time-clause-moves : goal.returns-in-Time-clause-moves
 returns-in-Time-clause-moves c =
     let s = c.args.self.now in
-    let is : next_point c.args.limit (rising_after s.now s.times.items) ≡ point.Time c.in-Time.time = cc in
-    let later = next_point-later c.args.limit s.now c.in-Time.time s.times.items c.requires.later is in
-    let times = rising_after-later s.now c.in-Time.time s.times.items (omega arith) in
-    cc
+    let to = c.advance-point in
+    state_at-moved s.up s.last s.closed.items c.args.limit s.schedule.time to.new.self.time c.in-Time.field-0 s.schedule.lines to.new.self.lines to.result c.requires.later c.in-Time.is to.ensures.answer to.ensures.time to.ensures.lines
