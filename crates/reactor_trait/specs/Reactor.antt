@@ -15,6 +15,7 @@ use Rattle.asio_types.specs.declared.outside.SetupFault.{SetupFault}
 use Rattle.asio_types.specs.declared.outside.SetupFault.TheVariants as setup_fault
 use Rattle.asio_types.specs.declared.world.Line.{Line}
 use Rattle.asio_types.specs.declared.world.World.{World}
+use Rattle.asio_types.specs.Faults.{Rose}
 use Rattle.asio_types.specs.Stream.{Stream, closed_stream}
 use Rattle.asio_types.specs.World.{changed_at, perform_lines, lines_at, lines_after, times_after, first_streams, streams_at_last}
 
@@ -128,9 +129,9 @@ outside_closed stream = with_stream stream closed_stream
 -- a failure raises the count of faults, and every other answer leaves it
 abbrev pub CountsFaults : {T : Type 0} → Result T Failed → ℕ → ℕ → Type 0
 CountsFaults (Ok value) old new = new ≡ old
-CountsFaults (Err failed) old new = old < new
+CountsFaults (Err failed) old new = Rose old new
 
 abbrev pub CountsSetupFaults : {T : Type 0} → Result T SetupFault → ℕ → ℕ → Type 0
 CountsSetupFaults (Ok value) old new = new ≡ old
-CountsSetupFaults (Err setup_fault.Failed) old new = old < new
+CountsSetupFaults (Err setup_fault.Failed) old new = Rose old new
 CountsSetupFaults (Err setup_fault.NoMemory) old new = new ≡ old

@@ -5,7 +5,7 @@
 
 mod reactor;
 mod schedule;
-#[cfg(test)]
+//cfg
 mod tests;
 
 pub use reactor::Reactor;

@@ -15,10 +15,13 @@ use std::alloc::Global;
 /// count never falls. A reactor may also tell its bytes: for each stream what arrived and wasn't given, the room, the marks
 /// and what was sent, and the lines to come. A reactor that tells them goes on telling them.
 pub trait Reactor: Drop {
+    /// How often it has failed.
     ghost faults: { Self → ℕ };
 
+    /// What every reactor tells.
     ghost state: { Self → ReactorState };
 
+    /// Its bytes, where it tells them.
     ghost told: { Self → Option Outside };
 
     /// Makes every stream of the world new and open, makes the time 0 and performs the lines of time 0. After a refusal
@@ -30,21 +33,23 @@ pub trait Reactor: Drop {
         ensures told_ready { OnOk result
             (told self.new ≡ option_map (λ _. first_outside world.now) (told self.old)) }
         ensures told_refused { OnErr result (told self.new ≡ told self.old) }
-        ensures counts { CountsSetupFaults result (faults self.old) (faults self.new) };
+        ensures counts { CountsSetupFaults result (faults self.old) (faults self.new) }
+        ensures later { faults self.old ≤ faults self.new };
 
     /// Moves the time to the least of the limit and of the times to come, and performs the lines of that time in text
     /// order. Answers `Last` where there is neither; each side of a stream that has no mark then gets its own: end of file
     /// for reading, a broken pipe for writing. After a failure all is as before.
     fn advance(&mut self, limit: Option<u64>) -> Result<Point, Failed>
         requires up { IsTrue (state self.old).up }
-        requires later { ForSome limit (λ time. (state self.old).now < time) }
+        requires ahead { ForSome limit (λ time. (state self.old).now < time) }
         ensures answer { IfOk result (λ point. point ≡ next_point limit (state self.old).times) }
         ensures moves { IfOk result (λ point. state self.new ≡ state_at point (state self.old)) }
         ensures told_moves { IfOk result
             (λ point. told self.new ≡ option_map (outside_at point) (told self.old)) }
         ensures failed { OnErr result (state self.new ≡ state self.old) }
         ensures told_failed { OnErr result (told self.new ≡ told self.old) }
-        ensures counts { CountsFaults result (faults self.old) (faults self.new) };
+        ensures counts { CountsFaults result (faults self.old) (faults self.new) }
+        ensures later { faults self.old ≤ faults self.new };
 
     /// Gives bytes that arrived on a stream (Asio reference, `async_read_some`): the next ones, at least one and at most
     /// the buffer's length; behind them the buffer stays as it was. Where none is there, the answer is `End` at end of
@@ -68,7 +73,8 @@ pub trait Reactor: Drop {
         ensures told_gives { IfOk result (λ moved.
             told self.new ≡ option_map (with_stream stream (after_read (moved_count moved))) (told self.old)) }
         ensures told_failed { OnErr result (told self.new ≡ told self.old) }
-        ensures counts { CountsFaults result (faults self.old) (faults self.new) };
+        ensures counts { CountsFaults result (faults self.old) (faults self.new) }
+        ensures later { faults self.old ≤ faults self.new };
 
     /// Takes bytes for the peer of a stream (Asio reference, `async_write_some`): the first ones, at least one, and at most
     /// as many as there is room for. Where there is no room, the answer is `End` for a broken pipe, `Reset` where the peer
@@ -87,7 +93,8 @@ pub trait Reactor: Drop {
         ensures told_takes { IfOk result (λ moved.
             told self.new ≡ option_map (with_stream stream (after_write (take (moved_count moved) bytes.now))) (told self.old)) }
         ensures told_failed { OnErr result (told self.new ≡ told self.old) }
-        ensures counts { CountsFaults result (faults self.old) (faults self.new) };
+        ensures counts { CountsFaults result (faults self.old) (faults self.new) }
+        ensures later { faults self.old ≤ faults self.new };
 
     /// Closes a stream (Asio reference, `basic_stream_socket::close`): its bytes there and its room are dropped, and what
     /// was sent stays.
