@@ -1,7 +1,8 @@
 //! The trait can be met by a reactor that tells no bytes.
 
 ghost use Rattle.std.specs.Prelude.{◌≡◌, ◌<◌, None, IfOk, replicate, false};
-ghost use Rattle.asio_types.specs.World.{HasItsStreams, times_after};
+ghost use Rattle.asio_types.specs.World.{HasItsStreams};
+ghost use Rattle.reactor_trait.specs.Timetable.{state_over};
 
 use crate::{Reactor, Schedule};
 use asio_types::{Bytes, Failed, Line, Lines, Moved, Point, SetupFault, StreamNo, What, World};
@@ -26,7 +27,7 @@ fn all_open(alloc: Global, streams: u8) -> Result<Vec<bool>, AllocError>
 impl Reactor for Silence {
     ghost faults = { λ s. 0 };
 
-    ghost state = { λ s. record { up = s.up; now = s.schedule.time; times = times_after s.schedule.time s.schedule.lines; closed = s.closed.items; last = s.last } };
+    ghost state = { λ s. state_over s.up s.closed.items s.last s.schedule };
 
     ghost told = { λ s. None };
 

@@ -5,4 +5,4 @@ pub returns-in-Time-clause-moves : goal.returns-in-Time-clause-moves
 returns-in-Time-clause-moves c =
     let s = c.args.self.now in
     let to = c.advance-point in
-    state_at-moved s.up s.last s.closed.items c.args.limit s.schedule.time to.new.self.time c.in-Time.field-0 s.schedule.lines to.new.self.lines to.result c.requires.ahead c.in-Time.is to.ensures.answer to.ensures.time to.ensures.lines
+    state_at-moved s.up s.last s.closed.items c.args.limit c.in-Time.field-0 s.schedule to.new.self to.result c.requires.ahead c.in-Time.is to.ensures.answer to.ensures.time to.ensures.lines
