@@ -1,5 +1,5 @@
 -- Which calls of a scripted reactor fail.
-use Rattle.std.specs.Prelude.{◌≡◌, ℕ, ◌+◌, ◌==◌, List, [], ◌∷◌, Contains, if◌then◌else◌}
+use Rattle.std.specs.Prelude.{◌≡◌, ℕ, ◌+◌, ◌==◌, List, Contains, filter, map}
 use Rattle.asio_types.specs.Faults.{Plan, next_call, one_more}
 use Rattle.reactor_script.specs.declared.method.FailAt.{FailAt}
 use Rattle.reactor_script.specs.declared.method.Method.{Method}
@@ -13,9 +13,8 @@ method_number method.WriteSome = 3
 
 -- the numbers of the calls of a method that are to fail
 abbrev pub calls_of : ℕ → List FailAt → List ℕ
-calls_of number [] = []
-calls_of number (fail ∷ fails) =
-    if method_number fail.method == number then fail.nth ∷ calls_of number fails else calls_of number fails
+calls_of number fails =
+    map (λ (fail : FailAt). fail.nth) (filter (λ fail. method_number fail.method == number) fails)
 
 -- for each method that can fail which of its calls do, how many there were, and how many failed
 pub record Plans : Type 0 where

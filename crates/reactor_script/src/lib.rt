@@ -6,6 +6,7 @@
 mod inbound;
 mod method;
 mod outbound;
+mod pipe;
 mod plans;
 
 pub use method::{FailAt, Method};
