@@ -47,6 +47,11 @@ pub record UsesRoom (lines : List Line) (old new : List Pipe) : Type 0 where
   pub bytes : (stream : ℕ) (pipe : Pipe) → stream < length old → (slice_index_or new stream pipe).inbound.left + fed_to stream lines ≡ (slice_index_or old stream pipe).inbound.left
   pub room : (stream : ℕ) (pipe : Pipe) → stream < length old → (slice_index_or new stream pipe).outbound.left + room_to stream lines ≡ (slice_index_or old stream pipe).outbound.left
 
+-- the memory that is reserved for what is to come stayed
+pub record KeepsRoom (old new : List Pipe) : Type 0 where
+  pub bytes : (stream : ℕ) (pipe : Pipe) → stream < length old → (slice_index_or new stream pipe).inbound.left ≡ (slice_index_or old stream pipe).inbound.left
+  pub room : (stream : ℕ) (pipe : Pipe) → stream < length old → (slice_index_or new stream pipe).outbound.left ≡ (slice_index_or old stream pipe).outbound.left
+
 abbrev pub IsMarked : Pipe → Type 0
 IsMarked pipe = IsSome pipe.inbound.mark × IsSome pipe.outbound.mark
 

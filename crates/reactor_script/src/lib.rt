@@ -8,5 +8,6 @@ mod method;
 mod outbound;
 mod pipe;
 mod plans;
+mod stage;
 
 pub use method::{FailAt, Method};
