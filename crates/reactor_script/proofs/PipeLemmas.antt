@@ -6,6 +6,7 @@ use Rattle.std.proofs.lemmas.Bool.{cases_eq, cases_lt}
 use Rattle.std.proofs.lemmas.Bool.Decides.{nat_tests}
 use Rattle.std.proofs.lemmas.List.{map-set, get_or-map, get_or-set_same, get_or-set_other, take_more, length-map, map-append, get_or_push, replicate_more, length-append}
 use Rattle.std.proofs.lemmas.List.Sums.{fold_more}
+use Rattle.std.proofs.lemmas.List.Elements.{All-set}
 use Rattle.std.proofs.lemmas.List.Edits.{map_over_more}
 use Rattle.std.proofs.lemmas.Option.{slice_get_within, slice_get-get_or, get_or_from_slice_get}
 use Rattle.asio_types.specs.declared.world.Line.{Line}
@@ -95,15 +96,15 @@ uses-more due k line old pipes any after e b bytes room uses =
     let there = sym (get_or_from_slice_get due k line line e) in
     record {
       bytes = λ d pipe c.
-        let more = fed_to-more d due k line within there in
-        let used = uses.bytes d pipe c in
-        let at = at-set pipes line.stream after (λ p. p.inbound.left) d any pipe (fed line.what) b bytes in
-        elim (cases_eq d line.stream) [ inl same ↦ let now = at.0 same in grind (arith, nat_tests) | inr other ↦ let now = at.1 other in grind (arith, nat_tests) ];
+          let more = fed_to-more d due k line within there in
+          let used = uses.bytes d pipe c in
+          let at = at-set pipes line.stream after (λ p. p.inbound.left) d any pipe (fed line.what) b bytes in
+          elim (cases_eq d line.stream) [ inl same ↦ let now = at.0 same in grind (arith, nat_tests) | inr other ↦ let now = at.1 other in grind (arith, nat_tests) ];
       room = λ d pipe c.
-        let more = room_to-more d due k line within there in
-        let used = uses.room d pipe c in
-        let at = at-set pipes line.stream after (λ p. p.outbound.left) d any pipe (roomed line.what) b room in
-        elim (cases_eq d line.stream) [ inl same ↦ let now = at.0 same in grind (arith, nat_tests) | inr other ↦ let now = at.1 other in grind (arith, nat_tests) ];
+          let more = room_to-more d due k line within there in
+          let used = uses.room d pipe c in
+          let at = at-set pipes line.stream after (λ p. p.outbound.left) d any pipe (roomed line.what) b room in
+          elim (cases_eq d line.stream) [ inl same ↦ let now = at.0 same in grind (arith, nat_tests) | inr other ↦ let now = at.1 other in grind (arith, nat_tests) ];
     }
 
 -- nothing is performed yet
@@ -130,19 +131,21 @@ mark-more pipes init k any new long b same so_far =
 pub keeps-more : (init pipes : List Pipe) (k : ℕ) (any new : Pipe) → k < length pipes → new.inbound.left ≡ (get_or pipes k any).inbound.left → new.outbound.left ≡ (get_or pipes k any).outbound.left → KeepsRoom init pipes → KeepsRoom init (set pipes k new)
 keeps-more init pipes k any new b bytes room keeps = record {
   bytes = λ d pipe c.
-    let kept = keeps.bytes d pipe c in
-    let at = at-set pipes k new (λ p. p.inbound.left) d any pipe 0 b (omega (arith, bytes)) in
-    elim (cases_eq d k) [ inl same ↦ omega (arith, at.0 same, kept) | inr other ↦ omega (arith, at.1 other, kept) ];
+      let kept = keeps.bytes d pipe c in
+      let at = at-set pipes k new (λ p. p.inbound.left) d any pipe 0 b (omega (arith, bytes)) in
+      elim (cases_eq d k) [ inl same ↦ omega (arith, at.0 same, kept) | inr other ↦ omega (arith, at.1 other, kept) ];
   room = λ d pipe c.
-    let kept = keeps.room d pipe c in
-    let at = at-set pipes k new (λ p. p.outbound.left) d any pipe 0 b (omega (arith, room)) in
-    elim (cases_eq d k) [ inl same ↦ omega (arith, at.0 same, kept) | inr other ↦ omega (arith, at.1 other, kept) ];
+      let kept = keeps.room d pipe c in
+      let at = at-set pipes k new (λ p. p.outbound.left) d any pipe 0 b (omega (arith, room)) in
+      elim (cases_eq d k) [ inl same ↦ omega (arith, at.0 same, kept) | inr other ↦ omega (arith, at.1 other, kept) ];
 }
 
 pub marked-more : (pipes : List Pipe) (k : ℕ) (new : Pipe) → k < length pipes → IsMarked new → ((j : ℕ) (pipe : Pipe) → j < k → IsMarked (get_or pipes j pipe)) → (j : ℕ) (pipe : Pipe) → j < k + 1 → IsMarked (get_or (set pipes k new) j pipe)
 marked-more pipes k new b marked so_far j pipe c =
-    elim (cases_eq j k) [ inl same ↦ subst IsMarked (sym (ap (λ i. get_or (set pipes k new) i pipe) same ∙ get_or-set_same pipes k new pipe b)) marked
-    | inr other ↦ subst IsMarked (sym (get_or-set_other pipes k j new pipe other)) (so_far j pipe (omega arith)) ]
+    elim (cases_eq j k) [
+      | inl same ↦ subst IsMarked (sym (ap (λ i. get_or (set pipes k new) i pipe) same ∙ get_or-set_same pipes k new pipe b)) marked
+      | inr other ↦ subst IsMarked (sym (get_or-set_other pipes k j new pipe other)) (so_far j pipe (omega arith))
+    ]
 
 before-push : {X : Type 0} (xs : List X) (y d : X) (k : ℕ) → k < length xs → get_or (xs ++ y ∷ []) k d ≡ get_or xs k d
 before-push [] y d k b = absurd (omega arith)
@@ -151,10 +154,17 @@ before-push (x ∷ xs) y d (suc k) b = before-push xs y d k (omega arith)
 
 left-push : (f : Pipe → ℕ) (g : ℕ → ℕ) (pipes : List Pipe) (new : Pipe) (n : ℕ) → length pipes ≡ n → ((d : ℕ) (pipe : Pipe) → d < length pipes → f (get_or pipes d pipe) ≡ g d) → f new ≡ g n → (d : ℕ) (pipe : Pipe) → d < length (pipes ++ new ∷ []) → f (get_or (pipes ++ new ∷ []) d pipe) ≡ g d
 left-push f g pipes new n long so_far is d pipe b =
-    elim (cases_lt d (length pipes)) [ inl early ↦ ap f (before-push pipes new pipe d early) ∙ so_far d pipe early
-    | inr late ↦ let last : d ≡ n = omega (arith, length-append pipes (new ∷ [])) in rw last (ap f (get_or_push pipes new pipe n long) ∙ is) ]
+    elim (cases_lt d (length pipes)) [
+      | inl early ↦ ap f (before-push pipes new pipe d early) ∙ so_far d pipe early
+      | inr late ↦ let last : d ≡ n = omega (arith, length-append pipes (new ∷ [])) in rw last (ap f (get_or_push pipes new pipe n long) ∙ is)
+    ]
 
 -- one more new stream
 pub pipes-push : (pipes : List Pipe) (new : Pipe) (n : ℕ) (lines : List Line) → stream_of new ≡ new_stream → new.inbound.left ≡ fed_to n lines → new.outbound.left ≡ room_to n lines → (map stream_of pipes ≡ replicate n new_stream) × (length pipes ≡ n) × ((d : ℕ) (pipe : Pipe) → d < length pipes → (get_or pipes d pipe).inbound.left ≡ fed_to d lines) × ((d : ℕ) (pipe : Pipe) → d < length pipes → (get_or pipes d pipe).outbound.left ≡ room_to d lines) → (map stream_of (pipes ++ new ∷ []) ≡ replicate (n + 1) new_stream) × (length (pipes ++ new ∷ []) ≡ n + 1) × ((d : ℕ) (pipe : Pipe) → d < length (pipes ++ new ∷ []) → (get_or (pipes ++ new ∷ []) d pipe).inbound.left ≡ fed_to d lines) × ((d : ℕ) (pipe : Pipe) → d < length (pipes ++ new ∷ []) → (get_or (pipes ++ new ∷ []) d pipe).outbound.left ≡ room_to d lines)
 pipes-push pipes new n lines stream bytes room so_far =
     (map-append stream_of pipes (new ∷ []) ∙ rw (so_far.0, stream) (replicate_more n new_stream), omega (arith, length-append pipes (new ∷ []), so_far.1), left-push (λ p. p.inbound.left) (λ d. fed_to d lines) pipes new n so_far.1 so_far.2 bytes, left-push (λ p. p.outbound.left) (λ d. room_to d lines) pipes new n so_far.1 so_far.3 room)
+
+-- marks stay as a line is performed
+pub marked-set : (init pipes : List Pipe) (k : ℕ) (any new : Pipe) → k < length pipes → (IsMarked (get_or pipes k any) → IsMarked new) → (All IsMarked init → All IsMarked pipes) → All IsMarked init → All IsMarked (set pipes k new)
+marked-set init pipes k any new b marks so_far all =
+    All-set IsMarked pipes k new (marks (so_far all k any b)) (so_far all)

@@ -7,6 +7,7 @@ mod inbound;
 mod method;
 mod outbound;
 mod pipe;
+mod pipes;
 mod plans;
 mod stage;
 

@@ -33,6 +33,7 @@ impl Pipe {
         requires bytes { fed what.now ≤ self.old.inbound.left }
         requires room { roomed what.now ≤ self.old.outbound.left }
         ensures stream { stream_of self.new ≡ performed what.now (stream_of self.old) }
+        ensures marked { IsMarked self.old → IsMarked self.new }
         ensures bytes_left { self.new.inbound.left + fed what.now ≡ self.old.inbound.left }
         ensures room_left { self.new.outbound.left + roomed what.now ≡ self.old.outbound.left }
     {

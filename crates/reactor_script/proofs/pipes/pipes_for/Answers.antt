@@ -1,5 +1,5 @@
 use Rattle.reactor_script.proofs.PipeLemmas.{pipes-push}
-use Rattle.reactor_script.proofs.stage.pipes_for.Goals as goal
+use Rattle.reactor_script.proofs.pipes.pipes_for.Goals as goal
 
 pub loop-stream-preserved : goal.loop-stream-preserved
 loop-stream-preserved c =

@@ -1,6 +1,6 @@
 use Rattle.std.proofs.Common.{◌<◌, length, arith, rules}
 use Rattle.reactor_script.proofs.PipeLemmas.{mark-more, keeps-more, marked-more}
-use Rattle.reactor_script.proofs.stage.mark_last.Goals as goal
+use Rattle.reactor_script.proofs.pipes.mark_last.Goals as goal
 
 pub loop-pipe-preserved : goal.loop-pipe-preserved
 loop-pipe-preserved c =

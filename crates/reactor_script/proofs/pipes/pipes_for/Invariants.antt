@@ -3,7 +3,7 @@ use Rattle.std.specs.List.{slice_index_or}
 use Rattle.asio_types.specs.Stream.{new_stream}
 use Rattle.reactor_script.specs.declared.pipe.Pipe.{Pipe}
 use Rattle.reactor_script.specs.Pipes.{fed_to, room_to, stream_of}
-use Rattle.reactor_script.proofs.stage.pipes_for.Given as goal
+use Rattle.reactor_script.proofs.pipes.pipes_for.Given as goal
 
 abbrev pub invariant-loop-stream : goal.invariant-loop-stream
 invariant-loop-stream l =

@@ -1,8 +1,8 @@
 use Rattle.std.proofs.Common.{arith, rules}
 use Rattle.std.proofs.lemmas.Bool.Decides.{nat_tests}
 use Rattle.reactor_script.proofs.PipeLemmas.{fed_to-more}
-use Rattle.reactor_script.proofs.stage.bytes_to.Goals as goal
-use Rattle.reactor_script.proofs.stage.bytes_to.Goals.{then-line-stream+in_ok-more+in_ok-bytes, else-line-stream}
+use Rattle.reactor_script.proofs.pipes.bytes_to.Goals as goal
+use Rattle.reactor_script.proofs.pipes.bytes_to.Goals.{then-line-stream+in_ok-more+in_ok-bytes, else-line-stream}
 
 pub loop-line-preserved : goal.loop-line-preserved
 loop-line-preserved c =

@@ -2,7 +2,7 @@ use Rattle.std.proofs.Common.{◌≡◌, ◌++◌, ℕ, ◌<◌, take, drop, map
 use Rattle.asio_types.specs.Stream.{marked_last}
 use Rattle.reactor_script.specs.declared.pipe.Pipe.{Pipe}
 use Rattle.reactor_script.specs.Pipes.{stream_of, IsMarked, KeepsRoom}
-use Rattle.reactor_script.proofs.stage.mark_last.Given as goal
+use Rattle.reactor_script.proofs.pipes.mark_last.Given as goal
 
 abbrev pub invariant-loop-pipe : goal.invariant-loop-pipe
 invariant-loop-pipe l =

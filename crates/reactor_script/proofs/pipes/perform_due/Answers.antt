@@ -2,8 +2,8 @@ use Rattle.std.proofs.Common.{◌≡◌, ◌<◌, sym, ap, ◌∙◌, length, ma
 use Rattle.asio_types.specs.Stream.{performed}
 use Rattle.asio_types.specs.World.{lines_at, changed_at, perform_lines}
 use Rattle.reactor_script.specs.Pipes.{stream_of}
-use Rattle.reactor_script.proofs.PipeLemmas.{changed-set, perform-more, room-bytes, room-room, uses-more, uses-none, within-due}
-use Rattle.reactor_script.proofs.stage.perform_due.Goals as goal
+use Rattle.reactor_script.proofs.PipeLemmas.{changed-set, perform-more, room-bytes, room-room, uses-more, marked-set, within-due}
+use Rattle.reactor_script.proofs.pipes.perform_due.Goals as goal
 
 pub perform-requires-clause-bytes : goal.perform-requires-clause-bytes
 perform-requires-clause-bytes c =
@@ -28,4 +28,4 @@ loop-number-preserved c =
     let there : line.stream < length pipes = omega (arith, c.loop-number.auto.pipes) in
     let changed = changed-set (performed line.what) pipes line.stream c.index-pipes-line.result c.perform.new.self there c.perform.ensures.stream in
     let more = perform-more due c.loop-number.number line (map stream_of c.args.pipes.now) c.due_line-line.ensures in
-    (changed ∙ ap (changed_at line.stream (performed line.what)) c.loop-number.invariant.0 ∙ sym more, uses-more due c.loop-number.number line c.args.pipes.now pipes c.index-pipes-line.result c.perform.new.self c.due_line-line.ensures there c.perform.ensures.bytes_left c.perform.ensures.room_left c.loop-number.invariant.1)
+    (changed ∙ ap (changed_at line.stream (performed line.what)) c.loop-number.invariant.0 ∙ sym more, uses-more due c.loop-number.number line c.args.pipes.now pipes c.index-pipes-line.result c.perform.new.self c.due_line-line.ensures there c.perform.ensures.bytes_left c.perform.ensures.room_left c.loop-number.invariant.1, marked-set c.args.pipes.now pipes line.stream c.index-pipes-line.result c.perform.new.self there c.perform.ensures.marked c.loop-number.invariant.2)
