@@ -43,31 +43,31 @@ HasRoom-at time lines pipes has = record {
 pub HasRoom-after : (time : ℕ) (lines : List Line) (old new : List Pipe) → HasRoom lines old → UsesRoom (lines_at time lines) old new → length new ≡ length old → HasRoom (lines_after time lines) new
 HasRoom-after time lines old new has uses long = record {
   bytes = λ d pipe b.
-    let split = fed_to-split d time lines in
-    let c : d < length old = omega arith in
-    let had = has.bytes d pipe c in
-    let used = uses.bytes d pipe c in
-    omega arith;
+      let split = fed_to-split d time lines in
+      let c : d < length old = omega arith in
+      let had = has.bytes d pipe c in
+      let used = uses.bytes d pipe c in
+      omega arith;
   room = λ d pipe b.
-    let split = room_to-split d time lines in
-    let c : d < length old = omega arith in
-    let had = has.room d pipe c in
-    let used = uses.room d pipe c in
-    omega arith;
+      let split = room_to-split d time lines in
+      let c : d < length old = omega arith in
+      let had = has.room d pipe c in
+      let used = uses.room d pipe c in
+      omega arith;
 }
 
 HasRoom-keeps : (lines : List Line) (old new : List Pipe) → HasRoom lines old → KeepsRoom old new → length new ≡ length old → HasRoom lines new
 HasRoom-keeps lines old new has keeps long = record {
   bytes = λ d pipe b.
-    let c : d < length old = omega arith in
-    let had = has.bytes d pipe c in
-    let kept = keeps.bytes d pipe c in
-    omega arith;
+      let c : d < length old = omega arith in
+      let had = has.bytes d pipe c in
+      let kept = keeps.bytes d pipe c in
+      omega arith;
   room = λ d pipe b.
-    let c : d < length old = omega arith in
-    let had = has.room d pipe c in
-    let kept = keeps.room d pipe c in
-    omega arith;
+      let c : d < length old = omega arith in
+      let had = has.room d pipe c in
+      let kept = keeps.room d pipe c in
+      omega arith;
 }
 
 -- the lines that are due name streams that are there

@@ -9,6 +9,8 @@ mod outbound;
 mod pipe;
 mod pipes;
 mod plans;
+mod script_reactor;
 mod stage;
 
 pub use method::{FailAt, Method};
+pub use script_reactor::ScriptReactor;

@@ -1,4 +1,4 @@
-ghost use Rattle.std.specs.Prelude.{◌≡◌, ◌↔◌, ℕ, List, IfOk, IsTrue, MatchBool, take};
+ghost use Rattle.std.specs.Prelude.{◌≡◌, ◌≤◌, ◌↔◌, ℕ, List, IfOk, IsTrue, MatchBool, take};
 ghost use Rattle.asio_types.specs.Faults.{one_more};
 ghost use Rattle.reactor_script.specs.Plans.{calls_of, first_plan, first_plans, IsNamed, Counted};
 
@@ -47,6 +47,7 @@ impl FailPlans {
 pub(crate) fn strikes(plan: &mut FailPlan) -> bool
     ensures named { IsTrue result ↔ IsNamed plan.old }
     ensures counted { Counted plan.old plan.new }
+    ensures later { plan.old.faults ≤ plan.new.faults }
     ensures faults { MatchBool result (plan.new.faults ≡ one_more plan.old.faults) (plan.new.faults ≡ plan.old.faults) }
 {
     let fails = plan.next_fails();
