@@ -1,5 +1,5 @@
 -- What the streams of a scripted reactor and their reserved memory do as lines are performed.
-use Rattle.std.proofs.Common.{◌≡◌, ◌≢◌, ℕ, ◌+◌, ◌<◌, ◌≤◌, ◌==◌, Bool, true, false, cond, Some, List, [], ◌∷◌, ◌++◌, length, map, take, drop, get_or, set, replicate, zero, suc, inl, inr, subst, refl, sym, ap, ◌∙◌, arith, rules}
+use Rattle.std.proofs.Common.{◌≡◌, ℕ, ◌+◌, ◌<◌, ◌≤◌, ◌==◌, cond, Some, List, [], ◌∷◌, ◌++◌, length, map, take, drop, get_or, set, replicate, zero, suc, inl, inr, subst, refl, sym, ap, ◌∙◌, arith}
 use Rattle.std.specs.List.{slice_get, All}
 use Rattle.std.proofs.lemmas.Grind.{common_steps}
 use Rattle.std.proofs.lemmas.Bool.{cases_eq, cases_lt}
@@ -10,8 +10,8 @@ use Rattle.std.proofs.lemmas.List.Elements.{All-set}
 use Rattle.std.proofs.lemmas.List.Edits.{map_over_more}
 use Rattle.std.proofs.lemmas.Option.{slice_get_within, slice_get-get_or, get_or_from_slice_get}
 use Rattle.asio_types.specs.declared.world.Line.{Line}
-use Rattle.asio_types.specs.Stream.{Stream, new_stream, performed, marked_last}
-use Rattle.asio_types.specs.World.{stream_at, changed_at, perform_line, perform_lines}
+use Rattle.asio_types.specs.Stream.{Stream, new_stream, marked_last}
+use Rattle.asio_types.specs.World.{changed_at, perform_line, perform_lines}
 use Rattle.reactor_script.specs.declared.pipe.Pipe.{Pipe}
 use Rattle.reactor_script.specs.Pipes.{stream_of, fed, roomed, fed_to, room_to, HasRoom, UsesRoom, KeepsRoom, IsMarked}
 

@@ -1,8 +1,7 @@
 -- What a scripted world keeps as time moves and streams are used.
-use Rattle.std.proofs.Common.{◌≡◌, ◌≢◌, ℕ, ◌+◌, ◌<◌, ◌≤◌, ◌==◌, Bool, true, false, cond, Option, Some, None, IsTrue, IsSome, List, [], ◌∷◌, ◌++◌, length, map, take, drop, get_or, replicate, zero, suc, refl, sym, ap, ◌∙◌, subst, le_of_lt, arith, rules}
+use Rattle.std.proofs.Common.{◌≡◌, ◌≢◌, ℕ, ◌+◌, ◌<◌, ◌≤◌, ◌==◌, Bool, false, Option, Some, None, IsSome, List, [], ◌∷◌, ◌++◌, length, map, take, drop, get_or, replicate, zero, suc, sym, ap, ◌∙◌, le_of_lt, arith}
 use Rattle.std.specs.List.{All}
 use Rattle.std.specs.Option.{ForSome}
-use Rattle.std.proofs.lemmas.Grind.{common_steps}
 use Rattle.std.proofs.lemmas.Bool.Decides.{nat_tests}
 use Rattle.std.proofs.lemmas.List.{get_or-map, length-map, length-replicate, take_all, drop_all, append-nil}
 use Rattle.std.proofs.lemmas.List.Elements.{All-filter}
@@ -14,11 +13,10 @@ use Rattle.asio_types.specs.declared.outside.Moved.TheVariants as moved
 use Rattle.asio_types.specs.declared.outside.Point.{Point}
 use Rattle.asio_types.specs.declared.outside.Point.TheVariants as point
 use Rattle.asio_types.specs.declared.world.Line.{Line}
-use Rattle.asio_types.specs.declared.world.World.{World}
-use Rattle.asio_types.specs.Stream.{Stream, new_stream}
+use Rattle.asio_types.specs.Stream.{new_stream}
 use Rattle.asio_types.specs.World.{lines_at, lines_after, times_after, next_point, stream_at, perform_lines}
 use Rattle.asio_types.proofs.WorldLemmas.{lines_at-later, lines_after-later, next_point-later}
-use Rattle.reactor_trait.specs.Reactor.{Outside, moved_of, by_read_mark, by_write_mark, read_answer, write_answer, outside_at}
+use Rattle.reactor_trait.specs.Reactor.{moved_of, by_read_mark, by_write_mark, read_answer, write_answer, outside_at}
 use Rattle.reactor_trait.specs.Timetable.{Timetable}
 use Rattle.reactor_script.specs.declared.pipe.Pipe.{Pipe}
 use Rattle.reactor_script.specs.Pipes.{stream_of, fed_to, room_to, HasRoom, UsesRoom, KeepsRoom, IsMarked, IsPlaying}

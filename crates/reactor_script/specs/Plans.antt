@@ -1,6 +1,6 @@
 -- Which calls of a scripted reactor fail.
 use Rattle.std.specs.Prelude.{◌≡◌, ℕ, ◌+◌, ◌==◌, List, Contains, filter, map}
-use Rattle.asio_types.specs.Faults.{Plan, next_call, one_more}
+use Rattle.asio_types.specs.Faults.{Plan, next_call}
 use Rattle.reactor_script.specs.declared.method.FailAt.{FailAt}
 use Rattle.reactor_script.specs.declared.method.Method.{Method}
 use Rattle.reactor_script.specs.declared.method.Method.TheVariants as method

@@ -1,5 +1,5 @@
 -- What a scripted reactor is seen as.
-use Rattle.std.specs.Prelude.{◌≡◌, ℕ, List, [], Bool, true, false, map}
+use Rattle.std.specs.Prelude.{List, [], false, map}
 use Rattle.asio_types.specs.World.{lines_after}
 use Rattle.reactor_trait.specs.Reactor.{ReactorState, Outside}
 use Rattle.reactor_trait.specs.Timetable.{Timetable}

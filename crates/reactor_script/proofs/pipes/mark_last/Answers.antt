@@ -1,4 +1,4 @@
-use Rattle.std.proofs.Common.{◌<◌, length, arith, rules}
+use Rattle.std.proofs.Common.{◌<◌, length, arith}
 use Rattle.reactor_script.proofs.PipeLemmas.{mark-more, keeps-more, marked-more}
 use Rattle.reactor_script.proofs.pipes.mark_last.Goals as goal
 

@@ -1,6 +1,6 @@
-use Rattle.std.proofs.Common.{◌≡◌, ◌<◌, sym, ap, ◌∙◌, length, map, take, rules, arith}
+use Rattle.std.proofs.Common.{◌<◌, sym, ap, ◌∙◌, length, map, arith}
 use Rattle.asio_types.specs.Stream.{performed}
-use Rattle.asio_types.specs.World.{lines_at, changed_at, perform_lines}
+use Rattle.asio_types.specs.World.{lines_at, changed_at}
 use Rattle.reactor_script.specs.Pipes.{stream_of}
 use Rattle.reactor_script.proofs.PipeLemmas.{changed-set, perform-more, room-bytes, room-room, uses-more, marked-set, within-due}
 use Rattle.reactor_script.proofs.pipes.perform_due.Goals as goal

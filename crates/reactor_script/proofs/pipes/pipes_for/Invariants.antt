@@ -1,4 +1,4 @@
-use Rattle.std.proofs.Common.{◌≡◌, ℕ, ◌<◌, length, map, replicate, vec_len}
+use Rattle.std.proofs.Common.{◌≡◌, ℕ, ◌<◌, length, map, replicate}
 use Rattle.std.specs.List.{slice_index_or}
 use Rattle.asio_types.specs.Stream.{new_stream}
 use Rattle.reactor_script.specs.declared.pipe.Pipe.{Pipe}

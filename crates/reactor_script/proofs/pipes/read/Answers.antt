@@ -1,6 +1,4 @@
-use Rattle.std.proofs.Common.{take}
-use Rattle.asio_types.specs.Stream.{closed_stream}
-use Rattle.reactor_trait.specs.Reactor.{after_read, after_write, moved_count}
+use Rattle.reactor_trait.specs.Reactor.{after_read, moved_count}
 use Rattle.reactor_script.proofs.PipeLemmas.{changed-set}
 use Rattle.reactor_script.proofs.pipes.read.Goals as goal
 

@@ -1,4 +1,4 @@
-use Rattle.std.proofs.Common.{arith, rules}
+use Rattle.std.proofs.Common.{arith}
 use Rattle.std.proofs.lemmas.Bool.Decides.{nat_tests}
 use Rattle.reactor_script.proofs.PipeLemmas.{room_to-more}
 use Rattle.reactor_script.proofs.pipes.room_to.Goals as goal

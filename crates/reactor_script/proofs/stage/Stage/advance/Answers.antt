@@ -1,5 +1,4 @@
-use Rattle.std.proofs.Common.{◌≡◌, ◌++◌, length, take, drop, sym, ◌∙◌, ap, rules, arith}
-use Rattle.asio_types.specs.World.{lines_at}
+use Rattle.std.proofs.Common.{length, arith}
 use Rattle.reactor_trait.proofs.ReactorLemmas.{state_at-moved}
 use Rattle.reactor_script.proofs.PlayingLemmas.{within-at, HasRoom-due, written, IsPlaying-moved, outside-moved, moves-forward}
 use Rattle.reactor_script.proofs.stage.Stage.advance.Goals as goal

@@ -1,4 +1,4 @@
-use Rattle.std.proofs.Common.{◌≡◌, length, sym, ◌∙◌, rules, arith}
+use Rattle.std.proofs.Common.{◌∙◌, arith}
 use Rattle.reactor_script.proofs.PlayingLemmas.{within-first, HasRoom-at, written, IsPlaying-first}
 use Rattle.reactor_script.proofs.stage.Stage.set.Goals as goal
 

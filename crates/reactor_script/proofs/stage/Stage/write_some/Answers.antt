@@ -1,4 +1,4 @@
-use Rattle.std.proofs.Common.{length, rules, arith}
+use Rattle.std.proofs.Common.{length, arith}
 use Rattle.reactor_script.proofs.PlayingLemmas.{write-at_last}
 use Rattle.reactor_script.proofs.stage.Stage.write_some.Goals as goal
 
