@@ -11,6 +11,8 @@ mod pipes;
 mod plans;
 mod script_reactor;
 mod stage;
+#[cfg(test)]
+mod tests;
 
 pub use method::{FailAt, Method};
 pub use script_reactor::ScriptReactor;
