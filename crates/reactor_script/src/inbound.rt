@@ -70,9 +70,7 @@ impl Inbound {
         ensures mark { self.new.mark ≡ first_mark self.old.mark mark }
         ensures left { self.new.left ≡ self.old.left }
     {
-        if self.mark.is_none() {
-            self.mark = Some(mark);
-        }
+        self.mark = self.mark.or(Some(mark));
     }
 
     /// Gives the next bytes, or says by the mark why none is there. Copies just what it gives.

@@ -70,9 +70,7 @@ impl Outbound {
         ensures mark { self.new.mark ≡ first_mark self.old.mark mark }
         ensures left { self.new.left ≡ self.old.left }
     {
-        if self.mark.is_none() {
-            self.mark = Some(mark);
-        }
+        self.mark = self.mark.or(Some(mark));
     }
 
     /// Takes the first bytes, as many as there is room for, or says by the mark why there is none. Copies just these.
