@@ -1,6 +1,6 @@
 -- What happens to the streams of a world as scripted time moves.
 use Rattle.std.specs.Prelude.{ℕ, ◌==◌, ◌<◌, nat_lt, min, Option, None, Some, List, [], ◌∷◌, if◌then◌else◌, All, filter, fold, map, replicate}
-use Rattle.std.specs.List.{slice_index_or, slice_set}
+use Rattle.std.specs.List.{slice_get, slice_index_or, slice_set}
 use Rattle.asio_types.specs.declared.outside.Point.{Point}
 use Rattle.asio_types.specs.declared.outside.Point.TheVariants as point
 use Rattle.asio_types.specs.declared.world.Line.{Line}
@@ -49,12 +49,16 @@ rising_after now times = rising (filter (λ time. nat_lt now time) times)
 abbrev pub times_after : ℕ → List Line → List ℕ
 times_after now lines = rising_after now (map (λ line. line.time) lines)
 
+-- the earlier of a limit and of a time, or that there is neither
+abbrev pub earlier_point : Option ℕ → Option ℕ → Point
+earlier_point None None = point.Last
+earlier_point None (Some time) = point.Time time
+earlier_point (Some limit) None = point.Time limit
+earlier_point (Some limit) (Some time) = point.Time (min limit time)
+
 -- the least of a limit and of rising times, or that there is neither
 abbrev pub next_point : Option ℕ → List ℕ → Point
-next_point None [] = point.Last
-next_point None (time ∷ later) = point.Time time
-next_point (Some limit) [] = point.Time limit
-next_point (Some limit) (time ∷ later) = point.Time (min limit time)
+next_point limit times = earlier_point limit (slice_get times 0)
 
 -- each line names a stream of its world
 abbrev pub HasItsStreams : World → Type 0

@@ -35,6 +35,7 @@ pub use failure::{Failed, NoMemory};
 pub use mark::{ReadMark, WriteMark};
 pub use number::{ActNo, GuardNo, Lane, OpNo, SlotNo, StrandNo, StreamNo, TimerNo};
 pub use outside::{Moved, Point, SetupFault};
+pub use plan::FailPlan;
 pub use sink::Sink;
 pub use slow_sink::SlowSink;
 pub use slow_source::SlowSource;

@@ -5,9 +5,10 @@ use crate::failure::NoMemory;
 use std::alloc::Global;
 use std::marker::Model;
 
-/// Which calls of a test object fail, and how many have.
+/// Which calls of an object in memory fail, and how many have. Contracts see the numbers of the calls that fail, from 1;
+/// how many calls there were; and how many of them failed.
 #[derive(Debug, Drop)]
-pub(crate) struct FailPlan {
+pub struct FailPlan {
     fails: Vec<u32>,
     calls: u32,
     faults: u64,
@@ -23,18 +24,25 @@ impl Model for FailPlan {
 
 impl FailPlan {
     /// Nothing was called, and these calls, counted from 1, will fail.
-    pub(crate) fn make(alloc: Global, fails: &[u32]) -> Result<FailPlan, NoMemory>
+    pub fn make(alloc: Global, fails: &[u32]) -> Result<FailPlan, NoMemory>
         ensures { IfOk result (λ plan. plan ≡ record { fails = fails.now; calls = 0; faults = 0 }) }
     {
-        Ok(FailPlan {
-            fails: Vec::from_slice(alloc, fails)?,
+        Ok(FailPlan::of(Vec::from_slice(alloc, fails)?))
+    }
+
+    /// The same of a vector. Takes no memory.
+    pub fn of(fails: Vec<u32>) -> FailPlan
+        ensures { result ≡ record { fails = fails.items; calls = 0; faults = 0 } }
+    {
+        FailPlan {
+            fails,
             calls: 0,
             faults: 0,
-        })
+        }
     }
 
     /// Counts a call, and answers whether it is to fail. Looks through the whole list.
-    pub(crate) fn next_fails(&mut self) -> bool
+    pub fn next_fails(&mut self) -> bool
         ensures named { IsTrue result ↔ Contains self.old.fails (next_call self.old.calls) }
         ensures same { self.new.fails ≡ self.old.fails }
         ensures counted { self.new.calls ≡ next_call self.old.calls }
@@ -45,7 +53,7 @@ impl FailPlan {
     }
 
     /// Counts a fault.
-    pub(crate) fn fail(&mut self)
+    pub fn fail(&mut self)
         ensures same { self.new.fails ≡ self.old.fails }
         ensures uncounted { self.new.calls ≡ self.old.calls }
         ensures risen { self.new.faults ≡ one_more self.old.faults }

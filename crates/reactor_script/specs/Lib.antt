@@ -1,0 +1,4 @@
+pub mod Pipes
+pub mod Plans
+pub mod Scene
+pub mod Sides

@@ -1,0 +1,2 @@
+pub mod ReactorLemmas
+pub mod ScheduleLemmas

@@ -1,0 +1,2 @@
+pub mod Reactor
+pub mod Timetable
