@@ -142,18 +142,18 @@ fn faults_have_their_status(rt: HostRuntime) -> Result<(), Fail> {
     let mut source = SureSource::make(alloc, text.as_bytes())?;
     let mut out = TextSink::make(alloc, 256, &[3])?;
     let status = status_of(alloc, run.as_slice(), &mut source, &mut out, &[])?;
-    assert_eq!(rt;
-        (status, out.bytes()),
-        (Status::WriteFault, b"call 0\nback 0\n".as_slice())
-    );
+    assert_eq!(rt; status, Status::WriteFault);
+    assert_eq!(rt; out.bytes(), b"call 0\nback 0\n".as_slice());
 
     let mut failing = TextSource::make(alloc, text.as_bytes(), &[1])?;
     let mut out = SureSink::make(alloc, 256)?;
     let status = status_of(alloc, run.as_slice(), &mut failing, &mut out, &[])?;
-    assert_eq!(rt; (status, out.bytes()), (Status::ReadFault, b"".as_slice()));
+    assert_eq!(rt; status, Status::ReadFault);
+    assert_eq!(rt; out.bytes(), b"".as_slice());
 
     let status = status_of(alloc, run_run.as_slice(), &mut failing, &mut out, &[])?;
-    assert_eq!(rt; (status, out.bytes()), (Status::Usage, b"".as_slice()));
+    assert_eq!(rt; status, Status::Usage);
+    assert_eq!(rt; out.bytes(), b"".as_slice());
     let mut buf = [0; 64];
     assert_eq!(rt;
         failing.read(&mut buf),
@@ -174,7 +174,8 @@ fn other_words_are_refused(rt: HostRuntime) -> Result<(), Fail> {
         "post - { } }",
     ] {
         let (status, text) = written(alloc, acts, &[])?;
-        assert_eq!(rt; (status, text.as_str()), (Status::Refused, ""), "{acts}");
+        assert_eq!(rt; status, Status::Refused, "{acts}");
+        assert!(rt; text.is_empty());
     }
     Ok(())
 }

@@ -1,0 +1,6 @@
+use Rattle.std.proofs.Common.{◌≡◌, ◌≤◌, length, vec_len, vec_capacity}
+use Rattle.std.specs.Prelude.{All, IsSome}
+use Rattle.session_run.proofs.tests.rack_of.Given as goal
+
+abbrev pub invariant-loop-n : goal.invariant-loop-n
+invariant-loop-n l = record { room : 4096 ≤ vec_capacity l.handlers; count : vec_len l.handlers ≡ l.n; whole : All IsSome l.handlers.items }
