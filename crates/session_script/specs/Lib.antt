@@ -1,3 +1,13 @@
-pub mod Postings
 pub mod Script
+pub mod Tokens
+pub mod Limits
+pub mod Kinds
+pub mod Productions
+pub mod Acts
+pub mod Grammar
+pub mod Outcome
+pub mod WellFormed
 pub mod Text
+pub mod Lanes
+pub mod Groups
+pub mod Layout

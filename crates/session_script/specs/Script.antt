@@ -91,3 +91,19 @@ is_operation act.Stop = false
 abbrev pub is_stop : Act → Bool
 is_stop act.Stop = true
 is_stop _ = false
+
+-- whether the act with a number has a handler
+abbrev pub is_op : ScriptModel → ℕ → Bool
+is_op script n = is_op_in (act_of script n)
+  where
+    is_op_in : Option Act → Bool
+    is_op_in None = false
+    is_op_in (Some act) = is_operation act
+
+-- where the act with a number stands
+abbrev pub parent_of : ScriptModel → ℕ → Place
+parent_of script n = place_in (slice_get script.acts n)
+  where
+    place_in : Option Entry → Place
+    place_in None = None
+    place_in (Some entry) = entry.parent

@@ -1,20 +1,27 @@
-//! The language of sessions. A script is accepted exactly by the grammar, and every refusal names the first fault. The
-//! history, the context and the program stand on it.
+//! The language of sessions, in its two versions. A script is accepted exactly by the grammar, and every refusal names the
+//! first fault. What is read is spelled by the grammar as it is written, lies within the limits of its version, and its
+//! acts stand under earlier operations. The history, the context and the program stand on it.
 #![tactic(auto)]
 
 mod act;
-mod awaited;
+mod groups;
+mod kind;
+mod lane;
+mod limits;
+mod parts;
+mod place;
 mod reader;
 mod refusal;
 mod round;
+mod scan;
 mod script;
-mod word;
+mod token;
 
 pub use act::{Act, is_operation};
-pub use reader::read_script;
+pub use reader::scripts_are_spelled;
 pub use refusal::{Refusal, Rule, ScriptFault};
 pub use round::{Pace, Round};
-pub use script::Script;
+pub use script::{Script, read_script};
 
 #[cfg(test)]
 mod tests;

@@ -1,60 +1,92 @@
-ghost use Rattle.std.specs.Prelude.{◌≡◌, ◌≤◌, ℕ, List, length, Some, Err, IfOk, vec_len};
-ghost use Rattle.session_script.specs.Postings.{IsScript, IsRefused, IsListed, NoneListed, unbuilt};
-ghost use Rattle.session_script.specs.declared.refusal.ScriptFault.TheVariants.{Refused};
+ghost use Rattle.std.specs.Prelude.{◌≡◌, ℕ, List, ◌+◌, ◌<◌, ◌^◌, length, IfOk, IfErr, Ok};
+ghost use Rattle.std.specs.List.{prefix_len};
+ghost use Rattle.session_script.specs.Script.{ScriptModel};
+ghost use Rattle.session_script.specs.Tokens.{tokens_of, end_of};
+ghost use Rattle.session_script.specs.Productions.{refused};
+ghost use Rattle.session_script.specs.Grammar.{is_text, reading, IsScript, first_fault};
+ghost use Rattle.session_script.specs.Text.{words_of, IsScriptText};
+ghost use Rattle.session_script.specs.WellFormed.{IsWellFormed};
+ghost use Rattle.session_script.specs.Outcome.{Answers, Names, model_of};
 
-use crate::act::Act;
-use crate::awaited::Awaited;
+mod act;
+mod act_word;
+mod body;
+mod field;
+mod header;
+mod line;
+mod round;
+mod script;
+
+use crate::limits::TEXT;
+use crate::parts::Parts;
+use crate::reader::script::script;
 use crate::refusal::{Refusal, Rule, ScriptFault};
-use crate::script::Script;
-use crate::word::next_word;
+use crate::scan::{is_printable, tokens};
 use std::alloc::Global;
 
-const BYTES: usize = 262_144;
-
-const ACTS: usize = 1024;
-
-const UNBUILT: ScriptFault = ScriptFault::Refused(Refusal {
-    rule: Rule::Unbuilt,
-    line: 0,
-    token: 0,
-});
-
-/// The acts that a text spells, in one pass over its tokens.
-fn acts_of(alloc: Global, bytes: &[u8]) -> Result<Vec<Act>, ScriptFault>
-    ensures listed { IfOk result (λ acts. IsListed bytes.now acts.items) }
-    ensures refused { (refusal : _) → result ≡ Err (Refused refusal) → (refusal ≡ unbuilt) × NoneListed bytes.now }
+/// Whether a byte may stand in a script: printable ASCII, a space, TAB, LF or CR.
+#[tactic(auto, unfolding(crate::specs::Grammar::is_text))]
+fn is_text(byte: u8) -> bool
+    ensures { result ≡ is_text byte }
 {
-    let mut acts = Vec::new(alloc);
-    let mut awaited = Awaited::Session;
-    let mut rest = bytes;
-    while let Some((word, after)) = next_word(rest) {
-        let Some(next) = awaited.next(word) else {
-            return Err(UNBUILT);
-        };
-        if let Some(act) = awaited.act(word) {
-            if acts.len() == ACTS {
-                return Err(UNBUILT);
-            }
-            acts.push(act)?;
-        }
-        awaited = next;
-        rest = after;
-    }
-    if awaited != Awaited::Nothing {
-        return Err(UNBUILT);
-    }
-    Ok(acts)
+    is_printable(byte) || byte == b' ' || byte == b'\t' || byte == b'\n' || byte == b'\r'
 }
 
-/// Reads a script: `session 1 open {`, up to 1,024 acts that are each `post - { }` or `stop`, and `} run 1`. Every
-/// other text, and one of more than 262,144 bytes, is refused as a whole. Linear in the text.
-pub fn read_script(alloc: Global, bytes: &[u8]) -> Result<Script, ScriptFault>
-    ensures script { IfOk result (λ script. IsScript bytes.now script) }
-    ensures refused { (refusal : _) → result ≡ Err (Refused refusal) → IsRefused bytes.now refusal }
+/// How many bytes at the front are text.
+fn text_len(bytes: &[u8]) -> usize
+    ensures { result ≡ prefix_len is_text bytes.now }
 {
-    if bytes.len() > BYTES {
-        return Err(UNBUILT);
+    let mut count = 0;
+    while count < bytes.len() && is_text(bytes[count]) {
+        count += 1;
     }
-    let acts = acts_of(alloc, bytes)?;
-    Ok(Script::of(alloc, acts)?)
+    count
 }
+
+/// The refusal of a text for the byte that follows.
+fn not_text(front: &[u8]) -> ScriptFault
+    requires { length front.now + 1 < 2 ^ 32 }
+    ensures { result ≡ ScriptFault.Refused (refused Rule.NotText (end_of (tokens_of front.now))) }
+{
+    let mut cursor = tokens(front);
+    cursor.skip_all();
+    cursor.missing(Rule::NotText)
+}
+
+/// What the bytes say.
+#[tactic(auto, unfolding(crate::specs::Grammar::reading))]
+fn read_text(alloc: Global, bytes: &[u8]) -> Result<Parts, ScriptFault>
+    ensures { Answers model_of result (reading bytes.now) }
+{
+    if bytes.len() > TEXT {
+        return Err(ScriptFault::Refused(Refusal {
+            rule: Rule::TooLong,
+            line: 0,
+            token: 0,
+        }));
+    }
+    let count = text_len(bytes);
+    if count < bytes.len() {
+        return Err(not_text(&bytes[..count]));
+    }
+    script(alloc, &mut tokens(bytes))
+}
+
+/// The script that the bytes spell, or their first fault.
+pub(crate) fn read_parts(alloc: Global, bytes: &[u8]) -> Result<Parts, ScriptFault>
+    // What is read is a script of this text.
+    ensures script { IfOk result (λ parts. IsScript bytes.now (model_of parts)) }
+    // So all that it has is within the limits, and its acts stand under acts.
+    ensures well_formed { IfOk result (λ parts. IsWellFormed (model_of parts)) }
+    // What is refused has this fault.
+    ensures refused { IfErr result (λ fault. Names fault (first_fault bytes.now)) }
+    // A text of a script is read as that script, unless memory runs out.
+    ensures only { (model : ScriptModel) → IsScript bytes.now model → Answers model_of result (Ok model) }
+{
+    read_text(alloc, bytes)
+}
+
+/// What is read is spelled so, by the grammar as it is written.
+pub fn scripts_are_spelled()
+    ensures { (bytes : List ℕ) (script : ScriptModel) → IsScript bytes script → IsScriptText script (words_of (tokens_of bytes)) }
+{}

@@ -1,10 +1,18 @@
-ghost use Rattle.std.specs.Prelude.{◌≡◌, ℕ, ◌<◌, ◌≤◌, ◌+◌, [], ◌∷◌, ◌++◌, length, slice_get, Some, IsTrue, IfOk, vec_len};
-ghost use Rattle.session_script.specs.Script.{act_of, opening_of};
-ghost use Rattle.session_script.specs.Postings.{postings};
+ghost use Rattle.std.specs.Prelude.{◌≡◌, ◌<◌, ◌≤◌, length, true, Some, Ok, IfOk, IfErr};
+ghost use Rattle.session_script.specs.Script.{ScriptModel, act_of, opening_of, branch_of, parent_of, is_op};
+ghost use Rattle.session_script.specs.Lanes.{lane_of, is_inline};
+ghost use Rattle.session_script.specs.Grammar.{IsScript, first_fault};
+ghost use Rattle.session_script.specs.Outcome.{Answers, Names, model_of};
 
-use crate::act::Act;
-use crate::round::{Pace, Round};
-use asio_types::{ActNo, NoMemory};
+use crate::act::{Act, is_operation};
+use crate::groups::Groups;
+use crate::lane::{caller_lane, is_inside, lanes};
+use crate::parts::Parts;
+use crate::place::{class_number, places};
+use crate::reader::read_parts;
+use crate::refusal::ScriptFault;
+use crate::round::Round;
+use asio_types::{ActNo, Class, Lane, NoMemory, OpNo, World};
 use std::alloc::Global;
 use std::marker::Model;
 
@@ -12,71 +20,158 @@ use std::marker::Model;
 /// rounds, apart from how the text spelled them.
 #[derive(Debug, Drop)]
 pub struct Script {
-    acts: Vec<Act>,
-    opening: Vec<ActNo>,
-    rounds: [Round; 1],
+    parts: Parts,
+    /// The lane of each act.
+    lanes: Vec<Lane>,
+    /// The acts of each place, by the place's number.
+    places: Groups,
 }
 
 impl Model for Script {
-    ghost use Rattle.std.specs.Prelude.{◌≡◌, ◌≤◌, vec_len};
-    ghost use Rattle.session_script.specs.Script.{ScriptModel, opening_of};
-    ghost use Rattle.session_script.specs.Postings.{postings_in};
+    ghost use Rattle.std.specs.Prelude.{◌≡◌, ◌≤◌, length};
+    ghost use Rattle.session_script.specs.Script.{ScriptModel};
+    ghost use Rattle.session_script.specs.Outcome.{model_of};
+    ghost use Rattle.session_script.specs.Layout.{HoldsPlaces};
+    ghost use Rattle.session_script.specs.Lanes.{lanes_of};
 
     ghost Value = { ScriptModel };
 
-    ghost view = { λ s. postings_in s.acts.items s.rounds };
+    ghost view = { λ s. model_of s.parts };
 
-    ghost invariant = { λ s. (s.opening.items ≡ opening_of (postings_in s.acts.items s.rounds)) × (vec_len s.acts ≤ 1024) };
+    ghost invariant = { λ s. (length (model_of s.parts).acts ≤ 4096) × (s.lanes.items ≡ lanes_of (model_of s.parts)) × HoldsPlaces (model_of s.parts).acts s.places };
 }
 
 impl Script {
-    /// The script whose `open` has these acts, run once by one worker. Takes memory for their numbers.
-    pub(crate) fn of(alloc: Global, acts: Vec<Act>) -> Result<Script, NoMemory>
-        requires { vec_len acts ≤ 1024 }
-        ensures { IfOk result (λ script. script ≡ postings acts.items) }
+    /// The script that these parts say. Takes memory in proportion to the number of acts.
+    #[tactic(auto, unfolding(crate::specs::Outcome::model_of))]
+    pub(crate) fn of(alloc: Global, parts: Parts) -> Result<Script, NoMemory>
+        requires { length (model_of parts).acts ≤ 4096 }
+        ensures { IfOk result (λ script. script ≡ model_of parts) }
     {
-        let mut opening = Vec::new(alloc);
-        for n in 0..acts.len() {
-            opening.push(n as u32)?;
-        }
-        let round = Round {
-            restart: false,
-            pace: Pace::Run,
-            workers: 1,
-        };
+        let lanes = lanes(alloc, parts.acts.as_slice())?;
+        let places = places(alloc, parts.acts.as_slice())?;
         Ok(Script {
-            acts,
-            opening,
-            rounds: [round],
+            parts,
+            lanes,
+            places,
         })
     }
 
+    /// The version, 1 or 2.
+    #[tactic(auto, unfolding(crate::specs::Outcome::model_of))]
+    pub fn version(&self) -> u8
+        ensures { result ≡ self.now.version }
+    {
+        self.parts.version
+    }
+
     /// How many acts there are; their numbers are below it.
+    #[tactic(auto, unfolding(crate::specs::Outcome::model_of))]
     pub fn acts(&self) -> u32
         ensures { result ≡ length self.now.acts }
     {
-        self.acts.len() as u32
+        self.parts.acts.len() as u32
     }
 
     /// The act with this number.
+    #[tactic(auto, unfolding(crate::specs::Outcome::model_of))]
     pub fn act(&self, a: ActNo) -> &Act
         requires { a < length self.now.acts }
         ensures { act_of self.now a ≡ Some result.now }
     {
-        &self.acts[a as usize]
+        &self.parts.acts[a as usize].act
+    }
+
+    /// The operation in whose branch an act stands, with the branch's class; none for an act of `open` itself.
+    #[tactic(auto, unfolding(crate::specs::Outcome::model_of))]
+    pub fn parent_of(&self, a: ActNo) -> Option<(OpNo, Class)>
+        requires { a < length self.now.acts }
+        ensures { result ≡ parent_of self.now a }
+    {
+        self.parts.acts[a as usize].parent
+    }
+
+    /// Whether an act is an operation: a posting or an asynchronous operation, which has a handler.
+    pub fn is_op(&self, a: ActNo) -> bool
+        requires { a < length self.now.acts }
+        ensures { result ≡ is_op self.now a }
+    {
+        is_operation(self.act(a))
+    }
+
+    /// Whether an act is a dispatch that executes inside its call.
+    #[tactic(auto, unfolding(crate::specs::Outcome::model_of))]
+    pub fn is_inline(&self, a: ActNo) -> bool
+        requires { a < length self.now.acts }
+        ensures { result ≡ is_inline self.now a }
+    {
+        let entry = &self.parts.acts[a as usize];
+        is_inside(caller_lane(self.lanes.as_slice(), entry.parent), &entry.act)
+    }
+
+    /// The lane of an act: where an operation executes, the reactor's for a control act, and its caller's for a stop.
+    #[tactic(auto, unfolding(crate::specs::Outcome::model_of))]
+    pub fn lane_of(&self, a: ActNo) -> Lane
+        requires { a < length self.now.acts }
+        ensures { result ≡ lane_of self.now a }
+    {
+        self.lanes[a as usize]
     }
 
     /// The acts of `open` itself, in text order.
     pub fn opening(&self) -> &[ActNo]
         ensures { result.now ≡ opening_of self.now }
     {
-        self.opening.as_slice()
+        self.places.get(0)
+    }
+
+    /// The acts of the branch of an operation for a class, in text order. A posting has only the branch of class Ok.
+    #[tactic(auto, unfolding(crate::specs::Outcome::model_of))]
+    pub fn branch(&self, o: OpNo, class: Class) -> &[ActNo]
+        requires in_range { o < length self.now.acts }
+        requires operation { is_op self.now o ≡ true }
+        ensures { result.now ≡ branch_of self.now o class }
+    {
+        self.places.get(1 + 3 * o as usize + class_number(class))
+    }
+
+    /// What happens outside, and when.
+    #[tactic(auto, unfolding(crate::specs::Outcome::model_of))]
+    pub fn world(&self) -> &World
+        ensures { result.now ≡ self.now.world }
+    {
+        &self.parts.world
     }
 
     /// The rounds, in text order.
+    #[tactic(auto, unfolding(crate::specs::Outcome::model_of))]
     pub fn rounds(&self) -> &[Round]
         ensures { result.now ≡ self.now.rounds }
     {
-        &self.rounds
+        self.parts.rounds.as_slice()
+    }
+
+    /// How many work guards there are; their numbers are below it.
+    #[tactic(auto, unfolding(crate::specs::Outcome::model_of))]
+    pub fn guards(&self) -> u8
+        ensures { result ≡ self.now.guards }
+    {
+        self.parts.guards
+    }
+}
+
+/// The script that the bytes spell, or their first fault. Takes time and memory in proportion to the bytes.
+pub fn read_script(alloc: Global, bytes: &[u8]) -> Result<Script, ScriptFault>
+    // What is read is a script of this text.
+    ensures script { IfOk result (λ script. IsScript bytes.now script) }
+    // What is refused has this fault.
+    ensures refused { IfErr result (λ fault. Names fault (first_fault bytes.now)) }
+    // A text of a script is read as that script and no other, unless memory runs out.
+    ensures only { (script : ScriptModel) → IsScript bytes.now script → Answers (λ read. read) result (Ok script) }
+{
+    let parts = read_parts(alloc, bytes)?;
+    match Script::of(alloc, parts) {
+        Ok(script) => Ok(script),
+        Err(NoMemory) => Err(ScriptFault::NoMemory),
     }
 }
