@@ -15,10 +15,6 @@ use Rattle.session_run.specs.Progress.{IsPostings, OpenedTo, RanTo, SpentTo}
 use Rattle.session_run.proofs.OpeningLemmas.{no_open}
 use Rattle.session_run.proofs.ExecutionLemmas.{round_open}
 
--- one round
-one_round : (script : ScriptModel) → IsPostings script → length script.rounds ≡ 1
-one_round script (acts, same) = ap (λ (w : ScriptModel). length w.rounds) same
-
 -- what counts nothing
 count-none : (test : ActState → Bool) (acts : List ActState) → ((i : ℕ) → i < length acts → test (slice_index_or acts i fresh) ≡ false) → count_by test acts ≡ 0
 count-none test [] none = refl
@@ -48,7 +44,7 @@ may_end script s postings ran =
 
 pub spent_at_end : (script : ScriptModel) (s : State) → IsPostings script → RanTo script s (length script.acts) → SpentTo script (after_closing s) (length script.acts)
 spent_at_end script s postings ran =
-    record { size = ran.size; over = omega (arith, one_round script postings, ran.closings); spent = ran.ended; left = λ i after inside. absurd (omega (arith, after, inside)) }
+    record { size = ran.size; over = omega (arith, postings.once, ran.closings); spent = ran.ended; left = λ i after inside. absurd (omega (arith, after, inside)) }
 
 -- what was just accepted doesn't run
 accepted_rests : (script : ScriptModel) (i : ℕ) → is_running (accepted script i) ≡ false
@@ -74,7 +70,7 @@ pub spent_at_stop : (script : ScriptModel) (s : State) → IsPostings script →
 spent_at_stop script s postings opened =
     record {
       size = opened.size;
-      over = omega (arith, one_round script postings, opened.closings);
+      over = omega (arith, postings.once, opened.closings);
       spent = λ i before. absurd (omega (arith, before));
       left = λ i from inside. ap (λ (act : ActState). act.op) (opened.back i inside);
     }

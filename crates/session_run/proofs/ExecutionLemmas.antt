@@ -6,8 +6,8 @@ use Rattle.std.proofs.Math.Nat.{eq-or-lt_of_le}
 use Rattle.std.proofs.Math.ListN.{length-set}
 use Rattle.asio_types.specs.declared.code.Code.TheVariants as code
 use Rattle.session_script.specs.declared.act.Act.{Act}
-use Rattle.session_script.specs.Script.{ScriptModel, opening_of}
-use Rattle.session_script.specs.Postings.{postings, in_open}
+use Rattle.session_script.specs.Script.{ScriptModel, numbers_in, opening_of}
+use Rattle.std.specs.Prelude.{All, None}
 use Rattle.history_book.specs.State.{State, act_at, call_at, op_at, is_outstanding, is_running, with_op, with_act}
 use Rattle.history_book.specs.Calls.{accepted, operates}
 use Rattle.history_book.specs.Executions.{MayBegin, MayEnd, after_begin, after_end}
@@ -17,14 +17,17 @@ use Rattle.history_book.specs.declared.phase.CallPhase.TheVariants as call
 use Rattle.history_book.specs.declared.phase.OpPhase.{OpPhase}
 use Rattle.history_book.specs.declared.phase.OpPhase.TheVariants as op
 use Rattle.std.proofs.lemmas.List.{length-map}
-use Rattle.session_run.specs.Progress.{RanTo, SpentTo, IsPostings}
+use Rattle.session_run.specs.Progress.{RanTo, SpentTo, IsPostings, in_open}
 use Rattle.session_run.proofs.OpeningLemmas.{All-numbers, act_at-same, act_at-other}
 
 -- the round of postings is open once all calls are back
 pub round_open : (script : ScriptModel) (s : State) → IsPostings script → ((i : ℕ) → i < length script.acts → call_at s i ≡ call.Back) → s.closings ≡ 0 → RoundIsOpen script s
-round_open script s (acts, same) back closings =
-    subst (λ (w : ScriptModel). ((i : ℕ) → i < length w.acts → call_at s i ≡ call.Back) → RoundIsOpen w s) (sym same)
-    (λ b. record { opened = All-numbers (λ n. call_at s n ≡ call.Back) 0 acts (λ j from below. b j (omega (arith, below, length-map acts in_open))); left = omega (arith, closings) }) back
+round_open script s postings back closings =
+    record {
+      opened = subst (λ entries. All (λ n. call_at s n ≡ call.Back) (numbers_in None 0 entries)) (sym postings.listed)
+          (All-numbers (λ n. call_at s n ≡ call.Back) 0 postings.acts (λ j from below. back j (omega (arith, below, ap length postings.listed, length-map postings.acts in_open))));
+      left = omega (arith, closings, postings.once);
+    }
 
 -- an operation is ready once it was accepted
 pub accepted_ready : (script : ScriptModel) (o : ℕ) → operates script o ≡ true → accepted script o ≡ op.Ready code.Ok 0

@@ -6,3 +6,4 @@ pub mod ClosingLemmas
 pub mod TextLemmas
 pub mod WordLemmas
 pub mod AnswerLemmas
+pub mod BuiltLemmas

@@ -9,12 +9,11 @@ use Rattle.std.proofs.Math.ListN.{length-set}
 use Rattle.std.proofs.lemmas.List.Elements.{All-nil, All-cons}
 use Rattle.session_script.specs.declared.act.Act.{Act}
 use Rattle.session_script.specs.Script.{ScriptModel, numbers_in, opening_of}
-use Rattle.session_script.specs.Postings.{in_open, postings}
 use Rattle.history_book.specs.State.{State, act_at, call_at, op_at, is_open, is_uncalled, with_act, fresh}
 use Rattle.history_book.specs.declared.phase.ActState.{ActState}
 use Rattle.history_book.specs.declared.phase.CallPhase.TheVariants as call
 use Rattle.history_book.specs.Calls.{MayCall, NoCallIsOpen, accepted, after_call, after_return, after_stop, stops}
-use Rattle.session_run.specs.Progress.{OpenedTo, IsPostings}
+use Rattle.session_run.specs.Progress.{OpenedTo, IsPostings, in_open}
 
 -- a number is found at once, or passed
 find-step : (p : ℕ → Bool) (i k : ℕ) (rest : Option ℕ) → i ≤ k → p k ≡ true → (i < k → p i ≡ false) → (i < k → rest ≡ Some k) → (if p i then Some i else rest) ≡ Some k
@@ -54,9 +53,15 @@ called : (script : ScriptModel) (s : State) (k : ℕ) → OpenedTo script s k �
 called script s k opened j before = ap (λ act. is_uncalled act.call) (opened.back j before)
 
 -- the next act of `open`
-pub may_call_next : (acts : List Act) (s : State) (k : ℕ) → OpenedTo (postings acts) s k → k < length acts → MayCall (postings acts) s k
-may_call_next acts s k opened below =
-    (find-numbers (λ n. is_uncalled (call_at s n)) 0 k acts (omega arith) (omega arith) (λ j from before. called (postings acts) s k opened j before) (ap (λ act. is_uncalled act.call) (opened.rest k (omega arith))), no_open (postings acts) s k opened)
+pub may_call : (script : ScriptModel) (s : State) (k : ℕ) → IsPostings script → OpenedTo script s k → k < length script.acts → MayCall script s k
+may_call script s k postings opened below = (next_found, no_open script s k opened)
+  where
+    inside : k < length postings.acts
+    inside = omega (arith, below, ap length postings.listed, length-map postings.acts in_open)
+    next_found : find (λ n. is_uncalled (call_at s n)) (opening_of script) ≡ Some k
+    next_found =
+        ap (λ entries. find (λ n. is_uncalled (call_at s n)) (numbers_in None 0 entries)) postings.listed
+        ∙ find-numbers (λ n. is_uncalled (call_at s n)) 0 k postings.acts (omega arith) (omega (arith, inside)) (λ j from before. called script s k opened j before) (ap (λ act. is_uncalled act.call) (opened.rest k (omega arith)))
 
 -- one more act is back
 pub opened_more : (script : ScriptModel) (s : State) (k : ℕ) (u : State) → OpenedTo script s k → length u.acts ≡ length s.acts → act_at u k ≡ record { call = call.Back; op = accepted script k } → ((j : ℕ) → j ≢ k → act_at u j ≡ act_at s j) → (u.stopped ≡ false → (s.stopped ≡ false) × (stops script k ≡ false)) → u.may_begin ≡ not u.stopped → u.closings ≡ s.closings → OpenedTo script u (k + 1)
@@ -80,12 +85,6 @@ opened_more script s k u opened size here others going allowed closings =
     going_at : u.stopped ≡ false → (i : ℕ) → (i ≡ k) ⊎ (i < k) → stops script i ≡ false
     going_at running i (inl same) = rw same ((going running).1)
     going_at running i (inr before) = opened.going ((going running).0) i before
-
--- the next act of `open` of any script of postings
-pub may_call : (script : ScriptModel) (s : State) (k : ℕ) → IsPostings script → OpenedTo script s k → k < length script.acts → MayCall script s k
-may_call script s k (acts, same) opened below =
-    subst (λ (w : ScriptModel). OpenedTo w s k → k < length w.acts → MayCall w s k) (sym same)
-    (λ o b. may_call_next acts s k o (omega (arith, b, length-map acts in_open))) opened below
 
 -- a posting was called and is back
 pub posted : (script : ScriptModel) (s : State) (k : ℕ) → OpenedTo script s k → k < length script.acts → stops script k ≡ false → OpenedTo script (after_return script (after_call script s k) k) (k + 1)

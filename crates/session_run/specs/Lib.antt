@@ -1,4 +1,5 @@
 pub mod Answer
+pub mod Built
 pub mod Progress
 pub mod RackMarks
 pub mod Status

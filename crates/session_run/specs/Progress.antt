@@ -1,16 +1,21 @@
 -- How far a session of plain postings and stops has come.
-use Rattle.std.specs.Prelude.{◌≡◌, ◌<◌, ◌≤◌, ℕ, true, false, not, length, List}
+use Rattle.std.specs.Prelude.{◌≡◌, ◌<◌, ◌≤◌, ℕ, true, false, not, length, map, List, None}
 use Rattle.asio_types.specs.declared.code.Code.TheVariants as code
 use Rattle.session_script.specs.declared.act.Act.{Act}
-use Rattle.session_script.specs.Script.{ScriptModel}
-use Rattle.session_script.specs.Postings.{postings}
+use Rattle.session_script.specs.Script.{Entry, ScriptModel}
 use Rattle.history_book.specs.State.{State, act_at, call_at, op_at, fresh, is_outstanding}
 use Rattle.history_book.specs.Calls.{accepted, stops}
 use Rattle.history_book.specs.declared.phase.CallPhase.TheVariants as call
 
+-- an act of `open` itself
+abbrev pub in_open : Act → Entry
+in_open act = record { act = act; parent = None }
+
 -- all acts stand in `open`, and there is one round
-abbrev pub IsPostings : ScriptModel → Type 0
-IsPostings script = (acts : List Act) × (script ≡ postings acts)
+pub record IsPostings (script : ScriptModel) : Type 0 where
+  pub acts : List Act
+  pub listed : script.acts ≡ map in_open acts
+  pub once : length script.rounds ≡ 1
 
 -- the first k acts of `open` were called and are back, and nothing else happened
 pub record OpenedTo (script : ScriptModel) (s : State) (k : ℕ) : Type 0 where

@@ -3,6 +3,7 @@
 #![tactic(auto)]
 
 mod acts;
+mod built;
 mod destruction;
 mod execution;
 mod note;
@@ -10,10 +11,6 @@ mod opening;
 mod rest;
 mod session;
 mod status;
-#[cfg(test)]
-mod tests;
 mod text;
-mod top;
 
 pub use status::Status;
-pub use top::asio_session;

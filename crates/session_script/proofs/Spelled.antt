@@ -47,7 +47,7 @@ weaker_spelt P Q ts (Err refusal) less p = tt
 pub weaker_spells : {A : Type 0} (P Q : A → Words → Words → Type 0) {r : Tokens → Result (A × Tokens) Refusal} → ((a : A) (ws rest : Words) → P a ws rest → Q a ws rest) → Spells P r → Spells Q r
 weaker_spells P Q {r = r} less spells = record { spelt = λ ts. weaker_spelt P Q ts (r ts) less (spells.spelt ts) }
 
-choice_spelt : {A : Type 0} (P : A → Words → Words → Type 0) (ts : Tokens) (test : Bool) (r s : Result (A × Tokens) Refusal) → Spelt P ts r → Spelt P ts s → Spelt P ts (cond test r s)
+pub choice_spelt : {A : Type 0} (P : A → Words → Words → Type 0) (ts : Tokens) (test : Bool) (r s : Result (A × Tokens) Refusal) → Spelt P ts r → Spelt P ts s → Spelt P ts (cond test r s)
 choice_spelt P ts true r s first second = first
 choice_spelt P ts false r s first second = second
 

@@ -1,6 +1,6 @@
 -- Scripts that are read are spelled so.
 use Rattle.std.proofs.Common.{◌≡◌, ℕ, zero, suc, ◌≤◌, Bool, true, false, cond, List, [], ◌∷◌, ◌++◌, length, None, Result, Ok, Err, refl, sym, ap, subst, ◌∙◌, inl, inr, append_assoc, arith}
-use Rattle.std.specs.Prelude.{nat_le, nat_lt}
+use Rattle.std.specs.Prelude.{nat_le}
 use Rattle.std.specs.Str.{bytes_eq}
 use Rattle.std.proofs.lemmas.List.{append-nil}
 use lib.Chars.{codes}
@@ -16,12 +16,12 @@ use Rattle.session_script.specs.declared.reader.line.LineWord.{LineWord}
 use Rattle.session_script.specs.declared.reader.line.LineWord.TheVariants as lines
 use Rattle.session_script.specs.Script.{Entry, ScriptModel}
 use Rattle.session_script.specs.Tokens.{Tokens, end, token, begins, token_count, tokens_of}
-use Rattle.session_script.specs.Limits.{most_bytes}
 use Rattle.session_script.specs.Kinds.{misplaced, pace_word}
 use Rattle.session_script.specs.Productions.{one, many, repeated, header, line_word, what_happens, line, next_line, world_lines, restart, round, begins_round, next_round, session_rounds}
-use Rattle.session_script.specs.Grammar.{are_released, ends, script, whole, text_len, reading, IsScript}
+use Rattle.session_script.specs.Grammar.{are_released, ends, script, whole, IsScript}
 use Rattle.session_script.specs.Text.{words_of, Words, IsWord, IsN, IsCountText, IsWhatText, IsLineText, IsLinesText, pace_text, IsRestartText, IsRoundText, IsRoundsText, IsScriptText}
-use Rattle.session_script.proofs.Spelled.{Spelt, Spells, then_spells, done_spells, weaker_spells, if_spells, Says, OneWord, one_spells, choice_says, is_text, word_spells, another_spells, bounded_spells, declared_spells, version_spells, bytes_spells, count_spells}
+use Rattle.session_script.proofs.Reading.{Told, script_has}
+use Rattle.session_script.proofs.Spelled.{Spelt, choice_spelt, Spells, then_spells, done_spells, weaker_spells, if_spells, Says, OneWord, one_spells, choice_says, is_text, word_spells, another_spells, bounded_spells, declared_spells, version_spells, bytes_spells, count_spells}
 use Rattle.session_script.proofs.SpelledActs.{body_spells}
 
 -- the word of what happens in a line
@@ -132,13 +132,9 @@ header_spells =
     then_spells (count_spells (codes "guards") _) (λ guards.
     done_spells (λ rest f is_guards e is_streams d is_slots c is_timers b is_strands a is_version ws is_session. (a, b, c, d, e, f, is_session, is_version, is_strands, is_timers, is_slots, is_streams, is_guards)))))))))
 
-chosen_spelt : {A : Type 0} (P : A → Words → Words → Type 0) (ts : Tokens) (test : Bool) (r s : Result (A × Tokens) Refusal) → Spelt P ts r → Spelt P ts s → Spelt P ts (cond test r s)
-chosen_spelt P ts true r s first second = first
-chosen_spelt P ts false r s first second = second
-
 -- the text ends
 end_spelt : (guards : ℕ) (acts : List Entry) (ts : Tokens) → Spelt (λ u ws rest. (ws ≡ []) × (rest ≡ [])) ts (ends guards acts ts)
-end_spelt guards acts (end at) = chosen_spelt {A = Unit {0}} (λ u ws rest. (ws ≡ []) × (rest ≡ [])) (end at) (are_released guards acts) (Ok (tt, end at)) (Err _) (refl, refl) tt
+end_spelt guards acts (end at) = choice_spelt {A = Unit {0}} (λ u ws rest. (ws ≡ []) × (rest ≡ [])) (end at) (are_released guards acts) (Ok (tt, end at)) (Err _) (refl, refl) tt
 end_spelt guards acts (token bs at rest) = tt
 
 ends_spell : (guards : ℕ) (acts : List Entry) → Spells (λ u ws rest. (ws ≡ []) × (rest ≡ [])) (ends guards acts)
@@ -172,26 +168,10 @@ script_spells =
       rounds = subst (λ (left : Words). IsRoundsText rounds r5 left) ended.0 are_rounds.0;
     })))))))
 
--- of a whole text
-Told : (ScriptModel → Type 0) → Result ScriptModel Refusal → Type 0
-Told P (Ok s) = P s
-Told P (Err refusal) = Unit {0}
-
-whole_told : (ts : Tokens) (r : Result (ScriptModel × Tokens) Refusal) → Spelt (λ s ws rest. IsScriptText s ws) ts r → Told (λ s. IsScriptText s (words_of ts)) (whole r)
-unfolding Told
-whole_told ts (Ok read) p = p
-whole_told ts (Err refusal) p = tt
-
-choice_told : (P : ScriptModel → Type 0) (test : Bool) (refusal : Refusal) (r : Result ScriptModel Refusal) → Told P r → Told P (cond test (Err refusal) r)
-unfolding Told
-choice_told P true refusal r p = tt
-choice_told P false refusal r p = p
-
-reading_told : (bytes : List ℕ) → Told (λ s. IsScriptText s (words_of (tokens_of bytes))) (reading bytes)
-unfolding reading
-reading_told bytes = choice_told _ (nat_lt most_bytes (length bytes)) _ _ (choice_told _ (nat_lt (text_len bytes) (length bytes)) _ _ (whole_told (tokens_of bytes) (script (tokens_of bytes)) (script_spells.spelt (tokens_of bytes))))
+spelt_told : (ts : Tokens) (r : Result (ScriptModel × Tokens) Refusal) → Spelt (λ s ws rest. IsScriptText s ws) ts r → Told (λ s. IsScriptText s (words_of ts)) (whole r)
+spelt_told ts (Ok read) p = p
+spelt_told ts (Err refusal) p = tt
 
 -- what is read is spelled so
 pub script_is_spelled : (bytes : List ℕ) (s : ScriptModel) → IsScript bytes s → IsScriptText s (words_of (tokens_of bytes))
-unfolding IsScript Told
-script_is_spelled bytes s is = subst (Told (λ s'. IsScriptText s' (words_of (tokens_of bytes)))) is (reading_told bytes)
+script_is_spelled bytes s is = script_has (λ s'. IsScriptText s' (words_of (tokens_of bytes))) bytes s (spelt_told (tokens_of bytes) (script (tokens_of bytes)) (script_spells.spelt (tokens_of bytes))) is

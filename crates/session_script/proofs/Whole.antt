@@ -1,6 +1,6 @@
 -- A script that is read is well formed.
 use Rattle.std.proofs.Common.{◌≡◌, ℕ, ◌≤◌, ◌⊎◌, Bool, true, false, cond, List, [], ◌∷◌, length, None, Result, Ok, Err, refl, sym, ap, subst, ◌∙◌, arith, length-append}
-use Rattle.std.specs.Prelude.{IfOk, nat_eq, nat_le, nat_lt}
+use Rattle.std.specs.Prelude.{IfOk, nat_eq, nat_le}
 use Rattle.std.specs.List.{All}
 use Rattle.std.specs.Str.{bytes_eq}
 use Rattle.std.proofs.lemmas.List.Elements.{All-push}
@@ -17,14 +17,15 @@ use Rattle.session_script.specs.declared.reader.line.LineWord.{LineWord}
 use Rattle.session_script.specs.declared.reader.line.LineWord.TheVariants as lines
 use Rattle.session_script.specs.Script.{Entry, ScriptModel}
 use Rattle.session_script.specs.Tokens.{Tokens, end, token, begins, tokens_of}
-use Rattle.session_script.specs.Limits.{most_bytes, limits_of}
+use Rattle.session_script.specs.Limits.{limits_of}
 use Rattle.session_script.specs.Kinds.{pace_word}
 use Rattle.session_script.specs.Productions.{one, word, count, header, line_word, what_happens, line, next_line, world_lines, restart, round, begins_round, next_round, session_rounds}
-use Rattle.session_script.specs.Grammar.{are_released, ends, script, whole, text_len, reading, IsScript}
+use Rattle.session_script.specs.Grammar.{are_released, ends, script, whole, reading, IsScript}
 use Rattle.session_script.specs.Outcome.{Answers, model_of}
 use Rattle.session_script.specs.WellFormed.{FitsWhat, FitsLine, FitsRound, IsForest, header_of, IsWellFormed}
 use Rattle.session_script.proofs.Holding.{Passes, Holds, Reads, done_reads, then_reads, one_reads, any_reads, if_reads, repeated_reads, bounded_reads, declared_reads, another_reads, bytes_reads, version_reads}
 use Rattle.session_script.proofs.Forest.{forest_of_none, stands_in_open}
+use Rattle.session_script.proofs.Reading.{Told, script_has}
 use Rattle.session_script.proofs.Standing.{body_reads, time_reads, is_below}
 
 what_reads : (h : Header) (w : LineWord) → Reads (FitsWhat h) (what_happens h w)
@@ -133,15 +134,15 @@ end_holds guards acts (token bs at rest) = tt
 
 -- all parts of a script together
 module _ (head : Header) (declares : Declares head) (lines : List Line) (are_lines : AreLines head lines) (acts : List Entry) (forest : IsForest head acts) (rounds : List Round) (are_rounds : AreRounds head rounds) (released : are_released head.guards acts ≡ true) where
-  model : ScriptModel
-  model = record { version = head.version; strands = head.strands; timers = head.timers; slots = head.slots; guards = head.guards; acts = acts; world = record { streams = head.streams; lines = lines }; rounds = rounds }
+  all_of_it : ScriptModel
+  all_of_it = record { version = head.version; strands = head.strands; timers = head.timers; slots = head.slots; guards = head.guards; acts = acts; world = record { streams = head.streams; lines = lines }; rounds = rounds }
 
-  same_header : head ≡ header_of model
-  unfolding model
+  same_header : head ≡ header_of all_of_it
+  unfolding all_of_it
   same_header = ap (λ l. record head { limits = l }) declares.limits
 
-  well_formed : IsWellFormed model
-  unfolding model
+  well_formed : IsWellFormed all_of_it
+  unfolding all_of_it
   well_formed = record {
     version = declares.version;
     strands = declares.strands;
@@ -162,7 +163,7 @@ ends_reads : (guards : ℕ) (acts : List Entry) → Reads (λ u. are_released gu
 ends_reads guards acts = record { holds = end_holds guards acts }
 
 script_reads : Reads IsWellFormed script
-unfolding script model
+unfolding script all_of_it
 script_reads =
     then_reads header_reads (λ head declares.
     then_reads (lines_reads head) (λ lines are_lines.
@@ -172,29 +173,13 @@ script_reads =
     then_reads (ends_reads head.guards acts) (λ _ released.
     done_reads (well_formed head declares lines are_lines acts grown.forest rounds are_rounds released)))))))
 
--- of a whole text
-Says : (ScriptModel → Type 0) → Result ScriptModel Refusal → Type 0
-Says P (Ok script) = P script
-Says P (Err refusal) = Unit {0}
-
-whole_says : (P : ScriptModel → Type 0) (r : Result (ScriptModel × Tokens) Refusal) → Holds P r → Says P (whole r)
-unfolding Says
-whole_says P (Ok read) p = p
-whole_says P (Err refusal) p = tt
-
-choice_says : (P : ScriptModel → Type 0) (test : Bool) (refusal : Refusal) (r : Result ScriptModel Refusal) → Says P r → Says P (cond test (Err refusal) r)
-unfolding Says
-choice_says P true refusal r p = tt
-choice_says P false refusal r p = p
-
-reading_says : (bytes : List ℕ) → Says IsWellFormed (reading bytes)
-unfolding reading
-reading_says bytes = choice_says IsWellFormed (nat_lt most_bytes (length bytes)) _ _ (choice_says IsWellFormed (nat_lt (text_len bytes) (length bytes)) _ _ (whole_says IsWellFormed (script (tokens_of bytes)) (script_reads.holds (tokens_of bytes))))
+holds_told : (r : Result (ScriptModel × Tokens) Refusal) → Holds IsWellFormed r → Told IsWellFormed (whole r)
+holds_told (Ok read) p = p
+holds_told (Err refusal) p = tt
 
 -- a script is well formed
-pub script_is_well_formed : (bytes : List ℕ) (script : ScriptModel) → IsScript bytes script → IsWellFormed script
-unfolding IsScript Says
-script_is_well_formed bytes script is = subst (Says IsWellFormed) is (reading_says bytes)
+pub script_is_well_formed : (bytes : List ℕ) (model : ScriptModel) → IsScript bytes model → IsWellFormed model
+script_is_well_formed bytes model is = script_has IsWellFormed bytes model (holds_told (script (tokens_of bytes)) (script_reads.holds (tokens_of bytes))) is
 
 pub answer_is_well_formed : (r : Result Parts ScriptFault) (bytes : List ℕ) → Answers model_of r (reading bytes) → IfOk r (λ parts. IsWellFormed (model_of parts))
 unfolding IsScript

@@ -1,4 +1,5 @@
 pub mod Script
+pub mod Rules
 pub mod Tokens
 pub mod Limits
 pub mod Kinds

@@ -22,9 +22,6 @@ use Rattle.session_script.specs.Kinds.{misplaced, exactly, one_more, within, kno
 abbrev pub refused : Rule → Position → Refusal
 refused violated at = record { rule = violated; line = at.line; token = at.token }
 
-abbrev pub Reading : Type 0 → Type 0
-Reading A = Result (A × Tokens) Refusal
-
 -- then read on
 abbrev pub and_then : {A B : Type 0} → Result (A × Tokens) Refusal → (A → Tokens → Result (B × Tokens) Refusal) → Result (B × Tokens) Refusal
 and_then (Ok read) f = f read.0 read.1

@@ -27,8 +27,12 @@ pub enum Rule {
 }
 
 impl Rule {
+    ghost use Rattle.session_script.specs.Rules.{number_of_rule};
+
     /// The rule's number, from 1 to 9.
-    pub fn number(self) -> u8 {
+    pub fn number(self) -> u8
+        ensures { result ≡ number_of_rule self }
+    {
         match self {
             Rule::NotText => 1,
             Rule::TooLong => 2,

@@ -68,7 +68,8 @@ impl Script {
     /// How many acts there are; their numbers are below it.
     #[tactic(auto, unfolding(crate::specs::Outcome::model_of))]
     pub fn acts(&self) -> u32
-        ensures { result ≡ length self.now.acts }
+        ensures count { result ≡ length self.now.acts }
+        ensures limit { result ≤ 4096 }
     {
         self.parts.acts.len() as u32
     }

@@ -6,6 +6,7 @@ use crate::reader::read_parts;
 use crate::refusal::ScriptFault;
 use asio_types::Class;
 use std::alloc::{AllocError, Global};
+use std::process::Abort;
 use std::test::Fail;
 
 /// The rule, line and token of a refusal; zeros for a script, and 99 without memory.
@@ -32,6 +33,55 @@ fn repeated(
     }
     text.extend_from_slice(back.as_bytes())?;
     Ok(text)
+}
+
+/// The text without its mark `@`, and the line and the number of the token behind the mark, or else of the end.
+fn unmarked(alloc: Global, front: &str, marked: &str) -> Result<(Vec<u8>, u32, u32), AllocError> {
+    let whole = repeated(alloc, front, marked, 1, "")?;
+    let mut text = Vec::new(alloc);
+    let mut found = false;
+    let mut inside = false;
+    let mut line: u32 = 1;
+    let mut token: u32 = 1;
+    for byte in &whole {
+        if *byte == b'@' {
+            found = true;
+        } else {
+            text.push(*byte)?;
+        }
+        if !found {
+            if inside && *byte <= b' ' {
+                token = token.saturating_add(1);
+            }
+            if *byte == b'\n' {
+                line = line.saturating_add(1);
+            }
+            inside = *byte > b' ';
+        }
+    }
+    if inside && !found {
+        token = token.saturating_add(1);
+    }
+    Ok((text, line, token))
+}
+
+/// Each text behind the front is refused by this rule, at its mark or at its end.
+pub(crate) fn refuses_all(
+    rt: &impl Abort,
+    alloc: Global,
+    rule: u8,
+    front: &str,
+    texts: &[&str],
+) -> Result<(), Fail> {
+    for marked in texts {
+        let (text, line, token) = unmarked(alloc, front, marked)?;
+        assert_eq!(rt;
+            verdict(alloc, text.as_slice()),
+            (rule, line, token),
+            "{marked}"
+        );
+    }
+    Ok(())
 }
 
 #[test]
