@@ -58,6 +58,7 @@ may_call script s k postings opened below = (next_found, no_open script s k open
   where
     inside : k < length postings.acts
     inside = omega (arith, below, ap length postings.listed, length-map postings.acts in_open)
+
     next_found : find (λ n. is_uncalled (call_at s n)) (opening_of script) ≡ Some k
     next_found =
         ap (λ entries. find (λ n. is_uncalled (call_at s n)) (numbers_in None 0 entries)) postings.listed

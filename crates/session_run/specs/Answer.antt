@@ -1,17 +1,20 @@
 -- What each status says of a session.
-use Rattle.std.specs.Prelude.{◌≡◌, ◌≤◌, ◌<◌, ◌+◌, ◌^◌, ◌⊎◌, ℕ, true, List, [], ◌∷◌, codes, Option}
+use Rattle.std.specs.Prelude.{◌≡◌, ◌≤◌, ◌<◌, ◌+◌, ◌^◌, ◌⊎◌, ℕ, true, List, [], ◌∷◌, codes, Option, Some}
 use Rattle.asio_types.specs.Faults.{Rose}
 use Rattle.asio_types.specs.Sink.{Extends, ExtendsByPart}
 use Rattle.asio_types.specs.declared.event.Event.{Event}
 use Rattle.session_script.specs.Script.{ScriptModel}
-use Rattle.session_script.specs.Postings.{IsScript}
+use Rattle.session_script.specs.Grammar.{IsScript, first_fault}
+use Rattle.session_script.specs.Rules.{number_of_rule}
+use Rattle.session_script.specs.declared.refusal.Refusal.{Refusal}
 use Rattle.history_book.specs.Legal.{IsLegal}
 use Rattle.history_book.specs.Marks.{HasMarks}
 use Rattle.history_book.specs.Trace.{trace_of}
 use Rattle.op_handlers.specs.Marks.{Marks}
 use Rattle.op_handlers.specs.declared.rack.Rack.{Rack}
+use Rattle.session_run.specs.Built.{IsBuilt}
 use Rattle.session_run.specs.RackMarks.{AllTaken, drop_mark, run_mark}
-use Rattle.session_run.specs.Status.{note_of}
+use Rattle.session_run.specs.Status.{note_of, refused_note}
 use Rattle.session_run.specs.Text.{ReadsText}
 use Rattle.session_run.specs.declared.status.Status.{Status}
 use Rattle.session_run.specs.declared.status.Status.TheVariants as status
@@ -50,6 +53,7 @@ pub record Ran {H : Type 0} (marks : H → Marks) (seen : Seen) (old new : Rack 
   pub read : ReadsText seen.left_before text seen.left_after
   pub script : ScriptModel
   pub is : IsScript text script
+  pub built : IsBuilt script
   pub run : RunsScript marks script old new P
 
 -- the whole trace of such a history was written
@@ -62,12 +66,21 @@ IsCutOff marks seen old new =
     Ran marks seen old new (λ events. ExtendsByPart seen.written_before (trace_of events) seen.written_after)
     × Rose seen.write_faults_before seen.write_faults_after
 
--- what was read is a text of no script
-pub record IsNoScript (seen : Seen) : Type 0 where
+-- the fault of a text by its rule, line and token: the first one of a text that is no script, or that it can't be run yet
+abbrev pub HasFault : List ℕ → ℕ → ℕ → ℕ → Type 0
+HasFault text rule line token =
+    ((refusal : Refusal) × (first_fault text ≡ Some refusal) × (rule ≡ number_of_rule refusal.rule) × (line ≡ refusal.line) × (token ≡ refusal.token))
+    ⊎ ((script : ScriptModel) × IsScript text script × (IsBuilt script → ⊥) × (rule ≡ 10) × (line ≡ 0) × (token ≡ 0))
+
+-- what was read has this fault
+pub record Refuses (seen : Seen) (rule line token : ℕ) : Type 0 where
   pub form : IsRun seen.words
   pub text : List ℕ
   pub read : ReadsText seen.left_before text seen.left_after
-  pub none : (script : ScriptModel) → IsScript text script → ⊥
+  pub fault : HasFault text rule line token
+
+abbrev pub IsRefused : Seen → Type 0
+IsRefused seen = (rule : ℕ) × (line : ℕ) × (token : ℕ) × Refuses seen rule line token
 
 -- reading failed
 pub record IsUnread (seen : Seen) : Type 0 where
@@ -78,7 +91,7 @@ pub record IsUnread (seen : Seen) : Type 0 where
 abbrev pub Answers : {H : Type 0} → (H → Marks) → Seen → Rack H → Rack H → Status → Type 0
 Answers marks seen old new status.Done = IsDone marks seen old new
 Answers marks seen old new status.Usage = IsRun seen.words → ⊥
-Answers marks seen old new status.Refused = IsNoScript seen
+Answers marks seen old new status.Refused = IsRefused seen
 Answers marks seen old new status.ReadFault = IsUnread seen
 Answers marks seen old new status.WriteFault = IsCutOff marks seen old new
 Answers marks seen old new status.ReactorFault = ⊥
@@ -98,7 +111,13 @@ LeavesAll status.NoMemory = Unit {0}
 abbrev pub Stood : ℕ → ℕ → Type 0
 Stood before after = (before + 1 < 2 ^ 64) × (after ≤ before)
 
--- the notes got the whole note, or its first part where they failed
-abbrev pub IsNoted : Option (List ℕ) → ℕ → Status → Option (List ℕ) → ℕ → Type 0
-IsNoted before faults_before answer after faults_after =
-    Extends before (note_of answer) after ⊎ (ExtendsByPart before (note_of answer) after × Rose faults_before faults_after)
+-- the notes got this whole note, or its first part where they failed
+abbrev pub Gets : List ℕ → Option (List ℕ) → ℕ → Option (List ℕ) → ℕ → Type 0
+Gets note before faults_before after faults_after =
+    Extends before note after ⊎ (ExtendsByPart before note after × Rose faults_before faults_after)
+
+-- the notes got the note of the status
+abbrev pub IsNoted : Seen → Status → Option (List ℕ) → ℕ → Option (List ℕ) → ℕ → Type 0
+IsNoted seen status.Refused before faults_before after faults_after =
+    (rule : ℕ) × (line : ℕ) × (token : ℕ) × Refuses seen rule line token × Gets (refused_note rule line token) before faults_before after faults_after
+IsNoted seen answer before faults_before after faults_after = Gets (note_of answer) before faults_before after faults_after

@@ -1,5 +1,6 @@
 -- What a status is outside: its number and its note.
 use Rattle.std.specs.Prelude.{ℕ, List, [], ◌∷◌, ◌++◌, codes}
+use Rattle.std.specs.Fmt.{decimal}
 use Rattle.session_run.specs.declared.status.Status.{Status}
 use Rattle.session_run.specs.declared.status.Status.TheVariants as status
 
@@ -16,11 +17,17 @@ number_of status.NoMemory = 6
 abbrev pub note_line : List ℕ → List ℕ
 note_line text = codes "asio_run: " ++ text ++ 10 ∷ []
 
+-- the note of a status; that of a refusal names its fault
 abbrev pub note_of : Status → List ℕ
 note_of status.Done = []
 note_of status.Usage = note_line (codes "usage: asio_run run")
-note_of status.Refused = note_line (codes "refused 10 at line 0 token 0")
+note_of status.Refused = []
 note_of status.ReadFault = note_line (codes "read fault")
 note_of status.WriteFault = note_line (codes "write fault")
 note_of status.ReactorFault = note_line (codes "reactor fault")
 note_of status.NoMemory = note_line (codes "no memory")
+
+-- the note of a refusal
+abbrev pub refused_note : ℕ → ℕ → ℕ → List ℕ
+refused_note rule line token =
+    codes "asio_run: refused " ++ decimal rule ++ codes " at line " ++ decimal line ++ codes " token " ++ decimal token ++ 10 ∷ []

@@ -11,6 +11,11 @@ mod opening;
 mod rest;
 mod session;
 mod status;
+#[cfg(test)]
+mod tests;
 mod text;
+mod top;
 
+pub use built::is_built;
 pub use status::Status;
+pub use top::asio_session;

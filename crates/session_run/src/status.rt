@@ -28,14 +28,14 @@ impl Status {
         self as u8
     }
 
-    /// The line that is written to the notes; none for a session that is done.
+    /// The line that is written to the notes: none for a session that is done, and none here for a refusal, whose line
+    /// names the fault.
     pub fn note(self) -> &'static [u8]
         ensures { result.now ≡ note_of self }
     {
         match self {
-            Status::Done => b"",
+            Status::Done | Status::Refused => b"",
             Status::Usage => b"asio_run: usage: asio_run run\n",
-            Status::Refused => b"asio_run: refused 10 at line 0 token 0\n",
             Status::ReadFault => b"asio_run: read fault\n",
             Status::WriteFault => b"asio_run: write fault\n",
             Status::ReactorFault => b"asio_run: reactor fault\n",

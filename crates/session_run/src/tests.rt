@@ -167,6 +167,7 @@ fn faults_have_their_status(rt: HostRuntime) -> Result<(), Fail> {
 fn other_words_are_refused(rt: HostRuntime) -> Result<(), Fail> {
     let alloc = rt.alloc();
     for acts in [
+        "dispatch - { }",
         "jump",
         "post 0 { }",
         "post - { post - { } }",
@@ -191,11 +192,8 @@ fn pieces_of_any_size_give_the_same(rt: HostRuntime) -> Result<(), Fail> {
         let mut source = SlowSource::make(alloc, text.as_bytes(), step)?;
         let mut out = SlowSink::make(alloc, step, 256)?;
         let status = status_of(alloc, words.as_slice(), &mut source, &mut out, &[])?;
-        assert_eq!(rt;
-            (status, out.bytes()),
-            (Status::Done, want.as_bytes()),
-            "step {step}"
-        );
+        assert_eq!(rt; status, Status::Done, "step {step}");
+        assert_eq!(rt; out.bytes(), want.as_bytes(), "step {step}");
     }
     Ok(())
 }
@@ -226,7 +224,12 @@ fn notes_name_the_status(rt: HostRuntime) -> Result<(), Fail> {
     for (words, text, want) in [
         ("run", "session 1 open { } run 1", ""),
         ("walk", "", "asio_run: usage: asio_run run\n"),
-        ("run", "", "asio_run: refused 10 at line 0 token 0\n"),
+        ("run", "", "asio_run: refused 4 at line 1 token 1\n"),
+        (
+            "run",
+            "session 1 timers 1 open { expires 0 5 } run 1",
+            "asio_run: refused 10 at line 0 token 0\n",
+        ),
     ] {
         let mut source = SureSource::make(alloc, text.as_bytes())?;
         let mut out = SureSink::make(alloc, 256)?;

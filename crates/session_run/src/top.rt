@@ -1,8 +1,12 @@
-ghost use Rattle.std.specs.Prelude.{◌≡◌, ◌⊎◌, ◌≤◌, ℕ, List, Some, map, length, All, IsSome, IsTrue, ◌↔◌, string_bytes, codes};
+ghost use Rattle.std.specs.Prelude.{◌≡◌, ◌⊎◌, ◌≤◌, ℕ, List, [], Some, map, length, All, IsSome, IsTrue, ◌↔◌, string_bytes, codes};
 ghost use Rattle.op_handlers.specs.Rack.{IsWholeRack, handlers_in};
 ghost use Rattle.session_script.specs.Script.{ScriptModel};
-ghost use Rattle.session_script.specs.Postings.{IsScript};
-ghost use Rattle.session_run.specs.Answer.{Answers, IsNoted, IsRun, LeavesAll, RunsScript, Stood};
+ghost use Rattle.session_script.specs.Grammar.{IsScript};
+ghost use Rattle.session_script.specs.Rules.{number_of_rule};
+ghost use Rattle.session_script.specs.declared.refusal.Refusal.{Refusal};
+ghost use Rattle.session_run.specs.Built.{IsBuilt};
+ghost use Rattle.session_run.specs.Answer.{Answers, IsNoted, IsRun, LeavesAll, Refuses, RunsScript, Stood};
+ghost use Rattle.session_run.specs.Status.{refused_note};
 ghost use Rattle.asio_types.specs.Faults.{Rose};
 ghost use Rattle.asio_types.specs.Sink.{Extends, ExtendsByPart};
 ghost use Rattle.history_book.specs.Trace.{trace_of};
@@ -10,6 +14,7 @@ ghost use Rattle.session_run.specs.Progress.{IsPostings};
 ghost use Rattle.session_run.specs.Text.{TakesSome};
 ghost use Rattle.session_run.specs.declared.status.Status.TheVariants as status;
 
+use crate::built::is_built;
 use crate::rest::discard_rest;
 use crate::session::run_script;
 use crate::status::Status;
@@ -19,6 +24,7 @@ use history_book::{History, write_trace};
 use op_handlers::{CompletionHandler, Rack};
 use session_script::{Script, ScriptFault, read_script};
 use std::alloc::Global;
+use std::fmt::Write;
 
 /// Room for the events of a history: at most so many for each act, and for ticks, rounds and faults.
 const EVENTS_PER_ACT: u32 = 7;
@@ -50,7 +56,6 @@ fn run_and_write<K: Sink, H: CompletionHandler>(
     rack: &mut Rack<H>,
 ) -> Status
     requires postings { IsPostings script.now }
-    requires few { length script.now.acts ≤ 1024 }
     requires whole { IsWholeRack rack.old }
     requires count { length (handlers_in rack.old) ≡ 4096 }
     ensures done { result ≡ status.Done → RunsScript H.marks script.now rack.old rack.new (λ events. Extends (K.written out.old) (trace_of events) (K.written out.new)) }
@@ -71,14 +76,45 @@ fn run_and_write<K: Sink, H: CompletionHandler>(
     }
 }
 
-/// The session without its notes.
+/// Puts the note of a refusal together.
+fn refuse(note: &mut String, rule: u8, line: u32, token: u32) -> Status
+    requires { string_bytes note.old ≡ [] }
+    ensures refused { result ≡ status.Refused → string_bytes note.new ≡ refused_note rule line token }
+    ensures cases { (result ≡ status.Refused) ⊎ (result ≡ status.NoMemory) }
+{
+    match writeln!(
+        note,
+        "asio_run: refused {rule} at line {line} token {token}"
+    ) {
+        Ok(()) => Status::Refused,
+        Err(_) => Status::NoMemory,
+    }
+}
+
+/// Says why no script was read.
+fn refuse_fault(note: &mut String, fault: ScriptFault) -> Status
+    requires { string_bytes note.old ≡ [] }
+    ensures refused { result ≡ status.Refused → (refusal : Refusal) × (fault ≡ ScriptFault.Refused refusal) × (string_bytes note.new ≡ refused_note (number_of_rule refusal.rule) refusal.line refusal.token) }
+    ensures cases { (result ≡ status.Refused) ⊎ (result ≡ status.NoMemory) }
+{
+    match fault {
+        ScriptFault::Refused(refusal) => {
+            refuse(note, refusal.rule.number(), refusal.line, refusal.token)
+        }
+        ScriptFault::NoMemory => Status::NoMemory,
+    }
+}
+
+/// The session without its notes; that of a refusal is put together here.
 fn session<S: Source, K: Sink, H: CompletionHandler>(
     alloc: Global,
     words: &[String],
     source: &mut S,
     out: &mut K,
     rack: &mut Rack<H>,
+    note: &mut String,
 ) -> Status
+    requires blank { string_bytes note.old ≡ [] }
     requires whole { IsWholeRack rack.old }
     requires count { length (handlers_in rack.old) ≡ 4096 }
     ensures answer { Answers H.marks (record {
@@ -96,8 +132,17 @@ fn session<S: Source, K: Sink, H: CompletionHandler>(
     ensures kept { LeavesAll result → handlers_in rack.new ≡ handlers_in rack.old }
     ensures unread { result ≡ status.Usage → source.new ≡ source.old }
     ensures taken { TakesSome (S.left source.old) (S.left source.new) }
-    ensures read_later { S.faults source.old ≤ S.faults source.new }
-    ensures write_later { K.faults out.old ≤ K.faults out.new }
+    ensures refused { result ≡ status.Refused → (rule : ℕ) × (line : ℕ) × (token : ℕ) × Refuses (record {
+      words = map string_bytes words.now;
+      left_before = S.left source.old;
+      left_after = S.left source.new;
+      read_faults_before = S.faults source.old;
+      read_faults_after = S.faults source.new;
+      written_before = K.written out.old;
+      written_after = K.written out.new;
+      write_faults_before = K.faults out.old;
+      write_faults_after = K.faults out.new;
+    }) rule line token × (string_bytes note.new ≡ refused_note rule line token) }
 {
     if !is_run(words) {
         return Status::Usage;
@@ -108,14 +153,20 @@ fn session<S: Source, K: Sink, H: CompletionHandler>(
         Err(TextFault::NoMemory) => return Status::NoMemory,
     };
     match read_script(alloc, text.as_slice()) {
-        Ok(script) => run_and_write(alloc, &script, out, rack),
-        Err(ScriptFault::Refused(_)) => Status::Refused,
-        Err(ScriptFault::NoMemory) => Status::NoMemory,
+        Ok(script) => {
+            if is_built(&script) {
+                run_and_write(alloc, &script, out, rack)
+            } else {
+                refuse(note, 10, 0, 0)
+            }
+        }
+        Err(fault) => refuse_fault(note, fault),
     }
 }
 
 /// Reads a script from the source, runs it on one io_context with the handlers of the rack, and writes its trace to
-/// out. The words are those behind the program's name; `run` is their one form. The status says which of these went how
+/// out. The words are those behind the program's name; `run` is their one form. What can be run so far is a script of
+/// plain postings and stops with one round of `run`; other scripts are refused as rule 10 at line 0 and token 0. The status says which of these went how
 /// far, with its cause; the notes get the status's note, and change no status.
 ///
 /// Reads at most 262,145 bytes. With the statuses 1, 2, 3 and 6 nothing was run and nothing written; with 0 and 4 every
@@ -146,12 +197,27 @@ pub fn asio_session<S: Source, K: Sink, N: Sink, H: CompletionHandler>(
     ensures kept { LeavesAll result → handlers_in rack.new ≡ handlers_in rack.old }
     ensures unread { result ≡ status.Usage → source.new ≡ source.old }
     ensures taken { TakesSome (S.left source.old) (S.left source.new) }
-    ensures noted { IsNoted (N.written notes.old) (N.faults notes.old) result (N.written notes.new) (N.faults notes.new) }
+    ensures noted { IsNoted (record {
+      words = map string_bytes words.now;
+      left_before = S.left source.old;
+      left_after = S.left source.new;
+      read_faults_before = S.faults source.old;
+      read_faults_after = S.faults source.new;
+      written_before = K.written out.old;
+      written_after = K.written out.new;
+      write_faults_before = K.faults out.old;
+      write_faults_after = K.faults out.new;
+    }) result (N.written notes.old) (N.faults notes.old) (N.written notes.new) (N.faults notes.new) }
     // A script whose reading and writing don't fail is run to its end, unless memory runs out.
-    ensures complete { (bytes : List ℕ) (script : ScriptModel) → IsRun (map string_bytes words.now) → S.left source.old ≡ Some bytes → IsScript bytes script
+    ensures complete { (bytes : List ℕ) (script : ScriptModel) → IsRun (map string_bytes words.now) → S.left source.old ≡ Some bytes → IsScript bytes script → IsBuilt script
         → Stood (S.faults source.old) (S.faults source.new) → Stood (K.faults out.old) (K.faults out.new) → (result ≡ status.Done) ⊎ (result ≡ status.NoMemory) }
 {
-    let status = session(alloc, words, source, out, rack);
-    let _ = write_all(notes, status.note());
+    let mut note = String::new(alloc);
+    let status = session(alloc, words, source, out, rack, &mut note);
+    let _ = if status == Status::Refused {
+        write_all(notes, note.as_bytes())
+    } else {
+        write_all(notes, status.note())
+    };
     status
 }

@@ -1,7 +1,6 @@
-use Rattle.std.proofs.Common.{string_bytes, map}
 use Rattle.session_run.proofs.AnswerLemmas.{complete}
 use Rattle.session_run.proofs.top.asio_session.Goals as goal
 
 pub returns-clause-complete : goal.returns-clause-complete
-returns-clause-complete g c bytes script form told is read write =
-    complete g.H.CompletionHandler.marks _ c.args.rack.now c.session-status.new.rack c.session-status.result c.session-status.ensures.answer bytes script form told is read write
+returns-clause-complete g c bytes script form told is built read write =
+    complete g.H.CompletionHandler.marks _ c.args.rack.now c.session-status.new.rack c.session-status.result c.session-status.ensures.answer bytes script form told is built read write
