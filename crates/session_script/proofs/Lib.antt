@@ -15,3 +15,5 @@ pub mod SpelledActs
 pub mod SpelledScript
 pub mod Grouping
 pub mod Places
+pub mod Writing
+pub mod Upgrading

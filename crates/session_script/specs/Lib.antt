@@ -12,3 +12,4 @@ pub mod Text
 pub mod Lanes
 pub mod Groups
 pub mod Layout
+pub mod Spelling

@@ -4,9 +4,11 @@
 #![tactic(auto)]
 
 mod act;
+mod copy;
 mod groups;
 mod kind;
 mod lane;
+mod law;
 mod limits;
 mod parts;
 mod place;
@@ -16,12 +18,15 @@ mod round;
 mod scan;
 mod script;
 mod token;
+mod writer;
 
 pub use act::{Act, is_operation};
+pub use law::{upgraded_scripts_are_well_formed, upgraded_scripts_of_version_2_are_the_same};
 pub use reader::scripts_are_spelled;
 pub use refusal::{Refusal, Rule, ScriptFault};
 pub use round::{Pace, Round};
-pub use script::{Script, read_script};
+pub use script::{Script, read_script, upgrade};
+pub use writer::write_script;
 
 #[cfg(test)]
 mod tests;

@@ -1,10 +1,12 @@
 ghost use Rattle.std.specs.Prelude.{◌≡◌, ◌<◌, ◌≤◌, length, true, Some, Ok, IfOk, IfErr};
 ghost use Rattle.session_script.specs.Script.{ScriptModel, act_of, opening_of, branch_of, parent_of, is_op};
 ghost use Rattle.session_script.specs.Lanes.{lane_of, is_inline};
+ghost use Rattle.session_script.specs.Spelling.{upgraded};
 ghost use Rattle.session_script.specs.Grammar.{IsScript, first_fault};
 ghost use Rattle.session_script.specs.Outcome.{Answers, Names, model_of};
 
 use crate::act::{Act, is_operation};
+use crate::copy::{copy_entries, copy_world};
 use crate::groups::Groups;
 use crate::lane::{caller_lane, is_inside, lanes};
 use crate::parts::Parts;
@@ -152,6 +154,30 @@ impl Script {
         self.parts.rounds.as_slice()
     }
 
+    /// How many strands there are; their numbers are below it.
+    #[tactic(auto, unfolding(crate::specs::Outcome::model_of))]
+    pub(crate) fn strands(&self) -> u8
+        ensures { result ≡ self.now.strands }
+    {
+        self.parts.strands
+    }
+
+    /// How many timers there are; their numbers are below it.
+    #[tactic(auto, unfolding(crate::specs::Outcome::model_of))]
+    pub(crate) fn timers(&self) -> u8
+        ensures { result ≡ self.now.timers }
+    {
+        self.parts.timers
+    }
+
+    /// How many cancellation slots there are; their numbers are below it.
+    #[tactic(auto, unfolding(crate::specs::Outcome::model_of))]
+    pub(crate) fn slots(&self) -> u8
+        ensures { result ≡ self.now.slots }
+    {
+        self.parts.slots
+    }
+
     /// How many work guards there are; their numbers are below it.
     #[tactic(auto, unfolding(crate::specs::Outcome::model_of))]
     pub fn guards(&self) -> u8
@@ -175,4 +201,26 @@ pub fn read_script(alloc: Global, bytes: &[u8]) -> Result<Script, ScriptFault>
         Ok(script) => Ok(script),
         Err(NoMemory) => Err(ScriptFault::NoMemory),
     }
+}
+
+/// The same session in version 2, whose limits are no less. Takes time and memory in proportion to the script.
+#[tactic(auto, unfolding(crate::specs::Outcome::model_of))]
+pub fn upgrade(alloc: Global, script: &Script) -> Result<Script, NoMemory>
+    ensures { IfOk result (λ new. new ≡ upgraded script.now) }
+{
+    let parts = &script.parts;
+    let acts = copy_entries(alloc, parts.acts.as_slice())?;
+    let world = copy_world(alloc, &parts.world)?;
+    let rounds = Vec::from_slice(alloc, parts.rounds.as_slice())?;
+    let upgraded = Parts {
+        version: 2,
+        strands: parts.strands,
+        timers: parts.timers,
+        slots: parts.slots,
+        guards: parts.guards,
+        acts,
+        world,
+        rounds,
+    };
+    Script::of(alloc, upgraded)
 }

@@ -1,4 +1,5 @@
 mod rows;
+mod script;
 
 use crate::act::Act;
 use crate::parts::Entry;

@@ -1,0 +1,5 @@
+use Rattle.session_script.proofs.Upgrading.{upgraded_is_well_formed}
+use Rattle.session_script.proofs.law.upgraded_scripts_are_well_formed.Goals as goal
+
+pub returns : goal.returns
+returns c = upgraded_is_well_formed

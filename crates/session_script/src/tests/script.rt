@@ -1,0 +1,187 @@
+//! The questions of a script, its text and its upgrade.
+
+use crate::script::{Script, read_script, upgrade};
+use crate::writer::write_script;
+use asio_types::{Class, Lane};
+use std::test::Fail;
+
+/// What a script says of an act.
+#[derive(Clone, Copy, Debug, PartialEq, Eq)]
+struct Row {
+    parent: Option<(u32, Class)>,
+    is_op: bool,
+    is_inline: bool,
+    lane: Lane,
+}
+
+fn at(parent: Option<(u32, Class)>, is_op: bool, is_inline: bool, lane: Lane) -> Row {
+    Row {
+        parent,
+        is_op,
+        is_inline,
+        lane,
+    }
+}
+
+fn seen(script: &Script, a: u32) -> Option<Row> {
+    if a < script.acts() {
+        Some(Row {
+            parent: script.parent_of(a),
+            is_op: script.is_op(a),
+            is_inline: script.is_inline(a),
+            lane: script.lane_of(a),
+        })
+    } else {
+        None
+    }
+}
+
+fn branch(script: &Script, o: u32, class: Class) -> Option<&[u32]> {
+    if o < script.acts() && script.is_op(o) {
+        Some(script.branch(o, class))
+    } else {
+        None
+    }
+}
+
+const OK: Class = Class::Ok;
+
+#[test]
+fn lanes_follow_callers_and_strands(rt: HostRuntime) -> Result<(), Fail> {
+    let text =
+        b"session 1 strands 2 timers 1 slots 1 open { post 0 { dispatch 0 { stop } dispatch 1 { dispatch - { } } \
+        dispatch - { } } dispatch 0 { } stop wait 0 1 0 { post - { dispatch 1 { } dispatch - { } } } abort { stop } \
+        other { dispatch 1 { } } cancel 0 } run 1";
+    let rows = [
+        at(None, true, false, Lane::Strand(0)),
+        at(Some((0, OK)), true, true, Lane::Strand(0)),
+        at(Some((1, OK)), false, false, Lane::Strand(0)),
+        at(Some((0, OK)), true, false, Lane::Strand(1)),
+        at(Some((3, OK)), true, true, Lane::Strand(1)),
+        at(Some((0, OK)), true, true, Lane::Strand(0)),
+        at(None, true, false, Lane::Strand(0)),
+        at(None, false, false, Lane::Reactor),
+        at(None, true, false, Lane::Strand(1)),
+        at(Some((8, OK)), true, false, Lane::Own(9)),
+        at(Some((9, OK)), true, false, Lane::Strand(1)),
+        at(Some((9, OK)), true, true, Lane::Own(9)),
+        at(Some((8, Class::Abort)), false, false, Lane::Strand(1)),
+        at(Some((8, Class::Other)), true, true, Lane::Strand(1)),
+        at(None, false, false, Lane::Reactor),
+    ];
+    let script = read_script(rt.alloc(), text)?;
+    assert_eq!(rt; script.acts(), 15);
+    for (a, row) in rows.iter().enumerate() {
+        assert_eq!(rt; seen(&script, a as u32), Some(*row), "at act {a}");
+    }
+    Ok(())
+}
+
+#[test]
+fn branches_list_their_acts_in_text_order(rt: HostRuntime) -> Result<(), Fail> {
+    let text =
+        b"session 1 timers 1 guards 1 open { post - { post - { } stop } wait 0 - - { stop stop } abort { release 0 } \
+        other { post - { } } stop } restart run 2 poll 3";
+    let script = read_script(rt.alloc(), text)?;
+    assert_eq!(rt; script.opening(), [0, 3, 8].as_slice());
+    assert_eq!(rt; branch(&script, 0, OK), Some([1, 2].as_slice()));
+    assert_eq!(rt; branch(&script, 0, Class::Abort), Some([].as_slice()));
+    assert_eq!(rt; branch(&script, 1, OK), Some([].as_slice()));
+    assert_eq!(rt; branch(&script, 3, OK), Some([4, 5].as_slice()));
+    assert_eq!(rt; branch(&script, 3, Class::Abort), Some([6].as_slice()));
+    assert_eq!(rt; branch(&script, 3, Class::Other), Some([7].as_slice()));
+    assert_eq!(rt; branch(&script, 8, OK), None);
+    assert_eq!(rt; script.version(), 1);
+    assert_eq!(rt; script.guards(), 1);
+    assert_eq!(rt; script.rounds().len(), 2);
+    assert_eq!(rt; script.world().streams, 0);
+    Ok(())
+}
+
+#[test]
+fn a_text_in_one_spelling_is_written_as_it_was_read(rt: HostRuntime) -> Result<(), Fail> {
+    let alloc = rt.alloc();
+    let texts = [
+        "session 1 open { post - { } } run 1",
+        "session 1 open { } run 4 restart run 1",
+        "session 1 strands 1 open { post 0 { } post 0 { } } run 4",
+        "session 1 strands 2 open { post 0 { dispatch 1 { } } } run 2",
+        "session 1 timers 1 slots 1 open { expires 0 5 wait 0 - 0 { } post - { emit 0 1 } } run 1",
+        "session 1 slots 1 streams 1 at 4 feed 0 x6162 open { emit 0 1 read 0 2 - 0 { } emit 0 4 } run 1",
+        "session 1 strands 1 timers 2 open { expires 0 3 expires 1 3 wait 1 0 - { } wait 0 0 - { } } run 1",
+        "session 1 strands 1 streams 1 at 1 feed 0 x61620d at 2 feed 0 x0a63640d0a open { until 0 x0d0a 64 0 - { } } run 1",
+        "session 1 streams 1 at 1 feed 0 x61626364 at 1 end 0 open { read 0 10 - - { } } run 1",
+        "session 1 strands 1 streams 1 open { read 0 4 0 - { } close 0 read 0 4 0 - { } } run 1",
+        "session 1 strands 1 open { post 0 { stop } post 0 { } post 0 { } } run 1 restart run 1",
+        "session 1 guards 1 open { post - { release 0 } } run 1",
+        "session 1 timers 1 open { expires 0 5 wait 0 - - { } } poll 1 run 1",
+        "session 1 streams 1 at 1 room 0 2 at 3 reset 0 open { write 0 x61626364 - - { } } run 1",
+        "session 1 strands 1 timers 1 slots 1 streams 1 at 0 room 0 64 at 2 feed 0 x68690a open { expires 0 10 wait 0 0 - { emit 0 1 } until 0 x0a 64 0 0 { write 0 x68690a 0 - { cancel 0 } } } run 4",
+        "session 2 timers 1 slots 1 open { expiresat 0 7 wait 0 - 0 only 4 { stop } abort { stop } other { stop } } run 1",
+        "session 2 timers 1 streams 1 open { cancelone 0 readsome 0 16384 - - { } other { defer - { } } writesome 0 xff - - { } } run 16",
+    ];
+    for text in texts {
+        let script = read_script(alloc, text.as_bytes())?;
+        let written = write_script(alloc, &script)?;
+        assert_eq!(rt; written.as_slice(), text.as_bytes(), "at {text}");
+    }
+    Ok(())
+}
+
+#[test]
+fn what_means_nothing_is_left_out(rt: HostRuntime) -> Result<(), Fail> {
+    let alloc = rt.alloc();
+    let rows = [
+        (
+            "session 1 strands 0 open { } run 1",
+            "session 1 open { } run 1",
+        ),
+        (
+            "\tsession\r\n2 timers 0 slots 1\nguards 0 open { } run 1 ",
+            "session 2 slots 1 open { } run 1",
+        ),
+        (
+            " session 2\ntimers 1 slots 1 open { wait 0 - 0 only 7 { } abort { } other { stop } } run 1\n",
+            "session 2 timers 1 slots 1 open { wait 0 - 0 { } other { stop } } run 1",
+        ),
+        (
+            "session 2 timers 1 slots 1 open { wait 0 - 0 only 0 { } abort { stop } other { } } run 1",
+            "session 2 timers 1 slots 1 open { wait 0 - 0 only 0 { } abort { stop } } run 1",
+        ),
+    ];
+    for (text, canonical) in rows {
+        let script = read_script(alloc, text.as_bytes())?;
+        let written = write_script(alloc, &script)?;
+        assert_eq!(rt; written.as_slice(), canonical.as_bytes());
+    }
+    Ok(())
+}
+
+#[test]
+fn an_upgrade_changes_the_version_alone(rt: HostRuntime) -> Result<(), Fail> {
+    let alloc = rt.alloc();
+    let rows = [
+        (
+            "session 1 open { post - { } } run 1",
+            "session 2 open { post - { } } run 1",
+        ),
+        (
+            "session 1 strands 3 timers 1 slots 2 streams 1 guards 1 at 5 feed 0 xab at 6 room 0 9 open { wait 0 2 1 { release 0 } abort { stop } until 0 x0a 9 - - { } } restart poll 3 run 2",
+            "session 2 strands 3 timers 1 slots 2 streams 1 guards 1 at 5 feed 0 xab at 6 room 0 9 open { wait 0 2 1 { release 0 } abort { stop } until 0 x0a 9 - - { } } restart poll 3 run 2",
+        ),
+    ];
+    for (text, upgraded) in rows {
+        let script = upgrade(alloc, &read_script(alloc, text.as_bytes())?)?;
+        assert_eq!(rt; script.version(), 2);
+        assert_eq!(rt;
+            write_script(alloc, &script)?.as_slice(),
+            upgraded.as_bytes()
+        );
+        let again = upgrade(alloc, &script)?;
+        assert_eq!(rt;
+            write_script(alloc, &again)?.as_slice(),
+            upgraded.as_bytes()
+        );
+    }
+    Ok(())
+}
