@@ -1,6 +1,6 @@
 -- What a reactor tells, and what its calls answer. Bytes and room are used up before a mark is seen (Asio reference,
 -- `async_read_some`, `async_write_some`); scripted time and its last point are this project's.
-use Rattle.std.specs.Prelude.{ℕ, ◌≡◌, ◌-◌, ◌==◌, ◌<◌, ◌≤◌, ⊤, nat_lt, min, Option, None, Some, Result, Ok, Err, List, ◌++◌, Bool, true, false, if◌then◌else◌, length, drop, filter, replicate}
+use Rattle.std.specs.Prelude.{ℕ, ◌≡◌, ◌-◌, ◌==◌, ◌≤◌, ⊤, nat_lt, min, Option, None, Some, Result, Ok, Err, List, ◌++◌, Bool, true, false, if◌then◌else◌, length, drop, filter, replicate}
 use Rattle.std.specs.List.{slice_index_or, slice_set}
 use Rattle.asio_types.specs.declared.failure.Failed.{Failed}
 use Rattle.asio_types.specs.declared.mark.ReadMark.{ReadMark}

@@ -5,7 +5,7 @@
 
 mod reactor;
 mod schedule;
-//cfg
+#[cfg(test)]
 mod tests;
 
 pub use reactor::Reactor;
