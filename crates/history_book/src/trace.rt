@@ -27,3 +27,6 @@ pub fn write_trace<K: Sink>(history: &History, sink: &mut K) -> Result<(), Faile
 pub fn one_to_one()
     ensures { (first second : List Event) → AreEvents first → AreEvents second → trace_of first ≡ trace_of second → first ≡ second }
 {}
+
+#[cfg(test)]
+mod tests;
