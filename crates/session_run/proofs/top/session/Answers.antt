@@ -18,15 +18,20 @@ pub returns-in-Ok-read_script-clause-answer : goal.returns-in-Ok-read_script-cla
 returns-in-Ok-read_script-clause-answer g c =
     refused g.H.CompletionHandler.marks _ c.args.rack.now c.args.rack.now c.refuse.result 10 0 0 (c.is_run.ensures.0 (cc))
     (unbuilt _ c.in-Ok.text.items c.in-Ok-read_script.script (c.is_run.ensures.0 (cc)) c.in-Ok.ensures.text
-        (subst (λ bytes. IsScript bytes c.in-Ok-read_script.script) c.as_slice.ensures.value c.in-Ok-read_script.ensures.script)
-        (λ built. let yes = c.is_built.ensures.1 built in let no = c.if-is_built.false in cc (yes, no)))
+    (subst (λ bytes. IsScript bytes c.in-Ok-read_script.script) c.as_slice.ensures.value c.in-Ok-read_script.ensures.script)
+    (λ built. let yes = c.is_built.ensures.1 built in let no = c.if-is_built.false in cc (yes, no)))
     c.refuse.ensures.cases
 
 pub returns-in-Ok-read_script-clause-refused : goal.returns-in-Ok-read_script-clause-refused
-returns-in-Ok-read_script-clause-refused g c is =
-    (10, 0, 0, unbuilt _ c.in-Ok.text.items c.in-Ok-read_script.script (c.is_run.ensures.0 (cc)) c.in-Ok.ensures.text
-        (subst (λ bytes. IsScript bytes c.in-Ok-read_script.script) c.as_slice.ensures.value c.in-Ok-read_script.ensures.script)
-        (λ built. let yes = c.is_built.ensures.1 built in let no = c.if-is_built.false in cc (yes, no)), c.refuse.ensures.refused is)
+returns-in-Ok-read_script-clause-refused g c is = (
+  10,
+  0,
+  0,
+  unbuilt _ c.in-Ok.text.items c.in-Ok-read_script.script (c.is_run.ensures.0 (cc)) c.in-Ok.ensures.text
+      (subst (λ bytes. IsScript bytes c.in-Ok-read_script.script) c.as_slice.ensures.value c.in-Ok-read_script.ensures.script)
+      (λ built. let yes = c.is_built.ensures.1 built in let no = c.if-is_built.false in cc (yes, no)),
+  c.refuse.ensures.refused is,
+)
 
 pub returns-clause-answer : goal.returns-clause-answer
 returns-clause-answer g c =
