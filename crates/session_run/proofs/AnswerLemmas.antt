@@ -1,11 +1,10 @@
 -- From what a session did to what its status says.
-use Rattle.std.proofs.Common.{◌≡◌, ◌≤◌, ℕ, List, take, length, refl, ap, arith, ◌∙◌, ◌⊎◌, inl, inr, subst, sym}
+use Rattle.std.proofs.Common.{◌≡◌, ◌≤◌, ℕ, List, take, length, refl, ap, arith, ◌∙◌, ◌⊎◌, inl, inr, subst}
 use Rattle.std.specs.Prelude.{Option, Some, None, Result, Ok, Err, Bool, true, false, nat_lt, if◌then◌else◌}
 use Rattle.std.proofs.lemmas.Bool.Decides.{nat_tests}
 use Rattle.std.proofs.lemmas.List.{take_all}
 use Rattle.asio_types.specs.Faults.{Rose}
 use Rattle.asio_types.specs.Sink.{Extends, ExtendsByPart}
-use Rattle.asio_types.specs.declared.event.Event.{Event}
 use Rattle.session_script.specs.Script.{ScriptModel}
 use Rattle.session_script.specs.Grammar.{IsScript, fault_of, first_fault, reading}
 use Rattle.session_script.specs.Limits.{most_bytes}

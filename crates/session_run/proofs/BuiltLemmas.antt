@@ -1,9 +1,9 @@
 -- A script that can be run is a list of postings and stops.
-use Rattle.std.proofs.Common.{◌≡◌, ℕ, zero, suc, ◌<◌, List, [], ◌∷◌, length, map, refl, arith, ap, sym, ◌∙◌}
+use Rattle.std.proofs.Common.{◌≡◌, ℕ, suc, ◌<◌, List, [], ◌∷◌, length, map, refl, arith, ap, ◌∙◌}
 use Rattle.std.specs.Prelude.{Option, Some, None, slice_get}
 use Rattle.session_script.specs.declared.act.Act.{Act}
 use Rattle.session_script.specs.declared.round.Round.{Round}
-use Rattle.session_script.specs.Script.{Entry, Place, ScriptModel, parent_of}
+use Rattle.session_script.specs.Script.{Entry, Place, ScriptModel}
 use Rattle.session_run.specs.Built.{IsBuilt, IsOneRun}
 use Rattle.session_run.specs.Progress.{IsPostings, in_open}
 

@@ -5,10 +5,10 @@ use Rattle.std.specs.List.{slice_index_or}
 use Rattle.asio_types.specs.declared.code.Code.TheVariants as code
 use Rattle.std.proofs.lemmas.List.{get_or_default}
 use Rattle.session_script.specs.Script.{ScriptModel}
-use Rattle.history_book.specs.State.{State, act_at, call_at, op_at, is_outstanding, is_running, outstanding_work, fresh}
+use Rattle.history_book.specs.State.{State, is_outstanding, is_running, fresh}
 use Rattle.history_book.specs.Calls.{accepted, operates}
 use Rattle.history_book.specs.Legal.{IsWhole}
-use Rattle.history_book.specs.Rounds.{MayEndRound, MayStopRound, NothingRuns, after_closing}
+use Rattle.history_book.specs.Rounds.{MayEndRound, MayStopRound, after_closing}
 use Rattle.history_book.specs.declared.phase.ActState.{ActState}
 use Rattle.history_book.specs.declared.phase.OpPhase.TheVariants as op
 use Rattle.session_run.specs.Progress.{IsPostings, OpenedTo, RanTo, SpentTo}

@@ -1,18 +1,16 @@
 -- Executions of ready postings, one after another.
-use Rattle.std.proofs.Common.{◌≡◌, ◌≢◌, ℕ, ◌+◌, ◌<◌, ◌≤◌, Bool, true, false, List, [], ◌∷◌, length, map, refl, arith, ap, subst, sym, ◌⊎◌, inl, inr, ◌∙◌}
+use Rattle.std.proofs.Common.{◌≡◌, ◌≢◌, ℕ, ◌+◌, ◌<◌, true, false, length, refl, arith, ap, subst, sym, ◌⊎◌, inl, inr, ◌∙◌}
 use Rattle.std.proofs.lemmas.Bool.Decides.{eqb_tells}
 use Rattle.asio_types.specs.declared.code.Class.TheVariants as class
 use Rattle.std.proofs.Math.Nat.{eq-or-lt_of_le}
 use Rattle.std.proofs.Math.ListN.{length-set}
 use Rattle.asio_types.specs.declared.code.Code.TheVariants as code
-use Rattle.session_script.specs.declared.act.Act.{Act}
-use Rattle.session_script.specs.Script.{ScriptModel, numbers_in, opening_of}
+use Rattle.session_script.specs.Script.{ScriptModel, numbers_in}
 use Rattle.std.specs.Prelude.{All, None}
-use Rattle.history_book.specs.State.{State, act_at, call_at, op_at, is_outstanding, is_running, with_op, with_act}
+use Rattle.history_book.specs.State.{State, act_at, call_at, op_at, is_outstanding, with_op}
 use Rattle.history_book.specs.Calls.{accepted, operates}
-use Rattle.history_book.specs.Executions.{MayBegin, MayEnd, after_begin, after_end}
+use Rattle.history_book.specs.Executions.{MayBegin, after_begin, after_end}
 use Rattle.history_book.specs.Rounds.{RoundIsOpen, MayDrop, after_drop}
-use Rattle.history_book.specs.declared.phase.ActState.{ActState}
 use Rattle.history_book.specs.declared.phase.CallPhase.TheVariants as call
 use Rattle.history_book.specs.declared.phase.OpPhase.{OpPhase}
 use Rattle.history_book.specs.declared.phase.OpPhase.TheVariants as op

@@ -1,5 +1,5 @@
 -- The calls of `open`, one after another.
-use Rattle.std.proofs.Common.{◌≡◌, ◌≢◌, ℕ, ◌+◌, ◌<◌, ◌≤◌, Bool, true, false, List, [], ◌∷◌, length, map, refl, arith, ap, subst, sym}
+use Rattle.std.proofs.Common.{◌≡◌, ◌≢◌, ℕ, ◌+◌, ◌<◌, ◌≤◌, Bool, true, false, List, [], ◌∷◌, length, map, refl, arith, ap}
 use Rattle.std.specs.Prelude.{Option, Some, None, All, find, not, if◌then◌else◌}
 use Rattle.std.proofs.Common.{◌⊎◌, inl, inr, ◌∙◌}
 use Rattle.std.proofs.Math.Nat.{eq-or-lt_of_le}
@@ -9,7 +9,7 @@ use Rattle.std.proofs.Math.ListN.{length-set}
 use Rattle.std.proofs.lemmas.List.Elements.{All-nil, All-cons}
 use Rattle.session_script.specs.declared.act.Act.{Act}
 use Rattle.session_script.specs.Script.{ScriptModel, numbers_in, opening_of}
-use Rattle.history_book.specs.State.{State, act_at, call_at, op_at, is_open, is_uncalled, with_act, fresh}
+use Rattle.history_book.specs.State.{State, act_at, call_at, is_open, is_uncalled, with_act, fresh}
 use Rattle.history_book.specs.declared.phase.ActState.{ActState}
 use Rattle.history_book.specs.declared.phase.CallPhase.TheVariants as call
 use Rattle.history_book.specs.Calls.{MayCall, NoCallIsOpen, accepted, after_call, after_return, after_stop, stops}

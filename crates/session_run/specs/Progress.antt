@@ -1,6 +1,5 @@
 -- How far a session of plain postings and stops has come.
 use Rattle.std.specs.Prelude.{◌≡◌, ◌<◌, ◌≤◌, ℕ, true, false, not, length, map, List, None}
-use Rattle.asio_types.specs.declared.code.Code.TheVariants as code
 use Rattle.session_script.specs.declared.act.Act.{Act}
 use Rattle.session_script.specs.Script.{Entry, ScriptModel}
 use Rattle.history_book.specs.State.{State, act_at, call_at, op_at, fresh, is_outstanding}

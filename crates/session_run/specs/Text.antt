@@ -1,5 +1,5 @@
 -- What a session reads from its source.
-use Rattle.std.specs.Prelude.{◌≡◌, ◌≤◌, ℕ, List, length, take, drop, Option, Some, None, ⊤}
+use Rattle.std.specs.Prelude.{◌≡◌, ◌≤◌, ℕ, List, take, drop, Option, Some, None, ⊤}
 
 -- the most bytes that are read: one more than a script may have
 abbrev pub most_read : ℕ

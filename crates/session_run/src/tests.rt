@@ -133,33 +133,41 @@ fn postings_run_in_order_with_their_handlers(rt: HostRuntime) -> Result<(), Fail
 }
 
 #[test]
-fn faults_have_their_status(rt: HostRuntime) -> Result<(), Fail> {
+fn a_failing_write_leaves_the_first_lines(rt: HostRuntime) -> Result<(), Fail> {
     let alloc = rt.alloc();
     let text = script_of(alloc, "post - { }")?;
-    let run = words_of(alloc, "run")?;
-    let run_run = words_of(alloc, "run run")?;
-
+    let words = words_of(alloc, "run")?;
     let mut source = SureSource::make(alloc, text.as_bytes())?;
     let mut out = TextSink::make(alloc, 256, &[3])?;
-    let status = status_of(alloc, run.as_slice(), &mut source, &mut out, &[])?;
+    let status = status_of(alloc, words.as_slice(), &mut source, &mut out, &[])?;
     assert_eq!(rt; status, Status::WriteFault);
     assert_eq!(rt; out.bytes(), b"call 0\nback 0\n".as_slice());
+    Ok(())
+}
 
-    let mut failing = TextSource::make(alloc, text.as_bytes(), &[1])?;
+#[test]
+fn a_failing_read_writes_nothing(rt: HostRuntime) -> Result<(), Fail> {
+    let alloc = rt.alloc();
+    let text = script_of(alloc, "post - { }")?;
+    let words = words_of(alloc, "run")?;
+    let mut source = TextSource::make(alloc, text.as_bytes(), &[1])?;
     let mut out = SureSink::make(alloc, 256)?;
-    let status = status_of(alloc, run.as_slice(), &mut failing, &mut out, &[])?;
+    let status = status_of(alloc, words.as_slice(), &mut source, &mut out, &[])?;
     assert_eq!(rt; status, Status::ReadFault);
     assert_eq!(rt; out.bytes(), b"".as_slice());
+    Ok(())
+}
 
-    let status = status_of(alloc, run_run.as_slice(), &mut failing, &mut out, &[])?;
+#[test]
+fn other_words_leave_the_source_unread(rt: HostRuntime) -> Result<(), Fail> {
+    let alloc = rt.alloc();
+    let words = words_of(alloc, "run run")?;
+    let mut source = SureSource::make(alloc, b"session")?;
+    let mut out = SureSink::make(alloc, 256)?;
+    let status = status_of(alloc, words.as_slice(), &mut source, &mut out, &[])?;
     assert_eq!(rt; status, Status::Usage);
-    assert_eq!(rt; out.bytes(), b"".as_slice());
     let mut buf = [0; 64];
-    assert_eq!(rt;
-        failing.read(&mut buf),
-        Ok(text.len()),
-        "the source is unread"
-    );
+    assert_eq!(rt; source.read(&mut buf), Ok(7));
     Ok(())
 }
 

@@ -1,5 +1,4 @@
 use Rattle.std.proofs.Common.{arith, ap, ◌∙◌}
-use Rattle.std.specs.Prelude.{IsSome}
 use Rattle.session_run.specs.RackMarks.{run_mark, drop_mark, mark_by}
 use Rattle.session_run.proofs.destruction.destroy_all.Goals as goal
 

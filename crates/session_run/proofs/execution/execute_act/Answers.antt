@@ -1,4 +1,4 @@
-use Rattle.std.proofs.Common.{true, ap, ◌∙◌, sym}
+use Rattle.std.proofs.Common.{true, ap, ◌∙◌}
 use Rattle.history_book.specs.Legal.{state_of}
 use Rattle.session_run.specs.RackMarks.{mark_by}
 use Rattle.session_run.proofs.ExecutionLemmas.{passed}

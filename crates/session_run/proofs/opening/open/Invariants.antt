@@ -1,4 +1,4 @@
-use Rattle.std.proofs.Common.{◌≡◌, ◌≤◌, ◌+◌, ◌*◌, ℕ, length, true}
+use Rattle.std.proofs.Common.{◌≡◌, ◌≤◌, ◌+◌, ◌*◌, ℕ, true}
 use Rattle.history_book.specs.Legal.{IsLegalSoFar, state_of}
 use Rattle.history_book.specs.Marks.{HasMarks}
 use Rattle.session_run.specs.Progress.{OpenedTo}

@@ -1,6 +1,6 @@
 use Rattle.std.proofs.Common.{ap, ◌∙◌}
 use Rattle.std.specs.Prelude.{true, false, replicate}
-use Rattle.history_book.specs.State.{State, fresh}
+use Rattle.history_book.specs.State.{fresh}
 use Rattle.history_book.proofs.replay.Replay.make.Goals as goal
 
 pub returns-clause-state : goal.returns-clause-state
