@@ -36,12 +36,8 @@ fn seen(script: &Script, a: u32) -> Option<Row> {
     }
 }
 
-fn branch(script: &Script, o: u32, class: Class) -> Option<&[u32]> {
-    if o < script.acts() && script.is_op(o) {
-        Some(script.branch(o, class))
-    } else {
-        None
-    }
+fn has_branch(script: &Script, o: u32, class: Class, acts: &[u32]) -> bool {
+    o < script.acts() && script.is_op(o) && script.branch(o, class) == acts
 }
 
 const OK: Class = Class::Ok;
@@ -84,13 +80,13 @@ fn branches_list_their_acts_in_text_order(rt: HostRuntime) -> Result<(), Fail> {
         other { post - { } } stop } restart run 2 poll 3";
     let script = read_script(rt.alloc(), text)?;
     assert_eq!(rt; script.opening(), [0, 3, 8].as_slice());
-    assert_eq!(rt; branch(&script, 0, OK), Some([1, 2].as_slice()));
-    assert_eq!(rt; branch(&script, 0, Class::Abort), Some([].as_slice()));
-    assert_eq!(rt; branch(&script, 1, OK), Some([].as_slice()));
-    assert_eq!(rt; branch(&script, 3, OK), Some([4, 5].as_slice()));
-    assert_eq!(rt; branch(&script, 3, Class::Abort), Some([6].as_slice()));
-    assert_eq!(rt; branch(&script, 3, Class::Other), Some([7].as_slice()));
-    assert_eq!(rt; branch(&script, 8, OK), None);
+    assert!(rt; has_branch(&script, 0, OK, &[1, 2]));
+    assert!(rt; has_branch(&script, 0, Class::Abort, &[]));
+    assert!(rt; has_branch(&script, 1, OK, &[]));
+    assert!(rt; has_branch(&script, 3, OK, &[4, 5]));
+    assert!(rt; has_branch(&script, 3, Class::Abort, &[6]));
+    assert!(rt; has_branch(&script, 3, Class::Other, &[7]));
+    assert!(rt; !has_branch(&script, 8, OK, &[]));
     assert_eq!(rt; script.version(), 1);
     assert_eq!(rt; script.guards(), 1);
     assert_eq!(rt; script.rounds().len(), 2);
