@@ -60,7 +60,8 @@ fn a_world_keeps_its_lines(rt: HostRuntime) -> Result<(), Refused> {
         streams: 1,
         lines: Lines::of(lines),
     };
-    assert_eq!(rt; world.lines.as_slice().len(), 1);
+    let copy = Lines::from_slice(alloc, world.lines.as_slice())?;
+    assert_eq!(rt; copy.as_slice()[0].time, 4);
     assert_eq!(rt; world.lines.into_vec().len(), 1);
     Ok(())
 }

@@ -1,7 +1,9 @@
-ghost use Rattle.std.specs.Prelude.{◌≡◌};
+ghost use Rattle.std.specs.Prelude.{◌≡◌, IfOk};
 
 use crate::bytes::Bytes;
+use crate::failure::NoMemory;
 use crate::number::StreamNo;
+use std::alloc::Global;
 use std::marker::Model;
 
 /// The scripted outside: how many streams there are, and what happens to them when.
@@ -25,7 +27,7 @@ pub struct Line {
 }
 
 /// What happens to a stream.
-#[derive(Debug, Drop)]
+#[derive(Clone, Debug, Drop)]
 pub enum What {
     /// These bytes arrive.
     Feed(Bytes),
@@ -35,6 +37,13 @@ pub enum What {
     Reset,
     /// The peer takes so many bytes more.
     Room(u32),
+}
+
+/// A derived clone says of each field that it is a clone; this says that the copy is the same.
+fn copy_of(what: &What) -> Result<What, NoMemory>
+    ensures { IfOk result (λ copy. copy ≡ what.now) }
+{
+    Ok(what.clone()?)
 }
 
 /// The lines of a world. Contracts see the list of them.
@@ -58,6 +67,22 @@ impl Lines {
         ensures { result ≡ items.items }
     {
         Lines { items }
+    }
+
+    /// A copy of these lines. Takes memory in proportion to them and their bytes.
+    pub fn from_slice(alloc: Global, lines: &[Line]) -> Result<Lines, NoMemory>
+        ensures { IfOk result (λ copy. copy ≡ lines.now) }
+    {
+        let mut items = Vec::with_capacity(alloc, lines.len())?;
+        for line in lines {
+            let what = copy_of(&line.what)?;
+            items.push(Line {
+                time: line.time,
+                stream: line.stream,
+                what,
+            })?;
+        }
+        Ok(Lines { items })
     }
 
     /// The lines.
