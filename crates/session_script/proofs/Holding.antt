@@ -101,7 +101,7 @@ bar_passes P false r violated p = p refl
 is_less : (a b : ℕ) → nat_lt a b ≡ true → a < b
 is_less a b h = grind (arith, nat_tests)
 
-both : (a b : Bool) → (a && b) ≡ true → (a ≡ true) × (b ≡ true)
+pub both : (a b : Bool) → (a && b) ≡ true → (a ≡ true) × (b ≡ true)
 both true true h = (refl, refl)
 both true false h = (refl, h)
 both false b h = (h, absurd (cc))
@@ -142,20 +142,20 @@ unfolding another one_more
 another_reads text full = one_reads (one_more text full) (λ bs. bind_passes (λ u. Unit {0}) (λ u. full ≡ false) (exactly text bs) _ (any_passes (exactly text bs)) (λ u _. bar_passes (λ u. full ≡ false) full (Ok tt) _ (λ free. free)))
 
 -- half as many bytes as digits
-decoded_size : (digits : List ℕ) → (2 * length (decoded digits) ≤ length digits) × (length digits ≤ 2 * length (decoded digits) + 1)
+pub decoded_size : (digits : List ℕ) → (2 * length (decoded digits) ≤ length digits) × (length digits ≤ 2 * length (decoded digits) + 1)
 decoded_size [] = (omega arith, omega arith)
 decoded_size (high ∷ []) = (omega arith, omega arith)
 decoded_size (high ∷ low ∷ digits) = let p = decoded_size digits in (omega (arith, p.0), omega (arith, p.1))
 
-data_long : (bs : List ℕ) → is_data bs ≡ true → 3 ≤ length bs
+pub data_long : (bs : List ℕ) → is_data bs ≡ true → 3 ≤ length bs
 unfolding is_data
 data_long bs h = grind (arith, nat_tests, both (nat_le 3 (length bs)) _ (both _ _ (both _ _ h).0).0)
 
-not_false : (b : Bool) → not b ≡ false → b ≡ true
+pub not_false : (b : Bool) → not b ≡ false → b ≡ true
 not_false true h = refl
 not_false false h = sym h
 
-digits_pass : (most : ℕ) (bs : List ℕ) → Passes (λ ds. (2 ≤ length ds) × (length ds / 2 ≤ most)) (data_digits most bs)
+pub digits_pass : (most : ℕ) (bs : List ℕ) → Passes (λ ds. (2 ≤ length ds) × (length ds / 2 ≤ most)) (data_digits most bs)
 unfolding data_digits
 digits_pass most bs = bar_passes (λ ds. (2 ≤ length ds) × (length ds / 2 ≤ most)) (not (is_data bs)) (cond (nat_le (length bs / 2) most) (Ok (drop 1 bs)) (Err _)) _ (λ is.
     guard_passes (λ ds. (2 ≤ length ds) × (length ds / 2 ≤ most)) (nat_le (length bs / 2) most) (drop 1 bs) _ (λ fits.

@@ -24,7 +24,7 @@ pub text_ends : (line count : ℕ) → tokens_from line count [] [] ≡ end (pos
 unfolding tokens_from
 text_ends line count = refl
 
-run_is_token : (line count : ℕ) (run rest : List ℕ) → 0 < length run → (0 < length rest → is_printable (get_or rest 0 0) ≡ false) → tokens_from line count run rest ≡ token run (position_of line count) (tokens_from line (count + 1) [] rest)
+pub run_is_token : (line count : ℕ) (run rest : List ℕ) → 0 < length run → (0 < length rest → is_printable (get_or rest 0 0) ≡ false) → tokens_from line count run rest ≡ token run (position_of line count) (tokens_from line (count + 1) [] rest)
 run_is_token line count [] rest some stops = absurd (omega arith)
 run_is_token line count (b ∷ run) rest some stops = run_ends line count b run rest stops
 

@@ -1,8 +1,9 @@
 -- What is read is spelled so, by the grammar as it is written.
-use Rattle.std.proofs.Common.{◌≡◌, ℕ, Bool, true, false, not, cond, ◌&&◌, ◌||◌, List, ◌∷◌, Option, Some, None, Result, Ok, Err, refl, ap, ◌∙◌, inl, inr}
+use Rattle.std.proofs.Common.{◌≡◌, ℕ, Bool, true, false, not, cond, ◌&&◌, ◌||◌, List, ◌∷◌, Option, Some, None, Result, Ok, Err, refl, sym, ap, ◌∙◌, inl, inr}
 use Rattle.std.specs.Prelude.{nat_eq, nat_lt, nat_le, is_none}
 use Rattle.std.specs.Str.{bytes_eq}
 use Rattle.std.proofs.lemmas.Slice.Eq.{bytes_eq-Decides}
+use Rattle.std.proofs.lemmas.Bool.{false≢true}
 use lib.Chars.{codes}
 use Rattle.session_script.specs.declared.refusal.Rule.{Rule}
 use Rattle.session_script.specs.declared.refusal.Rule.TheVariants as rule
@@ -12,7 +13,7 @@ use Rattle.session_script.specs.Tokens.{Tokens, end, token, begins}
 use Rattle.session_script.specs.Kinds as kinds
 use Rattle.session_script.specs.Kinds.{misplaced, number, exactly, one_more, within, known, chosen, version, data_digits, decoded}
 use Rattle.session_script.specs.Productions.{and_then, ◌>>=◌, done, judged, one, word, another, bounded, declared_number, optional, types, plug, bytes, count}
-use Rattle.session_script.specs.Text.{words_of, Words, IsWord, IsN, IsDashOrN, IsPlugText, IsDataText, IsCountText}
+use Rattle.session_script.specs.Text.{words_of, Words, IsWord, IsN, IsDashOrN, IsLater, IsPlugText, IsDataText, IsCountText}
 
 -- of what was read
 abbrev pub Spelt : {A : Type 0} → (A → Words → Words → Type 0) → Tokens → Result (A × Tokens) Refusal → Type 0
@@ -146,9 +147,24 @@ pub types_spells : Spells IsN types
 unfolding types
 types_spells = bounded_spells 0 7
 
-pub plug_spells : (h : Header) → Spells (λ p. IsPlugText p.0 p.1) (plug h)
+pub is_later : (v : ℕ) → nat_eq v 1 ≡ false → IsLater v
+is_later v other first = absurd (false≢true (sym other ∙ ap (λ n. nat_eq n 1) first))
+
+abbrev PlugText : ℕ → Option ℕ × ℕ → Words → Words → Type 0
+PlugText v p ws rest = IsPlugText v p.0 p.1 ws rest
+
+-- what stands after a slot
+filter_spells : (v : ℕ) (first : Bool) (slot : ℕ) → nat_eq v 1 ≡ first → Spells (After IsDashOrN (PlugText v) (Some slot)) (λ ts. cond (first || not (begins (codes "only") ts)) (Ok ((Some slot, 7), ts)) ((word (codes "only") >>= λ _. types >>= λ kinds. done (Some slot, kinds)) ts))
+filter_spells v true slot is = done_spells (λ mid ws p. inl (p, refl))
+filter_spells v false slot is = else_spells (λ ts. not (begins (codes "only") ts)) (Some slot, 7) (λ mid ws p. inl (p, refl)) (then_spells (word_spells (codes "only")) (λ _. then_spells types_spells (λ k. done_spells (λ rest b kinds a only ws p. inr (is_later v is, (slot, a, b, refl, p, only, kinds))))))
+
+pub plug_spells : (h : Header) → Spells (λ p. IsPlugText h.version p.0 p.1) (plug h)
 unfolding plug
-plug_spells h = then_spells (optional_spells h.slots) (λ slot. else_spells (λ ts. is_none slot || nat_eq h.version 1 || not (begins (codes "only") ts)) (slot, 7) (λ mid ws p. inl (p, refl)) (then_spells (word_spells (codes "only")) (λ _. then_spells types_spells (λ k. done_spells (λ rest a filter b only ws p. inr (b, a, p, only, filter))))))
+plug_spells h = then_spells (optional_spells h.slots) plug_after
+  where
+    plug_after : (slot : Option ℕ) → Spells (After IsDashOrN (PlugText h.version) slot) (λ ts. cond (is_none slot || nat_eq h.version 1 || not (begins (codes "only") ts)) (Ok ((slot, 7), ts)) ((word (codes "only") >>= λ _. types >>= λ kinds. done (slot, kinds)) ts))
+    plug_after None = done_spells (λ mid ws p. inl (p, refl))
+    plug_after (Some slot) = filter_spells h.version (nat_eq h.version 1) slot refl
 
 pub bytes_spells : (most : ℕ) → Spells IsDataText (bytes most)
 unfolding bytes

@@ -15,11 +15,13 @@ use Rattle.session_script.specs.declared.parts.Header.{Header}
 use Rattle.session_script.specs.declared.reader.line.LineWord.{LineWord}
 use Rattle.session_script.specs.declared.reader.line.LineWord.TheVariants as lines
 use Rattle.session_script.specs.Script.{Entry, ScriptModel}
+use Rattle.session_script.specs.Limits.{limits_of}
+use Rattle.session_script.specs.declared.limits.Limits.{Limits}
 use Rattle.session_script.specs.Tokens.{Tokens, end, token, begins, token_count, tokens_of}
 use Rattle.session_script.specs.Kinds.{misplaced, pace_word}
 use Rattle.session_script.specs.Productions.{one, many, repeated, header, line_word, what_happens, line, next_line, world_lines, restart, round, begins_round, next_round, session_rounds}
 use Rattle.session_script.specs.Grammar.{are_released, ends, script, whole, IsScript}
-use Rattle.session_script.specs.Text.{words_of, Words, IsWord, IsN, IsCountText, IsWhatText, IsLineText, IsLinesText, pace_text, IsRestartText, IsRoundText, IsRoundsText, IsScriptText}
+use Rattle.session_script.specs.Text.{words_of, Words, IsWord, IsN, IsCountText, IsWhatText, IsLineText, IsLinesText, IsBodyText, pace_text, IsRestartText, IsRoundText, IsRoundsText, IsScriptText}
 use Rattle.session_script.proofs.Reading.{Told, script_has}
 use Rattle.session_script.proofs.Spelled.{Spelt, choice_spelt, Spells, then_spells, done_spells, weaker_spells, if_spells, Says, OneWord, one_spells, choice_says, is_text, word_spells, another_spells, bounded_spells, declared_spells, version_spells, bytes_spells, count_spells}
 use Rattle.session_script.proofs.SpelledActs.{body_spells}
@@ -118,7 +120,7 @@ rounds_spell h = then_spells (round_spells h false) (λ first. weaker_spells (Ap
 
 -- what the reader of declarations gives is spelled so
 abbrev IsHeaderText : Header → Words → Words → Type 0
-IsHeaderText h ws rest = (a : Words) × (b : Words) × (c : Words) × (d : Words) × (e : Words) × (f : Words) × IsWord (codes "session") ws a × IsN h.version a b × IsCountText (codes "strands") h.strands b c × IsCountText (codes "timers") h.timers c d × IsCountText (codes "slots") h.slots d e × IsCountText (codes "streams") h.streams e f × IsCountText (codes "guards") h.guards f rest
+IsHeaderText h ws rest = (a : Words) × (b : Words) × (c : Words) × (d : Words) × (e : Words) × (f : Words) × IsWord (codes "session") ws a × IsN h.version a b × IsCountText (codes "strands") h.strands b c × IsCountText (codes "timers") h.timers c d × IsCountText (codes "slots") h.slots d e × IsCountText (codes "streams") h.streams e f × IsCountText (codes "guards") h.guards f rest × (h.limits ≡ limits_of h.version)
 
 header_spells : Spells IsHeaderText header
 unfolding header
@@ -130,7 +132,7 @@ header_spells =
     then_spells (count_spells (codes "slots") _) (λ slots.
     then_spells (count_spells (codes "streams") _) (λ streams.
     then_spells (count_spells (codes "guards") _) (λ guards.
-    done_spells (λ rest f is_guards e is_streams d is_slots c is_timers b is_strands a is_version ws is_session. (a, b, c, d, e, f, is_session, is_version, is_strands, is_timers, is_slots, is_streams, is_guards)))))))))
+    done_spells (λ rest f is_guards e is_streams d is_slots c is_timers b is_strands a is_version ws is_session. (a, b, c, d, e, f, is_session, is_version, is_strands, is_timers, is_slots, is_streams, is_guards, refl)))))))))
 
 -- the text ends
 end_spelt : (guards : ℕ) (acts : List Entry) (ts : Tokens) → Spelt (λ u ws rest. (ws ≡ []) × (rest ≡ [])) ts (ends guards acts ts)
@@ -163,7 +165,7 @@ script_spells =
       decls = (is_header.2, is_header.3, is_header.4, is_header.5, is_header.8, is_header.9, is_header.10, is_header.11, is_header.12);
       lines = are_lines;
       open_word = is_open;
-      acts = is_body;
+      acts = subst (λ (limits : Limits). IsBodyText head.version limits.nesting None [] acts r4 r5) is_header.13 is_body;
       some_round = are_rounds.1;
       rounds = subst (λ (left : Words). IsRoundsText rounds r5 left) ended.0 are_rounds.0;
     })))))))

@@ -1,7 +1,6 @@
 -- What is within the limits of a version is within those of version 2.
-use Rattle.std.proofs.Common.{◌≡◌, ℕ, ◌<◌, ◌≤◌, Bool, true, false, cond, List, length, get_or, Option, Some, None, refl, inr, arith}
-use Rattle.std.specs.Prelude.{IfSome, nat_eq}
-use Rattle.std.specs.List.{All}
+use Rattle.std.proofs.Common.{◌≡◌, ℕ, ◌≤◌, Bool, true, false, cond, List, length, get_or, refl, inr, arith}
+use Rattle.std.specs.Prelude.{nat_eq}
 use Rattle.asio_types.specs.declared.world.Line.{Line}
 use Rattle.asio_types.specs.declared.world.What.{What}
 use Rattle.asio_types.specs.declared.world.What.TheVariants as what
@@ -12,7 +11,7 @@ use Rattle.session_script.specs.declared.limits.Limits.{Limits}
 use Rattle.session_script.specs.declared.parts.Header.{Header}
 use Rattle.session_script.specs.Script.{Entry, ScriptModel}
 use Rattle.session_script.specs.Limits.{limits_of}
-use Rattle.session_script.specs.WellFormed.{IsSize, IsLane, IsPlug, FitsAct, FitsWhat, FitsLine, FitsRound, IsPlaced, IsForest, header_of, IsWellFormed}
+use Rattle.session_script.specs.WellFormed.{IsSize, FitsAct, FitsWhat, FitsLine, FitsRound, IsForest, header_of, IsWellFormed}
 use Rattle.session_script.specs.Spelling.{upgraded}
 
 -- limits that are no less

@@ -9,6 +9,7 @@ pub mod Grammar
 pub mod Outcome
 pub mod WellFormed
 pub mod Text
+pub mod Spelled
 pub mod Lanes
 pub mod Groups
 pub mod Layout

@@ -1,6 +1,6 @@
 -- The grammar as it is written: which words spell a script, apart from how they are read. Each production relates what is
 -- spelled to the words from some word on and the words after it.
-use Rattle.std.specs.Prelude.{◌≡◌, ℕ, ◌≤◌, ◌⊎◌, Bool, true, false, List, [], ◌∷◌, ◌++◌, length, Option, Some, None, Ok}
+use Rattle.std.specs.Prelude.{◌≡◌, ℕ, suc, ◌≤◌, ◌⊎◌, Bool, true, false, List, [], ◌∷◌, ◌++◌, length, Option, Some, None, Ok}
 use lib.Chars.{codes}
 use Rattle.asio_types.specs.declared.code.Class.TheVariants as class
 use Rattle.asio_types.specs.declared.world.Line.{Line}
@@ -16,6 +16,7 @@ use Rattle.session_script.specs.declared.reader.body.Bodies.TheVariants as bodie
 use Rattle.session_script.specs.Script.{Place, Entry, ScriptModel}
 use Rattle.session_script.specs.Tokens.{Tokens, end, token}
 use Rattle.session_script.specs.Kinds.{number, data_digits, decoded}
+use Rattle.session_script.specs.Limits.{limits_of}
 use Rattle.session_script.specs.Acts.{bodies_of}
 
 -- the words of a list of tokens
@@ -39,9 +40,13 @@ abbrev pub IsDashOrN : Option ℕ → Words → Words → Type 0
 IsDashOrN None ws rest = IsWord (codes "-") ws rest
 IsDashOrN (Some n) ws rest = IsN n ws rest
 
--- PLUG = "-" | SLOT | SLOT "only" N
-abbrev pub IsPlugText : Option ℕ → ℕ → Words → Words → Type 0
-IsPlugText slot filter ws rest = (IsDashOrN slot ws rest × (filter ≡ 7)) ⊎ ((a : Words) × (b : Words) × IsDashOrN slot ws a × IsWord (codes "only") a b × IsN filter b rest)
+-- of what version 1 doesn't have
+abbrev pub IsLater : ℕ → Type 0
+IsLater version = version ≡ 1 → ⊥
+
+-- PLUG = "-" | SLOT | SLOT "only" N, the last in version 2 alone; without a filter all types pass
+abbrev pub IsPlugText : ℕ → Option ℕ → ℕ → Words → Words → Type 0
+IsPlugText version slot filter ws rest = (IsDashOrN slot ws rest × (filter ≡ 7)) ⊎ (IsLater version × ((n : ℕ) × (a : Words) × (b : Words) × (slot ≡ Some n) × IsN n ws a × IsWord (codes "only") a b × IsN filter b rest))
 
 -- DATA
 abbrev pub IsDataText : List ℕ → Words → Words → Type 0
@@ -81,8 +86,8 @@ IsRoundsText [] ws rest = ws ≡ rest
 IsRoundsText (round ∷ rounds) ws rest = (a : Words) × IsRoundText round ws a × IsRoundsText rounds a rest
 
 -- what stands after the timer or the stream of an operation
-abbrev pub IsTail : Option ℕ → Option ℕ → ℕ → Words → Words → Type 0
-IsTail strand slot filter ws rest = (a : Words) × IsDashOrN strand ws a × IsPlugText slot filter a rest
+abbrev pub IsTail : ℕ → Option ℕ → Option ℕ → ℕ → Words → Words → Type 0
+IsTail version strand slot filter ws rest = (a : Words) × IsDashOrN strand ws a × IsPlugText version slot filter a rest
 
 -- the word of an act
 abbrev pub act_text : Act → List ℕ
@@ -105,49 +110,55 @@ act_text (act.Release guard) = codes "release"
 act_text act.Stop = codes "stop"
 
 -- what an act has after its word, without its bodies
-abbrev pub IsFieldsText : Act → Words → Words → Type 0
-IsFieldsText (act.Post strand) ws rest = IsDashOrN strand ws rest
-IsFieldsText (act.Defer strand) ws rest = IsDashOrN strand ws rest
-IsFieldsText (act.Dispatch strand) ws rest = IsDashOrN strand ws rest
-IsFieldsText (act.Expires timer after) ws rest = (a : Words) × IsN timer ws a × IsN after a rest
-IsFieldsText (act.ExpiresAt timer at) ws rest = (a : Words) × IsN timer ws a × IsN at a rest
-IsFieldsText (act.Wait timer strand slot filter) ws rest = (a : Words) × IsN timer ws a × IsTail strand slot filter a rest
-IsFieldsText (act.Cancel timer) ws rest = IsN timer ws rest
-IsFieldsText (act.CancelOne timer) ws rest = IsN timer ws rest
-IsFieldsText (act.Emit slot kinds) ws rest = (a : Words) × IsN slot ws a × IsN kinds a rest
-IsFieldsText (act.ReadSome stream size strand slot filter) ws rest = (a : Words) × (b : Words) × IsN stream ws a × IsN size a b × IsTail strand slot filter b rest
-IsFieldsText (act.ReadAll stream size strand slot filter) ws rest = (a : Words) × (b : Words) × IsN stream ws a × IsN size a b × IsTail strand slot filter b rest
-IsFieldsText (act.Until stream delimiter max strand slot filter) ws rest = (a : Words) × (b : Words) × (c : Words) × IsN stream ws a × IsDataText delimiter a b × IsN max b c × IsTail strand slot filter c rest
-IsFieldsText (act.WriteSome stream bytes strand slot filter) ws rest = (a : Words) × (b : Words) × IsN stream ws a × IsDataText bytes a b × IsTail strand slot filter b rest
-IsFieldsText (act.WriteAll stream bytes strand slot filter) ws rest = (a : Words) × (b : Words) × IsN stream ws a × IsDataText bytes a b × IsTail strand slot filter b rest
-IsFieldsText (act.Close stream) ws rest = IsN stream ws rest
-IsFieldsText (act.Release guard) ws rest = IsN guard ws rest
-IsFieldsText act.Stop ws rest = ws ≡ rest
+abbrev pub IsFieldsText : ℕ → Act → Words → Words → Type 0
+IsFieldsText version (act.Post strand) ws rest = IsDashOrN strand ws rest
+IsFieldsText version (act.Defer strand) ws rest = IsDashOrN strand ws rest
+IsFieldsText version (act.Dispatch strand) ws rest = IsDashOrN strand ws rest
+IsFieldsText version (act.Expires timer after) ws rest = (a : Words) × IsN timer ws a × IsN after a rest
+IsFieldsText version (act.ExpiresAt timer at) ws rest = (a : Words) × IsN timer ws a × IsN at a rest
+IsFieldsText version (act.Wait timer strand slot filter) ws rest = (a : Words) × IsN timer ws a × IsTail version strand slot filter a rest
+IsFieldsText version (act.Cancel timer) ws rest = IsN timer ws rest
+IsFieldsText version (act.CancelOne timer) ws rest = IsN timer ws rest
+IsFieldsText version (act.Emit slot kinds) ws rest = (a : Words) × IsN slot ws a × IsN kinds a rest
+IsFieldsText version (act.ReadSome stream size strand slot filter) ws rest = (a : Words) × (b : Words) × IsN stream ws a × IsN size a b × IsTail version strand slot filter b rest
+IsFieldsText version (act.ReadAll stream size strand slot filter) ws rest = (a : Words) × (b : Words) × IsN stream ws a × IsN size a b × IsTail version strand slot filter b rest
+IsFieldsText version (act.Until stream delimiter max strand slot filter) ws rest = (a : Words) × (b : Words) × (c : Words) × IsN stream ws a × IsDataText delimiter a b × IsN max b c × IsTail version strand slot filter c rest
+IsFieldsText version (act.WriteSome stream bytes strand slot filter) ws rest = (a : Words) × (b : Words) × IsN stream ws a × IsDataText bytes a b × IsTail version strand slot filter b rest
+IsFieldsText version (act.WriteAll stream bytes strand slot filter) ws rest = (a : Words) × (b : Words) × IsN stream ws a × IsDataText bytes a b × IsTail version strand slot filter b rest
+IsFieldsText version (act.Close stream) ws rest = IsN stream ws rest
+IsFieldsText version (act.Release guard) ws rest = IsN guard ws rest
+IsFieldsText version act.Stop ws rest = ws ≡ rest
+
+-- `expiresat` belongs to version 2 alone
+abbrev pub BelongsTo : ℕ → Act → Type 0
+BelongsTo version (act.ExpiresAt timer at) = IsLater version
+BelongsTo version _ = Unit {0}
 
 -- an act, without its bodies
-abbrev pub IsActText : Act → Words → Words → Type 0
-IsActText made ws rest = (a : Words) × IsWord (act_text made) ws a × IsFieldsText made a rest
+abbrev pub IsActText : ℕ → Act → Words → Words → Type 0
+IsActText version made ws rest = (a : Words) × BelongsTo version made × IsWord (act_text made) ws a × IsFieldsText version made a rest
 
 mutual
-  -- body = "{" act* "}": the acts in it are appended to those before, and stand in this place
-  pub data IsBodyText : Place → List Entry → List Entry → Words → Words → Type 0 where
-    in_braces : {place : Place} {before after : List Entry} {ws rest : Words} (a b : Words) → IsWord (codes "{") ws a → IsActsText place before after a b → IsWord (codes "}") b rest → IsBodyText place before after ws rest
+  -- body = "{" act* "}", where so many levels are left, this one among them: the acts in it are appended to those before, and
+  -- stand in this place
+  pub data IsBodyText (version : ℕ) : ℕ → Place → List Entry → List Entry → Words → Words → Type 0 where
+    in_braces : {levels : ℕ} {place : Place} {before after : List Entry} {ws rest : Words} (a b : Words) → IsWord (codes "{") ws a → IsActsText version levels place before after a b → IsWord (codes "}") b rest → IsBodyText version (suc levels) place before after ws rest
 
   -- act*
-  pub data IsActsText : Place → List Entry → List Entry → Words → Words → Type 0 where
-    no_act : {place : Place} {acts : List Entry} {ws : Words} → IsActsText place acts acts ws ws
-    an_act : {place : Place} {before after : List Entry} {ws rest : Words} (made : Act) (with_bodies : List Entry) (a b : Words) → IsActText made ws a → IsBodiesText (bodies_of made) (length before) (before ++ record { act = made; parent = place } ∷ []) with_bodies a b → IsActsText place with_bodies after b rest → IsActsText place before after ws rest
+  pub data IsActsText (version : ℕ) : ℕ → Place → List Entry → List Entry → Words → Words → Type 0 where
+    no_act : {levels : ℕ} {place : Place} {acts : List Entry} {ws : Words} → IsActsText version levels place acts acts ws ws
+    an_act : {levels : ℕ} {place : Place} {before after : List Entry} {ws rest : Words} (made : Act) (with_bodies : List Entry) (a b : Words) → IsActText version made ws a → IsBodiesText version levels (bodies_of made) (length before) (before ++ record { act = made; parent = place } ∷ []) with_bodies a b → IsActsText version levels place with_bodies after b rest → IsActsText version levels place before after ws rest
 
   -- the bodies of an act: none, the one of a posting, or bodies = body ("abort" body)? ("other" body)?
-  pub data IsBodiesText : Bodies → ℕ → List Entry → List Entry → Words → Words → Type 0 where
-    no_body : {op : ℕ} {acts : List Entry} {ws : Words} → IsBodiesText bodies.Nothing op acts acts ws ws
-    one_body : {op : ℕ} {before after : List Entry} {ws rest : Words} → IsBodyText (Some (op, class.Ok)) before after ws rest → IsBodiesText bodies.Posting op before after ws rest
-    all_bodies : {op : ℕ} {before after : List Entry} {ws rest : Words} (after_ok after_abort : List Entry) (a b : Words) → IsBodyText (Some (op, class.Ok)) before after_ok ws a → IsBranchText (codes "abort") (Some (op, class.Abort)) after_ok after_abort a b → IsBranchText (codes "other") (Some (op, class.Other)) after_abort after b rest → IsBodiesText bodies.Operation op before after ws rest
+  pub data IsBodiesText (version : ℕ) : ℕ → Bodies → ℕ → List Entry → List Entry → Words → Words → Type 0 where
+    no_body : {levels op : ℕ} {acts : List Entry} {ws : Words} → IsBodiesText version levels bodies.Nothing op acts acts ws ws
+    one_body : {levels op : ℕ} {before after : List Entry} {ws rest : Words} → IsBodyText version levels (Some (op, class.Ok)) before after ws rest → IsBodiesText version levels bodies.Posting op before after ws rest
+    all_bodies : {levels op : ℕ} {before after : List Entry} {ws rest : Words} (after_ok after_abort : List Entry) (a b : Words) → IsBodyText version levels (Some (op, class.Ok)) before after_ok ws a → IsBranchText version levels (codes "abort") (Some (op, class.Abort)) after_ok after_abort a b → IsBranchText version levels (codes "other") (Some (op, class.Other)) after_abort after b rest → IsBodiesText version levels bodies.Operation op before after ws rest
 
   -- (word body)?
-  pub data IsBranchText : List ℕ → Place → List Entry → List Entry → Words → Words → Type 0 where
-    left_out : {text : List ℕ} {place : Place} {acts : List Entry} {ws : Words} → IsBranchText text place acts acts ws ws
-    written : {text : List ℕ} {place : Place} {before after : List Entry} {ws rest : Words} (a : Words) → IsWord text ws a → IsBodyText place before after a rest → IsBranchText text place before after ws rest
+  pub data IsBranchText (version : ℕ) : ℕ → List ℕ → Place → List Entry → List Entry → Words → Words → Type 0 where
+    left_out : {levels : ℕ} {text : List ℕ} {place : Place} {acts : List Entry} {ws : Words} → IsBranchText version levels text place acts acts ws ws
+    written : {levels : ℕ} {text : List ℕ} {place : Place} {before after : List Entry} {ws rest : Words} (a : Words) → IsWord text ws a → IsBodyText version levels place before after a rest → IsBranchText version levels text place before after ws rest
 
 -- decls
 abbrev pub IsDeclsText : ScriptModel → Words → Words → Type 0
@@ -166,6 +177,6 @@ pub record IsScriptText (script : ScriptModel) (ws : Words) : Type 0 where
   pub decls : IsDeclsText script at_decls at_lines
   pub lines : IsLinesText script.world.lines at_lines at_open
   pub open_word : IsWord (codes "open") at_open at_body
-  pub acts : IsBodyText None [] script.acts at_body at_rounds
+  pub acts : IsBodyText script.version (limits_of script.version).nesting None [] script.acts at_body at_rounds
   pub some_round : 1 ≤ length script.rounds
   pub rounds : IsRoundsText script.rounds at_rounds []

@@ -21,7 +21,10 @@ mod token;
 mod writer;
 
 pub use act::{Act, is_operation};
-pub use law::{upgraded_scripts_are_well_formed, upgraded_scripts_of_version_2_are_the_same};
+pub use law::{
+    upgraded_scripts_are_read_back, upgraded_scripts_are_well_formed,
+    upgraded_scripts_of_version_2_are_the_same,
+};
 pub use reader::scripts_are_spelled;
 pub use refusal::{Refusal, Rule, ScriptFault};
 pub use round::{Pace, Round};

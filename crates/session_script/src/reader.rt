@@ -1,10 +1,10 @@
-ghost use Rattle.std.specs.Prelude.{◌≡◌, ℕ, List, ◌+◌, ◌<◌, ◌^◌, length, IfOk, IfErr, Ok};
+ghost use Rattle.std.specs.Prelude.{◌≡◌, ℕ, List, ◌+◌, ◌<◌, ◌^◌, ◌↔◌, length, IfOk, IfErr, Ok};
 ghost use Rattle.std.specs.List.{prefix_len};
 ghost use Rattle.session_script.specs.Script.{ScriptModel};
 ghost use Rattle.session_script.specs.Tokens.{tokens_of, end_of};
 ghost use Rattle.session_script.specs.Productions.{refused};
 ghost use Rattle.session_script.specs.Grammar.{is_text, reading, IsScript, first_fault};
-ghost use Rattle.session_script.specs.Text.{words_of, IsScriptText};
+ghost use Rattle.session_script.specs.Spelled.{SpellsScript};
 ghost use Rattle.session_script.specs.WellFormed.{IsWellFormed};
 ghost use Rattle.session_script.specs.Outcome.{Answers, Names, model_of};
 
@@ -86,7 +86,7 @@ pub(crate) fn read_parts(alloc: Global, bytes: &[u8]) -> Result<Parts, ScriptFau
     read_text(alloc, bytes)
 }
 
-/// What is read is spelled so, by the grammar as it is written.
+/// A text is read as a script exactly where the grammar as it is written spells that script, within the limits.
 pub fn scripts_are_spelled()
-    ensures { (bytes : List ℕ) (script : ScriptModel) → IsScript bytes script → IsScriptText script (words_of (tokens_of bytes)) }
+    ensures { (bytes : List ℕ) (script : ScriptModel) → IsScript bytes script ↔ SpellsScript bytes script }
 {}

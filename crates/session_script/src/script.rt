@@ -1,7 +1,7 @@
 ghost use Rattle.std.specs.Prelude.{◌≡◌, ◌<◌, ◌≤◌, length, true, Some, Ok, IfOk, IfErr};
 ghost use Rattle.session_script.specs.Script.{ScriptModel, act_of, opening_of, branch_of, parent_of, is_op};
 ghost use Rattle.session_script.specs.Lanes.{lane_of, is_inline};
-ghost use Rattle.session_script.specs.Spelling.{upgraded};
+ghost use Rattle.session_script.specs.Spelling.{spelling_of, upgraded};
 ghost use Rattle.session_script.specs.Grammar.{IsScript, first_fault};
 ghost use Rattle.session_script.specs.Outcome.{Answers, Names, model_of};
 
@@ -35,19 +35,22 @@ impl Model for Script {
     ghost use Rattle.session_script.specs.Outcome.{model_of};
     ghost use Rattle.session_script.specs.Layout.{HoldsPlaces};
     ghost use Rattle.session_script.specs.Lanes.{lanes_of};
+    ghost use Rattle.session_script.specs.Grammar.{IsScript};
+    ghost use Rattle.session_script.specs.Spelling.{spelling_of};
 
     ghost Value = { ScriptModel };
 
     ghost view = { λ s. model_of s.parts };
 
-    ghost invariant = { λ s. (length (model_of s.parts).acts ≤ 4096) × (s.lanes.items ≡ lanes_of (model_of s.parts)) × HoldsPlaces (model_of s.parts).acts s.places };
+    ghost invariant = { λ s. (length (model_of s.parts).acts ≤ 4096) × (s.lanes.items ≡ lanes_of (model_of s.parts)) × HoldsPlaces (model_of s.parts).acts s.places × IsScript (spelling_of (model_of s.parts)) (model_of s.parts) };
 }
 
 impl Script {
     /// The script that these parts say. Takes memory in proportion to the number of acts.
     #[tactic(auto, unfolding(crate::specs::Outcome::model_of))]
     pub(crate) fn of(alloc: Global, parts: Parts) -> Result<Script, NoMemory>
-        requires { length (model_of parts).acts ≤ 4096 }
+        requires limit { length (model_of parts).acts ≤ 4096 }
+        requires reads_back { IsScript (spelling_of (model_of parts)) (model_of parts) }
         ensures { IfOk result (λ script. script ≡ model_of parts) }
     {
         let lanes = lanes(alloc, parts.acts.as_slice())?;
@@ -152,6 +155,14 @@ impl Script {
         ensures { result.now ≡ self.now.rounds }
     {
         self.parts.rounds.as_slice()
+    }
+
+    /// The canonical text is a text of the script. A law: it runs nothing.
+    #[tactic(auto, unfolding(crate::specs::Outcome::model_of))]
+    pub(crate) fn reads_back(&self)
+        ensures { IsScript (spelling_of self.now) self.now }
+    {
+        let _ = &self.parts;
     }
 
     /// How many strands there are; their numbers are below it.

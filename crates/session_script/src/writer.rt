@@ -1,4 +1,5 @@
-ghost use Rattle.std.specs.Prelude.{◌≡◌, ◌++◌, OnOk, IfOk};
+ghost use Rattle.std.specs.Prelude.{◌≡◌, ◌≤◌, ◌++◌, ℕ, List, length, vec_len, OnOk, IfOk};
+ghost use Rattle.session_script.specs.Grammar.{IsScript};
 ghost use Rattle.std.specs.List.{flat_map};
 ghost use Rattle.session_script.specs.Spelling.{written, count_words, declared_words, line_words, round_words, what_words, words_after_session, spelling_of};
 
@@ -123,8 +124,13 @@ fn after_session(script: &Script, out: &mut Vec<u8>) -> Result<(), NoMemory>
 /// and an `only` of all types are left out. Takes time and memory in proportion to the text.
 #[tactic(auto, unfolding(crate::specs::Spelling::spelling_of))]
 pub fn write_script(alloc: Global, script: &Script) -> Result<Vec<u8>, NoMemory>
-    ensures { IfOk result (λ text. text.items ≡ spelling_of script.now) }
+    ensures text { IfOk result (λ text. text.items ≡ spelling_of script.now) }
+    // Reading it gives the same script.
+    ensures reads_back { IfOk result (λ text. IsScript text.items script.now) }
+    // No text of the script is shorter.
+    ensures shortest { (bytes : List ℕ) → IsScript bytes script.now → IfOk result (λ text. vec_len text ≤ length bytes) }
 {
+    script.reads_back();
     let mut out = Vec::from_slice(alloc, b"session")?;
     after_session(script, &mut out)?;
     Ok(out)

@@ -86,11 +86,8 @@ pub(crate) fn fields(act: &Act, out: &mut Vec<u8>) -> Result<(), NoMemory>
             strand,
             slot,
             filter,
-        } => {
-            two(*stream, *size as u64, out)?;
-            tail(*strand, *slot, *filter, out)
         }
-        Act::ReadAll {
+        | Act::ReadAll {
             stream,
             size,
             strand,
@@ -119,12 +116,8 @@ pub(crate) fn fields(act: &Act, out: &mut Vec<u8>) -> Result<(), NoMemory>
             strand,
             slot,
             filter,
-        } => {
-            number(*stream as u64, out)?;
-            data(bytes.as_slice(), out)?;
-            tail(*strand, *slot, *filter, out)
         }
-        Act::WriteAll {
+        | Act::WriteAll {
             stream,
             bytes,
             strand,

@@ -1,5 +1,5 @@
-use Rattle.session_script.proofs.SpelledScript.{script_is_spelled}
+use Rattle.session_script.proofs.ReadingBack.{spells, spelled_is_script}
 use Rattle.session_script.proofs.reader.scripts_are_spelled.Goals as goal
 
 pub returns : goal.returns
-returns c = script_is_spelled
+returns c bytes script = (spells bytes script, spelled_is_script bytes script)

@@ -1,0 +1,23 @@
+use Rattle.std.proofs.Common.{◌≡◌, subst, rules}
+use Rattle.session_script.specs.Script.{ScriptModel}
+use Rattle.session_script.specs.Grammar.{IsScript}
+use Rattle.session_script.specs.Spelling.{spelling_of, upgraded}
+use Rattle.session_script.specs.Outcome.{model_of}
+use Rattle.session_script.proofs.ReadingBack.{upgrade_is_read}
+use Rattle.session_script.proofs.script.upgrade.Goals as goal
+
+pub of-requires-clause-reads_back : goal.of-requires-clause-reads_back
+unfolding model_of
+of-requires-clause-reads_back c =
+    let old = model_of c.script.inside.parts in
+    let same : upgraded old ≡ model_of (record {
+      version = 2;
+      strands = c.script.inside.parts.strands;
+      timers = c.script.inside.parts.timers;
+      slots = c.script.inside.parts.slots;
+      guards = c.script.inside.parts.guards;
+      acts = c.in_ok-acts.acts;
+      world = c.in_ok-world.world;
+      rounds = c.in_ok-rounds.rounds;
+    }) = search rules in
+    subst (λ (script : ScriptModel). IsScript (spelling_of script) script) same (upgrade_is_read (spelling_of old) old c.script.invariant.3).0
