@@ -3,6 +3,7 @@ pub mod OpeningLemmas
 pub mod ExecutionLemmas
 pub mod RackLemmas
 pub mod ClosingLemmas
+pub mod CompleteLemmas
 pub mod TextLemmas
 pub mod WordLemmas
 pub mod AnswerLemmas

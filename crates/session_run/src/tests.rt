@@ -1,6 +1,10 @@
 ghost use Rattle.std.specs.Prelude.{◌≡◌, length, IfOk};
 ghost use Rattle.op_handlers.specs.Rack.{IsWholeRack, handlers_in};
 
+mod left;
+mod notes;
+mod upgrade;
+
 use crate::{Status, asio_session};
 use asio_types::{
     Class, NoMemory, Sink, SlowSink, SlowSource, Source, SureSink, SureSource, TextSink,
@@ -222,38 +226,6 @@ fn as_many_acts_as_allowed_run(rt: HostRuntime) -> Result<(), Fail> {
             .count();
         let many = if want == Status::Done { 4097 } else { 0 };
         assert_eq!(rt; (status, lines), (want, many), "{count} postings");
-    }
-    Ok(())
-}
-
-#[test]
-fn notes_name_the_status(rt: HostRuntime) -> Result<(), Fail> {
-    let alloc = rt.alloc();
-    for (words, text, want) in [
-        ("run", "session 1 open { } run 1", ""),
-        ("walk", "", "asio_run: usage: asio_run run\n"),
-        ("run", "", "asio_run: refused 4 at line 1 token 1\n"),
-        (
-            "run",
-            "session 1 timers 1 open { expires 0 5 } run 1",
-            "asio_run: refused 10 at line 0 token 0\n",
-        ),
-    ] {
-        let mut source = SureSource::make(alloc, text.as_bytes())?;
-        let mut out = SureSink::make(alloc, 256)?;
-        let mut notes = SureSink::make(alloc, 256)?;
-        let words = words_of(alloc, words)?;
-        let mut rack = rack_of(alloc, &[])?;
-        let status = asio_session(
-            alloc,
-            words.as_slice(),
-            &mut source,
-            &mut out,
-            &mut notes,
-            &mut rack,
-        );
-        rack.discard_all();
-        assert_eq!(rt; notes.bytes(), want.as_bytes(), "{status:?}");
     }
     Ok(())
 }

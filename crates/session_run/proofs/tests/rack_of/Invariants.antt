@@ -1,4 +1,4 @@
-use Rattle.std.proofs.Common.{◌≡◌, ◌≤◌, length, vec_len, vec_capacity}
+use Rattle.std.proofs.Common.{◌≡◌, ◌≤◌, vec_len, vec_capacity}
 use Rattle.std.specs.Prelude.{All, IsSome}
 use Rattle.session_run.proofs.tests.rack_of.Given as goal
 

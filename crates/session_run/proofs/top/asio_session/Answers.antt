@@ -1,4 +1,4 @@
-use Rattle.session_run.proofs.AnswerLemmas.{complete}
+use Rattle.session_run.proofs.CompleteLemmas.{complete}
 use Rattle.session_run.proofs.top.asio_session.Goals as goal
 
 pub returns-clause-complete : goal.returns-clause-complete
