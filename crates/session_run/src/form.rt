@@ -1,9 +1,9 @@
 ghost use Rattle.std.specs.Prelude.{◌≡◌, ◌↔◌, map, Some, None, string_bytes};
 ghost use Rattle.session_run.specs.Form.{HasForm, IsForm, word_of};
 
-/// What a session does with the script that it reads.
+/// The forms of the command: what a session does with the script that it reads. The contract of the session names them.
 #[derive(Clone, Copy, Debug, PartialEq, Eq)]
-pub(crate) enum Form {
+pub enum Form {
     /// It is run, and its trace is written.
     Run,
     /// It is upgraded, and the text of its upgrade is written.

@@ -22,5 +22,6 @@ mod top;
 mod upgrading;
 
 pub use built::is_built;
+pub use form::Form;
 pub use status::Status;
 pub use top::asio_session;
