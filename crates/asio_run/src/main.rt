@@ -6,14 +6,12 @@ ghost use Rattle.op_handlers.specs.Job.{answer};
 
 use asio_types::{Class, NoMemory, Sink, StdSink, StdSource, class_of, write_all};
 use op_handlers::{Handler, Rack, Ran, Spend};
-use session_run::{Status, asio_session};
+use session_run::{HANDLERS, Status, asio_session};
 use std::env;
 use std::process::ExitCode;
 use std::rt::Env;
 
 type Job = Box<dyn FnOnce(Spend) -> Ran + Send>;
-
-const HANDLERS: usize = 4096;
 
 /// What a job answers that has this number as its run mark and its drop mark.
 fn answered(mark: u64, spend: Spend) -> Ran
@@ -52,7 +50,7 @@ fn main(rt: HostRuntime) -> ExitCode {
     let mut source = StdSource::of(rt.stdin());
     let mut out = StdSink::of(rt.stdout());
     let mut notes = StdSink::of(rt.stderr());
-    let Ok(mut handlers) = Vec::<Option<Handler>>::with_capacity(alloc, HANDLERS) else {
+    let Ok(mut handlers) = Vec::<Option<Handler>>::with_capacity(alloc, HANDLERS as usize) else {
         return ExitCode::from(want_of_memory(&mut notes).number());
     };
     for n in 0..HANDLERS as u64 {

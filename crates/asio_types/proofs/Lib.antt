@@ -1,3 +1,2 @@
 pub mod SinkLemmas
 pub mod SourceLemmas
-pub mod WorldLemmas

@@ -2,5 +2,3 @@ pub mod Code
 pub mod Faults
 pub mod Sink
 pub mod Source
-pub mod Stream
-pub mod World

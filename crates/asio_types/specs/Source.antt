@@ -3,7 +3,7 @@ use Rattle.asio_types.specs.Faults.{Plan}
 use Rattle.std.specs.Prelude.{◌≡◌, ◌↔◌, ℕ, ◌≤◌, List, [], length, take, drop, Option, Some, None, ⊤}
 
 -- a read that gave n bytes: they are the next ones, and none come exactly where none are left
-pub record IsNext (left : List ℕ) (n : ℕ) (buffer : List ℕ) : Type 0 where
+pub record IsNextPart (left : List ℕ) (n : ℕ) (buffer : List ℕ) : Type 0 where
   pub there : n ≤ length left
   pub same : take n buffer ≡ take n left
   pub end : (n ≡ 0) ↔ (left ≡ [])
@@ -11,7 +11,7 @@ pub record IsNext (left : List ℕ) (n : ℕ) (buffer : List ℕ) : Type 0 where
 -- the same, where the bytes left are told
 abbrev pub GivesNext : Option (List ℕ) → ℕ → List ℕ → Type 0
 GivesNext None n buffer = ⊤
-GivesNext (Some left) n buffer = IsNext left n buffer
+GivesNext (Some left) n buffer = IsNextPart left n buffer
 
 -- told bytes stay told, and lose the first n
 abbrev pub LosesFirst : Option (List ℕ) → ℕ → Option (List ℕ) → Type 0

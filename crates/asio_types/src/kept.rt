@@ -8,6 +8,7 @@ use std::marker::Model;
 #[derive(Debug, Drop)]
 pub(crate) struct Kept {
     bytes: Vec<u8>,
+    // how many more may be written
     room: usize,
 }
 

@@ -9,8 +9,11 @@ use std::marker::Model;
 /// how many calls there were; and how many of them failed.
 #[derive(Debug, Drop)]
 pub struct FailPlan {
+    // the numbers of the calls that fail, from 1
     fails: Vec<u32>,
+    // how many there were; the count stands still at its end
     calls: u32,
+    // how many of them failed; this count does too
     faults: u64,
 }
 

@@ -1,5 +1,5 @@
 ghost use Rattle.std.specs.Prelude.{ℕ, ◌<◌, ◌≤◌, List, [], length, take, Option, IfOk, OnErr};
-ghost use Rattle.asio_types.specs.Faults.{Rose};
+ghost use Rattle.asio_types.specs.Faults.{CountsFaults};
 ghost use Rattle.asio_types.specs.Sink.{Extends};
 
 use crate::failure::Failed;
@@ -13,13 +13,13 @@ pub trait Sink {
     ghost written: { Self → Option (List ℕ) };
 
     /// Appends the first of these bytes, at least one, and answers how many. `Failed` comes only where the sink's
-    /// count of faults rose; nothing was appended.
+    /// count of faults rose, and an answer leaves that count; after a failure nothing was appended.
     fn write(&mut self, bytes: &[u8]) -> Result<usize, Failed>
         requires { 0 < length bytes.now }
         ensures some { IfOk result (λ n. 0 < n) }
         ensures bound { IfOk result (λ n. n ≤ length bytes.now) }
         ensures appended { IfOk result (λ n. Extends (written self.old) (take n bytes.now) (written self.new)) }
         ensures unchanged { OnErr result (Extends (written self.old) [] (written self.new)) }
-        ensures failed { OnErr result (Rose (faults self.old) (faults self.new)) }
+        ensures counts { CountsFaults result (faults self.old) (faults self.new) }
         ensures later { faults self.old ≤ faults self.new };
 }

@@ -1,6 +1,6 @@
-ghost use Rattle.std.specs.Prelude.{◌≡◌, ℕ, ◌<◌, ◌≤◌, ◌-◌, ◌↔◌, [], ◌++◌, length, take, min, Some, IfOk, IsErr, OnErr};
-ghost use Rattle.asio_types.specs.Faults.{Rose};
-ghost use Rattle.asio_types.specs.Sink.{Extends};
+ghost use Rattle.std.specs.Prelude.{◌≡◌, ℕ, ◌<◌, ◌≤◌, ◌↔◌, [], length, take, min, Some, IfOk, IsErr, OnErr};
+ghost use Rattle.asio_types.specs.Faults.{CountsFaults, one_more};
+ghost use Rattle.asio_types.specs.Sink.{Extends, holding_more};
 
 use crate::failure::{Failed, NoMemory};
 use crate::kept::Kept;
@@ -12,7 +12,9 @@ use std::marker::Model;
 #[derive(Debug, Drop)]
 pub struct SlowSink {
     held: Kept,
+    // the most bytes that one call takes
     step: u32,
+    // how many calls failed; the count stands still at its end
     faults: u64,
 }
 
@@ -55,19 +57,21 @@ impl Sink for SlowSink {
 
     ghost written = { λ s. Some s.held.bytes };
 
-    /// Takes the first bytes, as many as there is room for, but at most `step`.
+    /// Takes the first bytes, as many as there is room for, but at most `step`. A failure leaves the bytes, and counts
+    /// one fault.
     fn write(&mut self, bytes: &[u8]) -> Result<usize, Failed>
         requires { 0 < length bytes.now }
         ensures some { IfOk result (λ n. 0 < n) }
         ensures bound { IfOk result (λ n. n ≤ length bytes.now) }
         ensures appended { IfOk result (λ n. Extends (Some self.old.held.bytes) (take n bytes.now) (Some self.new.held.bytes)) }
         ensures unchanged { OnErr result (Extends (Some self.old.held.bytes) [] (Some self.new.held.bytes)) }
-        ensures failed { OnErr result (Rose self.old.faults self.new.faults) }
+        ensures counts { CountsFaults result self.old.faults self.new.faults }
         ensures later { self.old.faults ≤ self.new.faults }
         ensures full { IsErr result ↔ (self.old.held.room ≡ 0) }
         ensures same { self.new.step ≡ self.old.step }
         ensures whole { IfOk result (λ n. n ≡ min self.old.step (min (length bytes.now) self.old.held.room)) }
-        ensures room { IfOk result (λ n. self.new.held.room ≡ self.old.held.room - n) }
+        ensures held { IfOk result (λ n. self.new.held ≡ holding_more (take n bytes.now) self.old.held) }
+        ensures failed { OnErr result (self.new ≡ record self.old { faults = one_more self.old.faults }) }
     {
         if self.held.room() == 0 {
             self.faults = self.faults.saturating_add(1);

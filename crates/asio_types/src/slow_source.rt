@@ -1,6 +1,5 @@
-ghost use Rattle.std.specs.Prelude.{◌≡◌, ℕ, ◌<◌, ◌≤◌, length, Some, min, IsOk, IfOk, OnErr};
-ghost use Rattle.asio_types.specs.Faults.{Rose};
-ghost use Rattle.asio_types.specs.Source.{GivesNext, LosesFirst, KeepsLeft};
+ghost use Rattle.std.specs.Prelude.{◌≡◌, ℕ, ◌<◌, ◌≤◌, length, drop, Some, min, IsOk, IfOk};
+ghost use Rattle.asio_types.specs.Source.{GivesNext, LosesFirst};
 
 use crate::failure::{Failed, NoMemory};
 use crate::source::Source;
@@ -12,6 +11,7 @@ use std::marker::Model;
 #[derive(Debug, Drop)]
 pub struct SlowSource {
     left: Unread,
+    // the most bytes that one call gives
     step: u32,
 }
 
@@ -44,7 +44,7 @@ impl Source for SlowSource {
 
     ghost left = { λ s. Some s.left };
 
-    /// Gives the next bytes, as many as the buffer takes, but at most `step`.
+    /// Gives the next bytes, as many as the buffer takes, but at most `step`; behind them the buffer stays as it was.
     fn read(&mut self, buf: &mut [u8]) -> Result<usize, Failed>
         requires { 0 < length buf.old }
         ensures bound { IfOk result (λ n. n ≤ length buf.old) }
@@ -52,6 +52,7 @@ impl Source for SlowSource {
         ensures rest { IfOk result (λ n. LosesFirst (Some self.old.left) n (Some self.new.left)) }
         ensures whole { IfOk result (λ n. n ≡ min self.old.step (min (length buf.old) (length self.old.left))) }
         ensures same { self.new.step ≡ self.old.step }
+        ensures behind { IfOk result (λ n. drop n buf.new ≡ drop n buf.old) }
         ensures sure { IsOk result }
     {
         Ok(self.left.give(buf, self.step as usize))

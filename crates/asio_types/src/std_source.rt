@@ -4,10 +4,12 @@ use crate::failure::Failed;
 use crate::source::Source;
 use std::io::Read;
 
-/// A reader of std as a source. It tells the bytes that the reader tells, and counts each error as a fault.
+/// A reader of std as a source. It tells the bytes that the reader tells, counts each error as a fault, and asks the
+/// reader once a call.
 #[derive(Debug, Drop)]
 pub struct StdSource<R> {
     inner: R,
+    // how many errors were seen; the count stands still at its end
     faults: u64,
 }
 

@@ -1,6 +1,5 @@
-ghost use Rattle.std.specs.Prelude.{◌≡◌, ℕ, ◌<◌, ◌≤◌, ◌-◌, ◌+◌, [], ◌++◌, length, take, min, IsOk, IfOk, OnErr, if◌then◌else◌, nat_le};
-ghost use Rattle.asio_types.specs.Faults.{Rose, one_more};
-ghost use Rattle.asio_types.specs.Sink.{Extends, told_unless_lost};
+ghost use Rattle.std.specs.Prelude.{◌≡◌, ℕ, ◌<◌, ◌≤◌, [], length, take, IsOk, IfOk};
+ghost use Rattle.asio_types.specs.Sink.{Extends, held_or_lost, told_unless_lost};
 
 use crate::failure::{Failed, NoMemory};
 use crate::kept::Kept;
@@ -12,6 +11,7 @@ use std::marker::Model;
 #[derive(Debug, Drop)]
 pub struct SureSink {
     held: Kept,
+    // how many writes found no room; the count stands still at its end
     lost: u64,
 }
 
@@ -63,8 +63,7 @@ impl Sink for SureSink {
         ensures appended { IfOk result (λ n. Extends (told_unless_lost self.old) (take n bytes.now) (told_unless_lost self.new)) }
         ensures sure { IsOk result }
         ensures whole { IfOk result (λ n. n ≡ length bytes.now) }
-        ensures held { self.new.held.bytes ≡ (if nat_le (length bytes.now) self.old.held.room then self.old.held.bytes ++ bytes.now else self.old.held.bytes) }
-        ensures lost { self.new.lost ≡ (if nat_le (length bytes.now) self.old.held.room then self.old.lost else one_more self.old.lost) }
+        ensures after { self.new ≡ held_or_lost bytes.now self.old }
     {
         if bytes.len() <= self.held.room() {
             return Ok(self.held.append(bytes, bytes.len()));

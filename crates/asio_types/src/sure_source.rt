@@ -1,6 +1,5 @@
-ghost use Rattle.std.specs.Prelude.{◌≡◌, ℕ, ◌<◌, ◌≤◌, List, length, Some, min, IsOk, IfOk, OnErr};
-ghost use Rattle.asio_types.specs.Faults.{Rose};
-ghost use Rattle.asio_types.specs.Source.{GivesNext, LosesFirst, KeepsLeft};
+ghost use Rattle.std.specs.Prelude.{◌≡◌, ℕ, ◌<◌, ◌≤◌, List, length, drop, Some, min, IsOk, IfOk};
+ghost use Rattle.asio_types.specs.Source.{GivesNext, LosesFirst};
 
 use crate::failure::{Failed, NoMemory};
 use crate::source::Source;
@@ -36,13 +35,14 @@ impl Source for SureSource {
 
     ghost left = { λ s. Some s };
 
-    /// Fills the buffer as far as bytes are left.
+    /// Fills the buffer as far as bytes are left; behind them it stays as it was.
     fn read(&mut self, buf: &mut [u8]) -> Result<usize, Failed>
         requires { 0 < length buf.old }
         ensures bound { IfOk result (λ n. n ≤ length buf.old) }
         ensures next { IfOk result (λ n. GivesNext (Some self.old) n buf.new) }
         ensures rest { IfOk result (λ n. LosesFirst (Some self.old) n (Some self.new)) }
         ensures whole { IfOk result (λ n. n ≡ min (length buf.old) (length self.old)) }
+        ensures behind { IfOk result (λ n. drop n buf.new ≡ drop n buf.old) }
         ensures sure { IsOk result }
     {
         let most = buf.len();

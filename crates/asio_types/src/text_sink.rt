@@ -1,6 +1,6 @@
-ghost use Rattle.std.specs.Prelude.{◌≡◌, ℕ, ◌<◌, ◌≤◌, ◌-◌, ◌↔◌, ◌⊎◌, [], ◌++◌, length, take, min, Some, Contains, IfOk, IsErr, OnErr};
-ghost use Rattle.asio_types.specs.Faults.{Rose, next_call};
-ghost use Rattle.asio_types.specs.Sink.{Extends};
+ghost use Rattle.std.specs.Prelude.{◌≡◌, ℕ, ◌<◌, ◌≤◌, ◌↔◌, ◌⊎◌, [], length, take, min, Some, Contains, IfOk, IsErr, OnErr};
+ghost use Rattle.asio_types.specs.Faults.{CountsFaults, next_call, plan_called, plan_failed};
+ghost use Rattle.asio_types.specs.Sink.{Extends, holding_more};
 
 use crate::failure::{Failed, NoMemory};
 use crate::kept::Kept;
@@ -14,6 +14,7 @@ use std::marker::Model;
 #[derive(Debug, Drop)]
 pub struct TextSink {
     held: Kept,
+    // which calls of `write` fail
     plan: FailPlan,
 }
 
@@ -50,20 +51,22 @@ impl Sink for TextSink {
 
     ghost written = { λ s. Some s.held.bytes };
 
-    /// Fails exactly at the named calls and where no room is left, and else takes what there is room for.
+    /// Fails exactly at the named calls and where no room is left, and else takes what there is room for. A failure
+    /// leaves the bytes and the room, and counts one fault.
     fn write(&mut self, bytes: &[u8]) -> Result<usize, Failed>
         requires { 0 < length bytes.now }
         ensures some { IfOk result (λ n. 0 < n) }
         ensures bound { IfOk result (λ n. n ≤ length bytes.now) }
         ensures appended { IfOk result (λ n. Extends (Some self.old.held.bytes) (take n bytes.now) (Some self.new.held.bytes)) }
         ensures unchanged { OnErr result (Extends (Some self.old.held.bytes) [] (Some self.new.held.bytes)) }
-        ensures failed { OnErr result (Rose self.old.plan.faults self.new.plan.faults) }
+        ensures counts { CountsFaults result self.old.plan.faults self.new.plan.faults }
         ensures later { self.old.plan.faults ≤ self.new.plan.faults }
         ensures named { IsErr result ↔ (Contains self.old.plan.fails (next_call self.old.plan.calls) ⊎ (self.old.held.room ≡ 0)) }
-        ensures same { self.new.plan.fails ≡ self.old.plan.fails }
-        ensures counted { self.new.plan.calls ≡ next_call self.old.plan.calls }
+        ensures called { IfOk result (λ _. self.new.plan ≡ plan_called self.old.plan) }
+        ensures failed { OnErr result (self.new.plan ≡ plan_failed self.old.plan) }
         ensures whole { IfOk result (λ n. n ≡ min (length bytes.now) self.old.held.room) }
-        ensures room { IfOk result (λ n. self.new.held.room ≡ self.old.held.room - n) }
+        ensures held { IfOk result (λ n. self.new.held ≡ holding_more (take n bytes.now) self.old.held) }
+        ensures failed_held { OnErr result (self.new.held ≡ self.old.held) }
     {
         if self.plan.next_fails() || self.held.room() == 0 {
             self.plan.fail();

@@ -1,5 +1,5 @@
-ghost use Rattle.std.specs.Prelude.{◌≡◌, ℕ, ◌<◌, ◌≤◌, ◌↔◌, [], length, take, drop, min, Some, Contains, IfOk, IsErr, OnErr};
-ghost use Rattle.asio_types.specs.Faults.{Rose, next_call};
+ghost use Rattle.std.specs.Prelude.{◌≡◌, ℕ, ◌<◌, ◌≤◌, ◌↔◌, length, drop, min, Some, Contains, IfOk, IsErr, OnErr};
+ghost use Rattle.asio_types.specs.Faults.{CountsFaults, next_call, plan_called, plan_failed};
 ghost use Rattle.asio_types.specs.Source.{GivesNext, LosesFirst, KeepsLeft};
 
 use crate::failure::{Failed, NoMemory};
@@ -13,6 +13,7 @@ use std::marker::Model;
 #[derive(Debug, Drop)]
 pub struct TextSource {
     left: Unread,
+    // which calls of `read` fail
     plan: FailPlan,
 }
 
@@ -42,19 +43,22 @@ impl Source for TextSource {
 
     ghost left = { λ s. Some s.left };
 
-    /// Fails exactly at the named calls, and else fills the buffer as far as bytes are left.
+    /// Fails exactly at the named calls, and else fills the buffer as far as bytes are left; behind them it stays as it
+    /// was. A failure leaves the bytes and the buffer, and counts one fault.
     fn read(&mut self, buf: &mut [u8]) -> Result<usize, Failed>
         requires { 0 < length buf.old }
         ensures bound { IfOk result (λ n. n ≤ length buf.old) }
         ensures next { IfOk result (λ n. GivesNext (Some self.old.left) n buf.new) }
         ensures rest { IfOk result (λ n. LosesFirst (Some self.old.left) n (Some self.new.left)) }
         ensures unchanged { OnErr result (KeepsLeft (Some self.old.left) (Some self.new.left)) }
-        ensures failed { OnErr result (Rose self.old.plan.faults self.new.plan.faults) }
+        ensures counts { CountsFaults result self.old.plan.faults self.new.plan.faults }
         ensures later { self.old.plan.faults ≤ self.new.plan.faults }
         ensures named { IsErr result ↔ Contains self.old.plan.fails (next_call self.old.plan.calls) }
-        ensures same { self.new.plan.fails ≡ self.old.plan.fails }
-        ensures counted { self.new.plan.calls ≡ next_call self.old.plan.calls }
+        ensures called { IfOk result (λ _. self.new.plan ≡ plan_called self.old.plan) }
+        ensures failed { OnErr result (self.new.plan ≡ plan_failed self.old.plan) }
         ensures whole { IfOk result (λ n. n ≡ min (length buf.old) (length self.old.left)) }
+        ensures behind { IfOk result (λ n. drop n buf.new ≡ drop n buf.old) }
+        ensures failed_buffer { OnErr result (buf.new ≡ buf.old) }
     {
         if self.plan.next_fails() {
             self.plan.fail();

@@ -8,6 +8,7 @@ use std::marker::Model;
 #[derive(Debug, Drop)]
 pub(crate) struct Unread {
     bytes: Vec<u8>,
+    // how many were read
     at: usize,
 }
 
@@ -30,10 +31,11 @@ impl Unread {
         })
     }
 
-    /// Gives the next bytes, as many as the buffer takes, but at most `most`. Copies just these.
+    /// Gives the next bytes, as many as the buffer takes, but at most `most`. Behind them the buffer stays as it was.
     pub(crate) fn give(&mut self, buf: &mut [u8], most: usize) -> usize
         ensures count { result ≡ min most (min (length buf.old) (length self.old)) }
         ensures given { take result buf.new ≡ take result self.old }
+        ensures behind { drop result buf.new ≡ drop result buf.old }
         ensures rest { self.new ≡ drop result self.old }
     {
         let n = most.min(buf.len().min(self.bytes.len() - self.at));

@@ -13,6 +13,7 @@ use std::marker::Model;
 /// takes constant time and no memory.
 #[derive(Debug, Drop)]
 pub struct CancelSlots {
+    // at the number of each slot what is connected to it, if anything is
     slots: Vec<Option<Connection>>,
 }
 

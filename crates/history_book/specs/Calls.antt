@@ -1,24 +1,11 @@
 -- When an act is initiated, and when that call returns (Asio reference, asio::post and io_context::stop).
-use Rattle.std.specs.Prelude.{◌≡◌, ℕ, Bool, true, false, Option, Some, None, All, find, if◌then◌else◌}
+use Rattle.std.specs.Prelude.{◌≡◌, ℕ, true, false, Some, All, find, if◌then◌else◌}
 use Rattle.asio_types.specs.declared.code.Code.TheVariants as code
-use Rattle.session_script.specs.declared.act.Act.{Act}
-use Rattle.session_script.specs.Script.{ScriptModel, act_of, is_operation, is_stop, opening_of}
+use Rattle.session_script.specs.Script.{ScriptModel, is_op, opening_of, stops}
 use Rattle.history_book.specs.State.{State, call_at, is_open, is_uncalled, with_call, with_act}
 use Rattle.history_book.specs.declared.phase.CallPhase.TheVariants as call
 use Rattle.history_book.specs.declared.phase.OpPhase.{OpPhase}
 use Rattle.history_book.specs.declared.phase.OpPhase.TheVariants as op
-
-abbrev holds : (Act → Bool) → Option Act → Bool
-holds test None = false
-holds test (Some act) = test act
-
--- the act with this number stops the context
-abbrev pub stops : ScriptModel → ℕ → Bool
-stops script n = holds is_stop (act_of script n)
-
--- the act with this number has a handler
-abbrev pub operates : ScriptModel → ℕ → Bool
-operates script n = holds is_operation (act_of script n)
 
 abbrev pub NoCallIsOpen : State → Type 0
 NoCallIsOpen s = All (λ act. is_open act.call ≡ false) s.acts
@@ -29,7 +16,7 @@ MayCall script s a = (find (λ n. is_uncalled (call_at s n)) (opening_of script)
 
 -- a posting is ready at once
 abbrev pub accepted : ScriptModel → ℕ → OpPhase
-accepted script a = if operates script a then op.Ready code.Ok 0 else op.Absent
+accepted script a = if is_op script a then op.Ready code.Ok 0 else op.Absent
 
 abbrev pub after_call : ScriptModel → State → ℕ → State
 after_call script s a = with_act s a (record { call = call.Open; op = accepted script a })

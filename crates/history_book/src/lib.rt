@@ -4,10 +4,10 @@
 #![tactic(auto)]
 
 mod history;
-mod line;
 mod phase;
 mod replay;
 mod trace;
+mod trace_line;
 
 pub use history::History;
 pub use phase::{ActState, CallPhase, OpPhase};

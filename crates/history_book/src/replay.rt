@@ -1,17 +1,17 @@
 ghost use Rattle.std.specs.Prelude.{◌≡◌, ◌<◌, ◌≤◌, ◌↔◌, ℕ, length, IsTrue, IfOk, IfSome, IfNone, find, true, false};
 ghost use Rattle.std.specs.Bool.{OnTrue, OnFalse};
-ghost use Rattle.history_book.specs.Calls.{MayCall, MayReturn, MayStop, NoCallIsOpen, stops, operates, after_call, after_return, after_stop};
+ghost use Rattle.history_book.specs.Calls.{MayCall, MayReturn, MayStop, NoCallIsOpen, after_call, after_return, after_stop};
 ghost use Rattle.history_book.specs.Executions.{MayBegin, MayEnd, after_begin, after_end};
 ghost use Rattle.history_book.specs.Legal.{MayHappen, after_event};
 ghost use Rattle.history_book.specs.Rounds.{MayDrop, MayEndRound, MayStopRound, NothingRuns, RoundIsOpen, after_closing, after_drop};
 ghost use Rattle.history_book.specs.State.{first_state, outstanding_work, call_at, op_at, is_uncalled, is_outstanding, with_act};
-ghost use Rattle.session_script.specs.Script.{opening_of};
+ghost use Rattle.session_script.specs.Script.{is_op, opening_of, stops};
 
 use crate::phase::{
     ActState, CallPhase, OpPhase, is_open, is_outstanding, is_running, is_uncalled,
 };
 use asio_types::{ActNo, Code, Event, NoMemory, OpNo, class_of};
-use session_script::{Act, Script, is_operation};
+use session_script::Script;
 use std::alloc::Global;
 use std::marker::Model;
 
@@ -71,16 +71,16 @@ impl<'a> Replay<'a> {
         self.acts.get(n as usize).copied().unwrap_or(FRESH)
     }
 
-    fn stops(&self, a: ActNo) -> bool
+    fn is_stop(&self, a: ActNo) -> bool
         ensures { result ≡ stops self.now.script a }
     {
-        a < self.script.acts() && matches!(self.script.act(a), Act::Stop)
+        a < self.script.acts() && self.script.is_stop(a)
     }
 
-    fn operates(&self, a: ActNo) -> bool
-        ensures { result ≡ operates self.now.script a }
+    fn is_op(&self, a: ActNo) -> bool
+        ensures { result ≡ is_op self.now.script a }
     {
-        a < self.script.acts() && is_operation(self.script.act(a))
+        a < self.script.acts() && self.script.is_op(a)
     }
 
     fn no_call_is_open(&self) -> bool
@@ -129,13 +129,13 @@ impl<'a> Replay<'a> {
     fn may_stop(&self, a: ActNo) -> bool
         ensures { IsTrue result ↔ MayStop self.now.script self.now.state a }
     {
-        self.stops(a) && self.act(a).call == CallPhase::Open
+        self.is_stop(a) && self.act(a).call == CallPhase::Open
     }
 
     fn may_return(&self, a: ActNo) -> bool
         ensures { IsTrue result ↔ MayReturn self.now.script self.now.state a }
     {
-        let done = if self.stops(a) {
+        let done = if self.is_stop(a) {
             CallPhase::Stopping
         } else {
             CallPhase::Open
@@ -217,7 +217,7 @@ impl<'a> Replay<'a> {
             code: Code::Ok,
             size: 0,
         };
-        let op = if self.operates(a) {
+        let op = if self.is_op(a) {
             ready
         } else {
             OpPhase::Absent
@@ -236,7 +236,7 @@ impl<'a> Replay<'a> {
         if !self.may_return(a) {
             return false;
         }
-        if self.stops(a) {
+        if self.is_stop(a) {
             self.may_begin = false;
         }
         self.put(a, CallPhase::Back, self.act(a).op);

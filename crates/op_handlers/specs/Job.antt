@@ -32,8 +32,8 @@ pub record AnswersBy (pre : Spend → Type 0) (post : Spend → Ran → Type 0) 
   pub possible : (s : Spend) → IsSpend s → post s (answer m s)
 
 -- it has marks, and so one pair of them
-abbrev pub HasMarks : (Spend → Type 0) → (Spend → Ran → Type 0) → Type 0
-HasMarks pre post = (m : Marks) × ∥ AnswersBy pre post m ∥₁
+abbrev pub AnswersMarks : (Spend → Type 0) → (Spend → Ran → Type 0) → Type 0
+AnswersMarks pre post = (m : Marks) × ∥ AnswersBy pre post m ∥₁
 
 -- a way to execute a handler
 abbrev first_call : Spend
@@ -52,6 +52,6 @@ pub Marks-set : (m n : Marks) → IsProp (m ≡ n)
 Marks-set = Coded-set marks_code
 
 -- so a type may keep it as a fact
-pub HasMarks-prop : (pre : Spend → Type 0) (post : Spend → Ran → Type 0) → IsProp (HasMarks pre post)
-HasMarks-prop pre post x y =
+pub AnswersMarks-prop : (pre : Spend → Type 0) (post : Spend → Ran → Type 0) → IsProp (AnswersMarks pre post)
+AnswersMarks-prop pre post x y =
     Σ_prop_path (λ m. ∥∥₁_prop) (∥∥₁_elim x.1 (Marks-set x.0 y.0) (λ a. ∥∥₁_elim y.1 (Marks-set x.0 y.0) (λ b. marks-unique x.0 y.0 a b)))

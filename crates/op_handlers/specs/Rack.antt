@@ -1,5 +1,5 @@
 -- What a rack is seen as.
-use Rattle.std.specs.Prelude.{◌≡◌, ℕ, ◌<◌, List, length, map, slice_get, All, IsSome, Option, Some}
+use Rattle.std.specs.Prelude.{◌≡◌, ℕ, ◌<◌, List, length, map, slice_get, All, IsSome, Option, None, Some}
 use Rattle.std.specs.Option.{option_flatten, option_map}
 use Rattle.op_handlers.specs.Marks.{Marks}
 use Rattle.op_handlers.specs.declared.rack.Rack.{Rack}
@@ -15,6 +15,11 @@ marks_in marks rack = map (option_map marks) (handlers_in rack)
 -- the handler at a number, if it is below the count and was not taken
 abbrev pub handler_at : {H : Type 0} → Rack H → ℕ → Option H
 handler_at rack a = option_flatten (slice_get (handlers_in rack) a)
+
+-- no handler is left, and the numbers stay
+pub record AllTaken {H : Type 0} (old new : Rack H) : Type 0 where
+  pub size : length (handlers_in new) ≡ length (handlers_in old)
+  pub none : (n : ℕ) → handler_at new n ≡ None
 
 -- no handler was taken
 abbrev pub IsWholeRack : {H : Type 0} → Rack H → Type 0

@@ -1,4 +1,4 @@
-ghost use Rattle.op_handlers.specs.Job.{HasMarks, HasMarks-prop};
+ghost use Rattle.op_handlers.specs.Job.{AnswersMarks, AnswersMarks-prop};
 
 use crate::call::{Call, Ran, Spend};
 
@@ -7,8 +7,9 @@ use crate::call::{Call, Ran, Spend};
 ///
 /// It is seen as its marks, two numbers. No field holds them: they are what the job answers.
 pub struct Handler {
+    // what is called, once, to spend the handler
     job: Box<dyn FnOnce(Spend) -> Ran + Send>,
-    pub ghost marked: { HasMarks (pre job) (post job) } by { HasMarks-prop _ _ },
+    pub ghost marked: { AnswersMarks (pre job) (post job) } by { AnswersMarks-prop _ _ },
 }
 
 impl Handler {

@@ -1,4 +1,5 @@
-ghost use Rattle.std.specs.Prelude.{◌<◌, ◌^◌, length};
+ghost use Rattle.std.specs.Prelude.{◌≡◌, ◌<◌, ◌^◌, length};
+ghost use Rattle.std.specs.Option.{option_map};
 
 use crate::completion::CompletionHandler;
 use crate::handler::Handler;
@@ -8,12 +9,13 @@ use asio_types::ActNo;
 ///
 /// It is seen as that list, and by the marks of its handlers as a list of marks.
 pub struct Rack<H = Handler> {
+    // at each number its handler, or nothing where it was taken
     slots: Vec<Option<H>>,
     ghost few: { length slots.items < 2 ^ 32 },
 }
 
 impl<H> Rack<H> {
-    ghost use Rattle.std.specs.Prelude.{◌≡◌, ◌↔◌, IsTrue, slice_get, slice_set, vec_len};
+    ghost use Rattle.std.specs.Prelude.{◌↔◌, IsTrue, slice_get, slice_set, vec_len};
     ghost use Rattle.op_handlers.specs.Rack.{handlers_in, handler_at, IsWholeRack};
 
     /// The rack of these handlers, where a `None` counts as taken. It takes no memory.
@@ -64,15 +66,34 @@ impl<H> Rack<H> {
 }
 
 impl<H: CompletionHandler> Rack<H> {
-    /// Discards the handlers that are left, in rising number. It executes none.
+    ghost use Rattle.op_handlers.specs.Rack.{AllTaken};
+
+    /// Discards the handlers that are left, in rising number, and executes none. The numbers stay, with nothing at any.
+    pub fn discard_rest(&mut self)
+        ensures { AllTaken self.old self.new }
+    {
+        for n in 0..self.count() {
+            discarded(self.take(n));
+        }
+    }
+
+    /// Discards the handlers that are left, in rising number, and executes none.
     pub fn discard_all(self) {
         let Rack { slots } = self;
         let mut rest = slots.into_iter();
         while let Some(slot) = rest.next() {
-            if let Some(handler) = slot {
-                handler.discard();
-            }
+            discarded(slot);
         }
         rest.destroy_empty();
+    }
+}
+
+/// Destroys the handler of a number, if there is one, without a call, and answers its drop mark.
+fn discarded<H: CompletionHandler>(slot: Option<H>) -> Option<u64>
+    ensures { result ≡ option_map (λ handler. (H.marks handler).drop) slot }
+{
+    match slot {
+        Some(handler) => Some(handler.discard()),
+        None => None,
     }
 }

@@ -1,2 +1,1 @@
-pub mod PipeLemmas
-pub mod PlayingLemmas
+pub mod OutsideLemmas

@@ -1,4 +1,2 @@
-pub mod Pipes
 pub mod Plans
 pub mod Scene
-pub mod Sides

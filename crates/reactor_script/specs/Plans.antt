@@ -1,6 +1,9 @@
 -- Which calls of a scripted reactor fail.
-use Rattle.std.specs.Prelude.{◌≡◌, ℕ, ◌+◌, ◌==◌, List, Contains, filter, map}
-use Rattle.asio_types.specs.Faults.{Plan, next_call}
+use Rattle.std.specs.Prelude.{ℕ, ◌+◌, ◌==◌, List, Result, Ok, Err, Contains, filter, map}
+use Rattle.asio_types.specs.declared.failure.Failed.{Failed}
+use Rattle.asio_types.specs.declared.outside.SetupFault.{SetupFault}
+use Rattle.asio_types.specs.declared.outside.SetupFault.TheVariants as setup_fault
+use Rattle.asio_types.specs.Faults.{Plan, next_call, plan_called, plan_failed}
 use Rattle.reactor_script.specs.declared.method.FailAt.{FailAt}
 use Rattle.reactor_script.specs.declared.method.Method.{Method}
 use Rattle.reactor_script.specs.declared.method.Method.TheVariants as method
@@ -39,7 +42,13 @@ fault_count plans = plans.set_up.faults + plans.advance.faults + plans.read_some
 abbrev pub IsNamed : Plan → Type 0
 IsNamed plan = Contains plan.fails (next_call plan.calls)
 
--- one more call was counted
-pub record Counted (old new : Plan) : Type 0 where
-  pub fails : new.fails ≡ old.fails
-  pub calls : new.calls ≡ next_call old.calls
+-- a plan after a call that answered this: a failure counts one fault
+abbrev pub plan_after : {T : Type 0} → Result T Failed → Plan → Plan
+plan_after (Ok value) plan = plan_called plan
+plan_after (Err failed) plan = plan_failed plan
+
+-- a plan after a `set_up` that answered this: want of memory is no fault
+abbrev pub plan_after_setup : {T : Type 0} → Result T SetupFault → Plan → Plan
+plan_after_setup (Ok value) plan = plan_called plan
+plan_after_setup (Err setup_fault.Failed) plan = plan_failed plan
+plan_after_setup (Err setup_fault.NoMemory) plan = plan_called plan

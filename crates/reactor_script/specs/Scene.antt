@@ -1,12 +1,12 @@
 -- What a scripted reactor is seen as.
-use Rattle.std.specs.Prelude.{List, [], false, map}
-use Rattle.asio_types.specs.World.{lines_after}
-use Rattle.reactor_trait.specs.Reactor.{ReactorState, Outside}
-use Rattle.reactor_trait.specs.Timetable.{Timetable}
+use Rattle.std.specs.Prelude.{List, [], map}
+use Rattle.stream_rules.specs.World.{lines_after}
+use Rattle.reactor_trait.specs.Reactor.{ReactorState, Outside, idle_state}
+use Rattle.stream_rules.specs.Timetable.{Timetable}
 use Rattle.reactor_script.specs.declared.method.FailAt.{FailAt}
-use Rattle.reactor_script.specs.declared.pipe.Pipe.{Pipe}
+use Rattle.stream_rules.specs.declared.pipe.Pipe.{Pipe}
 use Rattle.reactor_script.specs.declared.plans.FailPlans.{FailPlans}
-use Rattle.reactor_script.specs.Pipes.{stream_of}
+use Rattle.stream_rules.specs.Pipes.{stream_of}
 use Rattle.reactor_script.specs.Plans.{Plans, first_plans}
 
 -- a world that is played
@@ -30,9 +30,6 @@ plans_of plans =
     record { set_up = plans.set_up; advance = plans.advance; read_some = plans.read_some; write_some = plans.write_some }
 
 -- no world was set up
-abbrev pub idle_state : ReactorState
-idle_state = record { up = false; now = 0; times = []; closed = []; last = false }
-
 abbrev pub idle_outside : Outside
 idle_outside = record { streams = []; lines = [] }
 

@@ -3,11 +3,7 @@
 //! tests above stand on it.
 #![tactic(auto)]
 
-mod inbound;
 mod method;
-mod outbound;
-mod pipe;
-mod pipes;
 mod plans;
 mod script_reactor;
 mod stage;

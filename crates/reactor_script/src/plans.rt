@@ -1,6 +1,6 @@
 ghost use Rattle.std.specs.Prelude.{◌≡◌, ◌≤◌, ◌↔◌, ℕ, List, IfOk, IsTrue, MatchBool, take};
-ghost use Rattle.asio_types.specs.Faults.{one_more};
-ghost use Rattle.reactor_script.specs.Plans.{calls_of, first_plan, first_plans, IsNamed, Counted};
+ghost use Rattle.asio_types.specs.Faults.{plan_called, plan_failed};
+ghost use Rattle.reactor_script.specs.Plans.{calls_of, first_plan, first_plans, IsNamed};
 
 use crate::method::{FailAt, Method};
 use asio_types::{FailPlan, NoMemory};
@@ -43,12 +43,11 @@ impl FailPlans {
     }
 }
 
-/// Counts a call, and answers whether it fails; a failure raises the count of faults.
+/// Counts a call, and answers whether it fails; a failure counts one fault.
 pub(crate) fn strikes(plan: &mut FailPlan) -> bool
     ensures named { IsTrue result ↔ IsNamed plan.old }
-    ensures counted { Counted plan.old plan.new }
     ensures later { plan.old.faults ≤ plan.new.faults }
-    ensures faults { MatchBool result (plan.new.faults ≡ one_more plan.old.faults) (plan.new.faults ≡ plan.old.faults) }
+    ensures counted { MatchBool result (plan.new ≡ plan_failed plan.old) (plan.new ≡ plan_called plan.old) }
 {
     let fails = plan.next_fails();
     if fails {

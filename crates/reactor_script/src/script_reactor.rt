@@ -1,8 +1,11 @@
-ghost use Rattle.std.specs.Prelude.{◌≡◌, ◌≢◌, ◌↔◌, ◌<◌, ◌≤◌, ℕ, List, IfOk, IsErr, IsErrOf, IsTrue, OnErr, OnOk, Some, length, take, drop};
+ghost use Rattle.std.specs.Prelude.{◌≡◌, ◌≢◌, ◌↔◌, ◌<◌, ◌≤◌, ℕ, List, IfOk, IsErr, IsErrOf, IsTrue, OnErr, OnOk, Some, length, take};
 ghost use Rattle.std.specs.Option.{ForSome};
-ghost use Rattle.asio_types.specs.World.{HasItsStreams, next_point, stream_at};
-ghost use Rattle.reactor_trait.specs.Reactor.{after_read, after_write, first_outside, first_state, moved_count, outside_at, outside_closed, read_answer, state_at, state_closed, state_refused, stream_count, with_stream, write_answer, CountsFaults, CountsSetupFaults, IsMoveWithin, IsOpen};
-ghost use Rattle.reactor_script.specs.Plans.{fault_count, Counted, IsNamed};
+ghost use Rattle.stream_rules.specs.World.{HasItsStreams, next_point, stream_at};
+ghost use Rattle.asio_types.specs.Faults.{CountsFaults};
+ghost use Rattle.stream_rules.specs.Moving.{moved_count, read_answer, write_answer};
+ghost use Rattle.stream_rules.specs.Serving.{Some_of, after_reading, after_writing};
+ghost use Rattle.reactor_trait.specs.Reactor.{outside_ready, state_ready, outside_at, outside_closed, state_at, state_closed, state_refused, stream_count, with_stream, CountsSetupFaults, IsMoveWithin, IsOpen};
+ghost use Rattle.reactor_script.specs.Plans.{fault_count, plan_after, plan_after_setup, IsNamed};
 ghost use Rattle.reactor_script.specs.Scene.{new_script};
 
 use crate::method::FailAt;
@@ -62,15 +65,14 @@ impl Reactor for ScriptReactor {
     /// Fails exactly where this call was named, or for want of memory.
     fn set_up(&mut self, alloc: Global, world: &World) -> Result<(), SetupFault>
         requires { HasItsStreams world.now }
-        ensures ready { OnOk result (self.new.state ≡ first_state world.now) }
+        ensures ready { OnOk result (self.new.state ≡ state_ready world.now) }
         ensures refused { OnErr result (self.new.state ≡ state_refused self.old.state) }
-        ensures told_ready { OnOk result (self.new.outside ≡ first_outside world.now) }
+        ensures told_ready { OnOk result (self.new.outside ≡ outside_ready world.now) }
         ensures told_refused { OnErr result (self.new.outside ≡ self.old.outside) }
         ensures counts { CountsSetupFaults result (fault_count self.old.plans) (fault_count self.new.plans) }
         ensures later { fault_count self.old.plans ≤ fault_count self.new.plans }
         ensures named { IsErrOf result SetupFault.Failed ↔ IsNamed self.old.plans.set_up }
-        ensures counted { Counted self.old.plans.set_up self.new.plans.set_up }
-        ensures others { self.new.plans ≡ record self.old.plans { set_up = self.new.plans.set_up } }
+        ensures counted { self.new.plans ≡ record self.old.plans { set_up = plan_after_setup result self.old.plans.set_up } }
     {
         self.stage.take_down();
         if strikes(&mut self.plans.set_up) {
@@ -97,8 +99,7 @@ impl Reactor for ScriptReactor {
         ensures counts { CountsFaults result (fault_count self.old.plans) (fault_count self.new.plans) }
         ensures later { fault_count self.old.plans ≤ fault_count self.new.plans }
         ensures named { IsErr result ↔ IsNamed self.old.plans.advance }
-        ensures counted { Counted self.old.plans.advance self.new.plans.advance }
-        ensures others { self.new.plans ≡ record self.old.plans { advance = self.new.plans.advance } }
+        ensures counted { self.new.plans ≡ record self.old.plans { advance = plan_after result self.old.plans.advance } }
     {
         if strikes(&mut self.plans.advance) {
             return Err(Failed);
@@ -115,20 +116,17 @@ impl Reactor for ScriptReactor {
         ensures keeps { self.new.state ≡ self.old.state }
         ensures within { IfOk result (IsMoveWithin (length buf.old)) }
         ensures after_last { IsTrue self.old.state.last → IfOk result (λ moved. moved ≢ Moved.NotYet) }
-        ensures rest { IfOk result (λ moved. drop (moved_count moved) buf.new ≡ drop (moved_count moved) buf.old) }
-        ensures failed_buffer { OnErr result (buf.new ≡ buf.old) }
         ensures told_answer { IfOk result
             (λ moved. moved ≡ read_answer (length buf.old) (stream_at self.old.outside.streams stream)) }
         ensures told_bytes { IfOk result
             (λ moved. take (moved_count moved) buf.new ≡ take (moved_count moved) (stream_at self.old.outside.streams stream).arrived) }
         ensures told_gives { IfOk result
-            (λ moved. self.new.outside ≡ with_stream stream (after_read (moved_count moved)) self.old.outside) }
+            (λ moved. self.new.outside ≡ with_stream stream (after_reading (moved_count moved)) self.old.outside) }
         ensures told_failed { OnErr result (self.new.outside ≡ self.old.outside) }
         ensures counts { CountsFaults result (fault_count self.old.plans) (fault_count self.new.plans) }
         ensures later { fault_count self.old.plans ≤ fault_count self.new.plans }
         ensures named { IsErr result ↔ IsNamed self.old.plans.read_some }
-        ensures counted { Counted self.old.plans.read_some self.new.plans.read_some }
-        ensures others { self.new.plans ≡ record self.old.plans { read_some = self.new.plans.read_some } }
+        ensures counted { self.new.plans ≡ record self.old.plans { read_some = plan_after result self.old.plans.read_some } }
     {
         if strikes(&mut self.plans.read_some) {
             return Err(Failed);
@@ -146,15 +144,14 @@ impl Reactor for ScriptReactor {
         ensures within { IfOk result (IsMoveWithin (length bytes.now)) }
         ensures after_last { IsTrue self.old.state.last → IfOk result (λ moved. moved ≢ Moved.NotYet) }
         ensures told_answer { IfOk result
-            (λ moved. moved ≡ write_answer (length bytes.now) (stream_at self.old.outside.streams stream)) }
+            (λ moved. moved ≡ write_answer bytes.now (stream_at self.old.outside.streams stream)) }
         ensures told_takes { IfOk result
-            (λ moved. self.new.outside ≡ with_stream stream (after_write (take (moved_count moved) bytes.now)) self.old.outside) }
+            (λ moved. self.new.outside ≡ with_stream stream (after_writing (Some_of bytes.now) 0 (moved_count moved)) self.old.outside) }
         ensures told_failed { OnErr result (self.new.outside ≡ self.old.outside) }
         ensures counts { CountsFaults result (fault_count self.old.plans) (fault_count self.new.plans) }
         ensures later { fault_count self.old.plans ≤ fault_count self.new.plans }
         ensures named { IsErr result ↔ IsNamed self.old.plans.write_some }
-        ensures counted { Counted self.old.plans.write_some self.new.plans.write_some }
-        ensures others { self.new.plans ≡ record self.old.plans { write_some = self.new.plans.write_some } }
+        ensures counted { self.new.plans ≡ record self.old.plans { write_some = plan_after result self.old.plans.write_some } }
     {
         if strikes(&mut self.plans.write_some) {
             return Err(Failed);

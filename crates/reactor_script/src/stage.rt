@@ -1,15 +1,15 @@
-ghost use Rattle.std.specs.Prelude.{◌≡◌, ◌≢◌, ◌<◌, ℕ, List, IfOk, IsTrue, Some, length, take, drop, false, replicate, slice_set};
+ghost use Rattle.std.specs.Prelude.{◌≡◌, ◌≢◌, ◌<◌, ℕ, List, IfOk, IsTrue, Some, length, take, false, replicate, slice_set};
 ghost use Rattle.std.specs.Option.{ForSome};
-ghost use Rattle.asio_types.specs.World.{HasItsStreams, next_point, stream_at};
-ghost use Rattle.reactor_trait.specs.Reactor.{after_read, after_write, first_outside, first_state, moved_count, outside_at, outside_closed, read_answer, state_at, state_closed, state_refused, stream_count, with_stream, write_answer};
-ghost use Rattle.reactor_script.specs.Scene.{idle_outside, idle_state};
+ghost use Rattle.stream_rules.specs.World.{HasItsStreams, next_point, stream_at};
+ghost use Rattle.stream_rules.specs.Moving.{moved_count, read_answer, write_answer};
+ghost use Rattle.stream_rules.specs.Serving.{Some_of, after_reading, after_writing};
+ghost use Rattle.reactor_trait.specs.Reactor.{idle_state, outside_ready, state_ready, outside_at, outside_closed, state_at, state_closed, state_refused, stream_count, with_stream};
+ghost use Rattle.reactor_script.specs.Scene.{idle_outside};
 
-use crate::pipe::Pipe;
-use crate::pipes::{close, mark_last, perform_due, pipes_for, read, write};
 use asio_types::{Moved, NoMemory, Point, StreamNo, World};
-use reactor_trait::Schedule;
 use std::alloc::Global;
 use std::marker::Model;
+use stream_rules::{Pipe, Schedule, mark_last, perform_due, pipes_for};
 
 /// A world that is played: a reactor that tells its bytes and never fails.
 #[derive(Drop)]
@@ -22,8 +22,8 @@ pub(crate) struct Stage {
 }
 
 impl Model for Stage {
-    ghost use Rattle.reactor_trait.specs.Timetable.{state_over};
-    ghost use Rattle.reactor_script.specs.Pipes.{IsPlaying};
+    ghost use Rattle.stream_rules.specs.Pipes.{IsPlaying};
+    ghost use Rattle.reactor_trait.specs.Reactor.{state_over};
     ghost use Rattle.reactor_script.specs.Scene.{Scene, outside_over};
 
     ghost Value = { Scene };
@@ -57,8 +57,8 @@ impl Stage {
     /// A new world, with the lines of time 0 performed.
     pub(crate) fn set(alloc: Global, world: &World) -> Result<Stage, NoMemory>
         requires { HasItsStreams world.now }
-        ensures state { IfOk result (λ stage. stage.state ≡ first_state world.now) }
-        ensures outside { IfOk result (λ stage. stage.outside ≡ first_outside world.now) }
+        ensures state { IfOk result (λ stage. stage.state ≡ state_ready world.now) }
+        ensures outside { IfOk result (λ stage. stage.outside ≡ outside_ready world.now) }
     {
         let lines = world.lines.as_slice();
         let closed = all_open(alloc, world.streams)?;
@@ -105,22 +105,23 @@ impl Stage {
         ensures answer { result ≡ read_answer (length buf.old) (stream_at self.old.outside.streams stream) }
         ensures after_last { IsTrue self.old.state.last → result ≢ Moved.NotYet }
         ensures bytes { take (moved_count result) buf.new ≡ take (moved_count result) (stream_at self.old.outside.streams stream).arrived }
-        ensures rest { drop (moved_count result) buf.new ≡ drop (moved_count result) buf.old }
         ensures state { self.new.state ≡ self.old.state }
-        ensures outside { self.new.outside ≡ with_stream stream (after_read (moved_count result)) self.old.outside }
+        ensures outside { self.new.outside ≡ with_stream stream (after_reading (moved_count result)) self.old.outside }
     {
-        read(self.pipes.as_mut_slice(), stream as usize, buf)
+        let pipe = &mut self.pipes[stream as usize];
+        pipe.read(buf)
     }
 
     pub(crate) fn write_some(&mut self, stream: StreamNo, bytes: &[u8]) -> Moved
         requires known { stream < stream_count self.old.state }
         requires some { 0 < length bytes.now }
-        ensures answer { result ≡ write_answer (length bytes.now) (stream_at self.old.outside.streams stream) }
+        ensures answer { result ≡ write_answer bytes.now (stream_at self.old.outside.streams stream) }
         ensures after_last { IsTrue self.old.state.last → result ≢ Moved.NotYet }
         ensures state { self.new.state ≡ self.old.state }
-        ensures outside { self.new.outside ≡ with_stream stream (after_write (take (moved_count result) bytes.now)) self.old.outside }
+        ensures outside { self.new.outside ≡ with_stream stream (after_writing (Some_of bytes.now) 0 (moved_count result)) self.old.outside }
     {
-        write(self.pipes.as_mut_slice(), stream as usize, bytes)
+        let pipe = &mut self.pipes[stream as usize];
+        pipe.write(bytes)
     }
 
     pub(crate) fn close(&mut self, stream: StreamNo)
@@ -128,7 +129,8 @@ impl Stage {
         ensures state { self.new.state ≡ state_closed stream self.old.state }
         ensures outside { self.new.outside ≡ outside_closed stream self.old.outside }
     {
-        close(self.pipes.as_mut_slice(), stream as usize);
+        let pipe = &mut self.pipes[stream as usize];
+        pipe.close();
         self.closed[stream as usize] = true;
     }
 

@@ -1,2 +1,1 @@
 pub mod ReactorLemmas
-pub mod ScheduleLemmas

@@ -1,2 +1,1 @@
 pub mod Reactor
-pub mod Timetable

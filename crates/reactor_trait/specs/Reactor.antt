@@ -1,12 +1,7 @@
 -- What a reactor tells, and what its calls answer. Bytes and room are used up before a mark is seen (Asio reference,
 -- `async_read_some`, `async_write_some`); scripted time and its last point are this project's.
-use Rattle.std.specs.Prelude.{ℕ, ◌≡◌, ◌-◌, ◌==◌, ◌≤◌, ⊤, nat_lt, min, Option, None, Some, Result, Ok, Err, List, ◌++◌, Bool, true, false, if◌then◌else◌, length, drop, filter, replicate}
+use Rattle.std.specs.Prelude.{ℕ, ◌≡◌, ◌≤◌, ⊤, nat_lt, Result, Ok, Err, List, [], Bool, true, false, length, filter, replicate}
 use Rattle.std.specs.List.{slice_index_or, slice_set}
-use Rattle.asio_types.specs.declared.failure.Failed.{Failed}
-use Rattle.asio_types.specs.declared.mark.ReadMark.{ReadMark}
-use Rattle.asio_types.specs.declared.mark.ReadMark.TheVariants as read_mark
-use Rattle.asio_types.specs.declared.mark.WriteMark.{WriteMark}
-use Rattle.asio_types.specs.declared.mark.WriteMark.TheVariants as write_mark
 use Rattle.asio_types.specs.declared.outside.Moved.{Moved}
 use Rattle.asio_types.specs.declared.outside.Moved.TheVariants as moved
 use Rattle.asio_types.specs.declared.outside.Point.{Point}
@@ -16,8 +11,9 @@ use Rattle.asio_types.specs.declared.outside.SetupFault.TheVariants as setup_fau
 use Rattle.asio_types.specs.declared.world.Line.{Line}
 use Rattle.asio_types.specs.declared.world.World.{World}
 use Rattle.asio_types.specs.Faults.{Rose}
-use Rattle.asio_types.specs.Stream.{Stream, closed_stream}
-use Rattle.asio_types.specs.World.{changed_at, perform_lines, lines_at, lines_after, times_after, first_streams, streams_at_last}
+use Rattle.stream_rules.specs.Stream.{Stream, closed_stream}
+use Rattle.stream_rules.specs.Timetable.{Timetable}
+use Rattle.stream_rules.specs.World.{changed_at, perform_lines, lines_at, lines_after, times_after, first_streams, streams_at_last}
 
 -- what every reactor tells
 pub record ReactorState : Type 0 where
@@ -45,13 +41,22 @@ stream_count state = length state.closed
 abbrev pub IsOpen : ReactorState → ℕ → Type 0
 IsOpen state stream = slice_index_or state.closed stream true ≡ false
 
+-- no world was set up
+abbrev pub idle_state : ReactorState
+idle_state = record { up = false; now = 0; times = []; closed = []; last = false }
+
+-- what a reactor tells whose time is that of a timetable
+abbrev pub state_over : Bool → List Bool → Bool → Timetable → ReactorState
+state_over up closed last table =
+    record { up = up; now = table.time; times = times_after table.time table.lines; closed = closed; last = last }
+
 -- set up: time is 0, and nothing is closed
-abbrev pub first_state : World → ReactorState
-first_state world =
+abbrev pub state_ready : World → ReactorState
+state_ready world =
     record { up = true; now = 0; times = times_after 0 world.lines; closed = replicate world.streams false; last = false }
 
-abbrev pub first_outside : World → Outside
-first_outside world = record { streams = first_streams world; lines = lines_after 0 world.lines }
+abbrev pub outside_ready : World → Outside
+outside_ready world = record { streams = first_streams world; lines = lines_after 0 world.lines }
 
 -- not set up
 abbrev pub state_refused : ReactorState → ReactorState
@@ -69,50 +74,12 @@ outside_at (point.Time time) outside =
     record { streams = perform_lines (lines_at time outside.lines) outside.streams; lines = lines_after time outside.lines }
 outside_at point.Last outside = record outside { streams = streams_at_last outside.streams }
 
--- how many bytes a call moved
-abbrev pub moved_count : Moved → ℕ
-moved_count (moved.Took count) = count
-moved_count moved.End = 0
-moved_count moved.NotYet = 0
-moved_count moved.Reset = 0
-
 -- at least one byte of so many, or none
 abbrev pub IsMoveWithin : ℕ → Moved → Type 0
 IsMoveWithin limit (moved.Took count) = (1 ≤ count) × (count ≤ limit)
 IsMoveWithin limit moved.End = ⊤
 IsMoveWithin limit moved.NotYet = ⊤
 IsMoveWithin limit moved.Reset = ⊤
-
--- as much as is wanted and there; where nothing is there, what the mark says
-abbrev pub moved_of : ℕ → ℕ → Moved → Moved
-moved_of wanted there by_mark = if there == 0 then by_mark else moved.Took (min wanted there)
-
-abbrev pub by_read_mark : Option ReadMark → Moved
-by_read_mark None = moved.NotYet
-by_read_mark (Some read_mark.Eof) = moved.End
-by_read_mark (Some read_mark.Reset) = moved.Reset
-
-abbrev pub by_write_mark : Option WriteMark → Moved
-by_write_mark None = moved.NotYet
-by_write_mark (Some write_mark.Broken) = moved.End
-by_write_mark (Some write_mark.Reset) = moved.Reset
-
--- what a read of so many bytes answers
-abbrev pub read_answer : ℕ → Stream → Moved
-read_answer wanted stream = moved_of wanted (length stream.arrived) (by_read_mark stream.read_mark)
-
--- what a write of so many bytes answers
-abbrev pub write_answer : ℕ → Stream → Moved
-write_answer offered stream = moved_of offered stream.room (by_write_mark stream.write_mark)
-
--- so many bytes were given
-abbrev pub after_read : ℕ → Stream → Stream
-after_read count stream = record stream { arrived = drop count stream.arrived }
-
--- these bytes were taken
-abbrev pub after_write : List ℕ → Stream → Stream
-after_write bytes stream =
-    record stream { room = stream.room - length bytes; sent = stream.sent ++ bytes }
 
 -- one stream changed, and nothing else
 abbrev pub with_stream : ℕ → (Stream → Stream) → Outside → Outside
@@ -127,10 +94,6 @@ abbrev pub outside_closed : ℕ → Outside → Outside
 outside_closed stream = with_stream stream closed_stream
 
 -- a failure raises the count of faults, and every other answer leaves it
-abbrev pub CountsFaults : {T : Type 0} → Result T Failed → ℕ → ℕ → Type 0
-CountsFaults (Ok value) old new = new ≡ old
-CountsFaults (Err failed) old new = Rose old new
-
 abbrev pub CountsSetupFaults : {T : Type 0} → Result T SetupFault → ℕ → ℕ → Type 0
 CountsSetupFaults (Ok value) old new = new ≡ old
 CountsSetupFaults (Err setup_fault.Failed) old new = Rose old new

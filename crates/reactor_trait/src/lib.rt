@@ -1,12 +1,12 @@
-//! The outside of an io_context as a trait, and the scripted time that its implementations share. The trait promises of every
-//! reactor when time moves and where to, what a read and a write may answer, and that a call fails only where the reactor's
-//! count of faults rose; and of a reactor that tells its bytes, each answer exactly. The proactor stands on it.
+//! The outside of an io_context as a trait. It promises of every reactor when time moves and where to, what a read and a
+//! write may answer, and that a call fails only where the reactor's count of faults rose; and of a reactor that tells its
+//! bytes, each answer exactly. The least reactor stands beside it. The proactor stands on it.
 #![tactic(auto)]
 
 mod reactor;
-mod schedule;
+mod silent_reactor;
 #[cfg(test)]
 mod tests;
 
 pub use reactor::Reactor;
-pub use schedule::Schedule;
+pub use silent_reactor::SilentReactor;

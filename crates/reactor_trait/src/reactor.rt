@@ -1,8 +1,10 @@
-ghost use Rattle.std.specs.Prelude.{◌≡◌, ◌≢◌, ◌<◌, ◌≤◌, ℕ, Option, IsTrue, IfOk, IfSome, OnErr, OnOk, length, take, drop};
+ghost use Rattle.std.specs.Prelude.{◌≡◌, ◌≢◌, ◌<◌, ◌≤◌, ℕ, Option, IsTrue, IfOk, IfSome, OnErr, OnOk, length, take};
 ghost use Rattle.std.specs.Option.{ForSome, option_map};
-ghost use Rattle.asio_types.specs.Stream.{Stream};
-ghost use Rattle.asio_types.specs.World.{HasItsStreams, next_point, stream_at};
-ghost use Rattle.reactor_trait.specs.Reactor.{ReactorState, Outside, stream_count, IsOpen, first_state, first_outside, state_refused, state_at, outside_at, moved_count, IsMoveWithin, read_answer, write_answer, after_read, after_write, with_stream, state_closed, outside_closed, CountsFaults, CountsSetupFaults};
+ghost use Rattle.asio_types.specs.Faults.{CountsFaults};
+ghost use Rattle.stream_rules.specs.Moving.{moved_count, read_answer, write_answer};
+ghost use Rattle.stream_rules.specs.Serving.{Some_of, after_reading, after_writing};
+ghost use Rattle.stream_rules.specs.World.{HasItsStreams, next_point, stream_at};
+ghost use Rattle.reactor_trait.specs.Reactor.{ReactorState, Outside, stream_count, IsOpen, state_ready, outside_ready, state_refused, state_at, outside_at, IsMoveWithin, with_stream, state_closed, outside_closed, CountsSetupFaults};
 
 use asio_types::{Failed, Moved, Point, SetupFault, StreamNo, World};
 use std::alloc::Global;
@@ -28,10 +30,10 @@ pub trait Reactor: Drop {
     /// the reactor isn't set up, and all else is as before.
     fn set_up(&mut self, alloc: Global, world: &World) -> Result<(), SetupFault>
         requires { HasItsStreams world.now }
-        ensures ready { OnOk result (state self.new ≡ first_state world.now) }
+        ensures ready { OnOk result (state self.new ≡ state_ready world.now) }
         ensures refused { OnErr result (state self.new ≡ state_refused (state self.old)) }
         ensures told_ready { OnOk result
-            (told self.new ≡ option_map (λ _. first_outside world.now) (told self.old)) }
+            (told self.new ≡ option_map (λ _. outside_ready world.now) (told self.old)) }
         ensures told_refused { OnErr result (told self.new ≡ told self.old) }
         ensures counts { CountsSetupFaults result (faults self.old) (faults self.new) }
         ensures later { faults self.old ≤ faults self.new };
@@ -52,9 +54,9 @@ pub trait Reactor: Drop {
         ensures later { faults self.old ≤ faults self.new };
 
     /// Gives bytes that arrived on a stream (Asio reference, `async_read_some`): the next ones, at least one and at most
-    /// the buffer's length; behind them the buffer stays as it was. Where none is there, the answer is `End` at end of
+    /// the buffer's length; what the buffer has behind them is left open. Where none is there, the answer is `End` at end of
     /// file, `Reset` where the peer is gone, and else `NotYet`, which never comes after an advance that answered `Last`.
-    /// After a failure all is as before.
+    /// After a failure all but the buffer is as before.
     fn read_some(&mut self, stream: StreamNo, buf: &mut [u8]) -> Result<Moved, Failed>
         requires up { IsTrue (state self.old).up }
         requires known { stream < stream_count (state self.old) }
@@ -63,15 +65,12 @@ pub trait Reactor: Drop {
         ensures keeps { state self.new ≡ state self.old }
         ensures within { IfOk result (IsMoveWithin (length buf.old)) }
         ensures after_last { IsTrue (state self.old).last → IfOk result (λ moved. moved ≢ Moved.NotYet) }
-        ensures rest { IfOk result
-            (λ moved. drop (moved_count moved) buf.new ≡ drop (moved_count moved) buf.old) }
-        ensures failed_buffer { OnErr result (buf.new ≡ buf.old) }
         ensures told_answer { IfOk result (λ moved. IfSome (told self.old)
             (λ outside. moved ≡ read_answer (length buf.old) (stream_at outside.streams stream))) }
         ensures told_bytes { IfOk result (λ moved. IfSome (told self.old)
             (λ outside. take (moved_count moved) buf.new ≡ take (moved_count moved) (stream_at outside.streams stream).arrived)) }
         ensures told_gives { IfOk result (λ moved.
-            told self.new ≡ option_map (with_stream stream (after_read (moved_count moved))) (told self.old)) }
+            told self.new ≡ option_map (with_stream stream (after_reading (moved_count moved))) (told self.old)) }
         ensures told_failed { OnErr result (told self.new ≡ told self.old) }
         ensures counts { CountsFaults result (faults self.old) (faults self.new) }
         ensures later { faults self.old ≤ faults self.new };
@@ -89,9 +88,9 @@ pub trait Reactor: Drop {
         ensures within { IfOk result (IsMoveWithin (length bytes.now)) }
         ensures after_last { IsTrue (state self.old).last → IfOk result (λ moved. moved ≢ Moved.NotYet) }
         ensures told_answer { IfOk result (λ moved. IfSome (told self.old)
-            (λ outside. moved ≡ write_answer (length bytes.now) (stream_at outside.streams stream))) }
+            (λ outside. moved ≡ write_answer bytes.now (stream_at outside.streams stream))) }
         ensures told_takes { IfOk result (λ moved.
-            told self.new ≡ option_map (with_stream stream (after_write (take (moved_count moved) bytes.now))) (told self.old)) }
+            told self.new ≡ option_map (with_stream stream (after_writing (Some_of bytes.now) 0 (moved_count moved))) (told self.old)) }
         ensures told_failed { OnErr result (told self.new ≡ told self.old) }
         ensures counts { CountsFaults result (faults self.old) (faults self.new) }
         ensures later { faults self.old ≤ faults self.new };

@@ -1,70 +1,12 @@
 //! The trait can be met by a reactor that tells no bytes.
 
-ghost use Rattle.std.specs.Prelude.{◌≡◌, ◌<◌, None, IfOk, replicate, false};
-ghost use Rattle.asio_types.specs.World.{HasItsStreams};
-ghost use Rattle.reactor_trait.specs.Timetable.{state_over};
+ghost use Rattle.std.specs.Prelude.{◌<◌};
+ghost use Rattle.stream_rules.specs.World.{HasItsStreams};
 
-use crate::{Reactor, Schedule};
-use asio_types::{Bytes, Failed, Line, Lines, Moved, Point, SetupFault, StreamNo, What, World};
-use std::alloc::{AllocError, Global};
+use crate::{Reactor, SilentReactor};
+use asio_types::{Line, Lines, Moved, Point, SetupFault, What, World};
+use std::alloc::Global;
 use std::test::Fail;
-
-/// Scripted time over streams on which nothing arrives and nothing is taken. It never fails.
-#[derive(Drop)]
-struct Silence {
-    up: bool,
-    schedule: Schedule,
-    closed: Vec<bool>,
-    last: bool,
-}
-
-fn all_open(alloc: Global, streams: u8) -> Result<Vec<bool>, AllocError>
-    ensures { IfOk result (λ closed. closed.items ≡ replicate streams false) }
-{
-    vec![in alloc; false; streams as usize]
-}
-
-impl Reactor for Silence {
-    ghost faults = { λ s. 0 };
-
-    ghost state = { λ s. state_over s.up s.closed.items s.last s.schedule };
-
-    ghost told = { λ s. None };
-
-    fn set_up(&mut self, alloc: Global, world: &World) -> Result<(), SetupFault> {
-        self.up = false;
-        let schedule = Schedule::of(alloc, world.lines.as_slice()).map_err(
-            |_| SetupFault::NoMemory,
-        )?;
-        let closed = all_open(alloc, world.streams).map_err(|_| SetupFault::NoMemory)?;
-        self.up = true;
-        self.schedule = schedule;
-        self.closed = closed;
-        self.last = false;
-        Ok(())
-    }
-
-    fn advance(&mut self, limit: Option<u64>) -> Result<Point, Failed> {
-        let point = self.schedule.advance(limit);
-        match point {
-            Point::Time(_) => {}
-            Point::Last => self.last = true,
-        }
-        Ok(point)
-    }
-
-    fn read_some(&mut self, _stream: StreamNo, _buf: &mut [u8]) -> Result<Moved, Failed> {
-        Ok(if self.last { Moved::End } else { Moved::NotYet })
-    }
-
-    fn write_some(&mut self, _stream: StreamNo, _bytes: &[u8]) -> Result<Moved, Failed> {
-        Ok(if self.last { Moved::End } else { Moved::NotYet })
-    }
-
-    fn close(&mut self, stream: StreamNo) {
-        self.closed[stream as usize] = true;
-    }
-}
 
 /// One session over any reactor: its first stream is read, written and closed, and time moves twice.
 fn session<X: Reactor>(
@@ -104,12 +46,7 @@ fn silence_meets_the_trait(rt: HostRuntime) -> Result<(), Fail> {
         streams: 1,
         lines: Lines::of(vec![in alloc; line]?),
     };
-    let mut silence = Silence {
-        up: false,
-        schedule: Schedule::empty(alloc),
-        closed: Vec::new(alloc),
-        last: false,
-    };
+    let mut silence = SilentReactor::empty(alloc);
     let seen = session(&mut silence, alloc, &world)?;
     assert_eq!(rt;
         seen,

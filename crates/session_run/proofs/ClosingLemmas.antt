@@ -4,9 +4,9 @@ use Rattle.std.specs.Prelude.{not, count_by, if◌then◌else◌}
 use Rattle.std.specs.List.{slice_index_or}
 use Rattle.asio_types.specs.declared.code.Code.TheVariants as code
 use Rattle.std.proofs.lemmas.List.{get_or_default}
-use Rattle.session_script.specs.Script.{ScriptModel}
+use Rattle.session_script.specs.Script.{ScriptModel, is_op}
 use Rattle.history_book.specs.State.{State, is_outstanding, is_running, fresh}
-use Rattle.history_book.specs.Calls.{accepted, operates}
+use Rattle.history_book.specs.Calls.{accepted}
 use Rattle.history_book.specs.Legal.{IsWhole}
 use Rattle.history_book.specs.Rounds.{MayEndRound, MayStopRound, after_closing}
 use Rattle.history_book.specs.declared.phase.ActState.{ActState}
@@ -48,7 +48,7 @@ spent_at_end script s postings ran =
 
 -- what was just accepted doesn't run
 accepted_rests : (script : ScriptModel) (i : ℕ) → is_running (accepted script i) ≡ false
-accepted_rests script i = rests (operates script i)
+accepted_rests script i = rests (is_op script i)
   where
     rests : (b : Bool) → is_running (if b then op.Ready code.Ok 0 else op.Absent) ≡ false
     rests true = refl

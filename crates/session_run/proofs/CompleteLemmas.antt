@@ -1,30 +1,33 @@
 -- A session whose reading and writing don't fail ends well.
 use Rattle.std.proofs.Common.{◌≡◌, ◌≤◌, ℕ, List, take, length, refl, ap, arith, ◌∙◌, ◌⊎◌, inl, inr, subst}
-use Rattle.std.specs.Prelude.{Option, Some, None}
+use Rattle.std.specs.Prelude.{Option, Some, None, ⊤}
 use Rattle.std.proofs.lemmas.List.{take_all}
 use Rattle.session_script.specs.Script.{ScriptModel}
+use Rattle.session_script.specs.Limits.{most_bytes, most_read}
 use Rattle.session_script.specs.Grammar.{IsScript, fault_of, first_fault}
 use Rattle.session_script.proofs.ReadingBack.{spells}
 use Rattle.session_script.specs.declared.refusal.Refusal.{Refusal}
 use Rattle.session_run.specs.Built.{IsBuilt}
 use Rattle.op_handlers.specs.Marks.{Marks}
-use Rattle.op_handlers.specs.declared.rack.Rack.{Rack}
-use Rattle.session_run.specs.Answer.{Answers, HasFault, Seen, Stood}
-use Rattle.session_run.specs.Form.{HasForm, IsForm, IsRun}
-use Rattle.session_run.specs.Text.{ReadsText, most_read}
+use Rattle.session_run.specs.Answer.{Does, HasFault, Says, Stood, Writes, WritesPart}
+use Rattle.session_run.specs.Given.{Given}
+use Rattle.session_run.specs.Run.{ShowsFault}
+use Rattle.asio_types.specs.Faults.{Rose}
+use Rattle.session_run.specs.Form.{HasForm, IsForm, IsRun, IsUpgrade}
+use Rattle.session_run.specs.Text.{ReadsText}
 use Rattle.session_run.specs.declared.form.Form.{Form}
 use Rattle.session_run.specs.declared.form.Form.TheVariants as forms
 use Rattle.session_run.specs.declared.status.Status.{Status}
 use Rattle.session_run.specs.declared.status.Status.TheVariants as status
 
 -- the text of a source that has a script's bytes
-text_of : (told : Option (List ℕ)) (text : List ℕ) (after : Option (List ℕ)) (bytes : List ℕ) → told ≡ Some bytes → length bytes ≤ 262144 → ReadsText told text after → text ≡ bytes
+text_of : (told : Option (List ℕ)) (text : List ℕ) (after : Option (List ℕ)) (bytes : List ℕ) → told ≡ Some bytes → length bytes ≤ most_bytes → ReadsText told text after → text ≡ bytes
 text_of None text after bytes same few read = cc same
 text_of (Some before) text after bytes same few read =
     let e : before ≡ bytes = cc in read.0 ∙ ap (take most_read) e ∙ take_all most_read bytes (omega (arith, few))
 
 -- a script is no longer than its limit
-script_size : (bytes : List ℕ) (script : ScriptModel) → IsScript bytes script → length bytes ≤ 262144
+script_size : (bytes : List ℕ) (script : ScriptModel) → IsScript bytes script → length bytes ≤ most_bytes
 script_size bytes script is = (spells bytes script is).size
 
 -- a text of a script has no fault
@@ -43,16 +46,40 @@ not_refused bytes script form rule line token is built (inl first) = no_fault by
 not_refused bytes script form rule line token is built (inr unbuilt) =
     unbuilt.3 (subst IsBuilt (one_script bytes script unbuilt.0 is unbuilt.2) (built unbuilt.1))
 
+-- what can't have happened in a session of a script that failed nowhere
+pub record Undisturbed {H : Type 0} (given : Given H) (bytes : List ℕ) (script : ScriptModel) : Type 0 where
+  pub form : HasForm given.words
+  pub told : given.source.told_before ≡ Some bytes
+  pub is : IsScript bytes script
+  pub built : IsRun given.words → IsBuilt script
+  pub read : Stood given.source.faults_before given.source.faults_after
+  pub write : Stood given.out.faults_before given.out.faults_after
+  pub reactor : Stood given.reactor.sent.faults_before given.reactor.sent.faults_after
+
+-- no words are those of both forms
+other_form : (words : List (List ℕ)) → IsRun words → IsUpgrade words → ⊥
+other_form words run upgrade = cc (run, upgrade)
+
+-- a count that stood didn't rise
+stood : (before after : ℕ) → Stood before after → Rose before after → ⊥
+stood before after still rose = absurd (omega (arith, rose (omega (arith, still.0)), still.1))
+
 -- where nothing fails, a script is run to its end or its upgrade is written
-pub complete : {H : Type 0} (marks : H → Marks) (seen : Seen) (old new : Rack H) (answer : Status) → Answers marks seen old new answer → (bytes : List ℕ) (script : ScriptModel) → HasForm seen.words → seen.left_before ≡ Some bytes → IsScript bytes script → (IsRun seen.words → IsBuilt script) → Stood seen.read_faults_before seen.read_faults_after → Stood seen.write_faults_before seen.write_faults_after → (answer ≡ status.Done) ⊎ (answer ≡ status.NoMemory)
-complete marks seen old new status.Done said bytes script form told is built read write = inl refl
-complete marks seen old new status.NoMemory said bytes script form told is built read write = inr refl
-complete marks seen old new status.Usage said bytes script form told is built read write = absurd (said form)
-complete marks seen old new status.Refused said bytes script form told is built read write =
-    let why = said.3 in
-    absurd (not_refused bytes script why.form said.0 said.1 said.2 is (λ run. built (subst (IsForm seen.words) run why.words))
-    (subst (λ text. HasFault why.form text said.0 said.1 said.2) (text_of seen.left_before why.text seen.left_after bytes told (script_size bytes script is) why.read) why.fault))
-complete marks seen old new status.ReadFault said bytes script form told is built read write = absurd (omega (arith, said.failed read.0, read.1))
-complete marks seen old new status.WriteFault (inl run) bytes script form told is built read write = absurd (omega (arith, run.1 write.0, write.1))
-complete marks seen old new status.WriteFault (inr upgrade) bytes script form told is built read write = absurd (omega (arith, upgrade.1 write.0, write.1))
-complete marks seen old new status.ReactorFault said bytes script form told is built read write = absurd said
+pub complete : {H : Type 0} (marks : H → Marks) (given : Given H) (answer : Status) (note : List ℕ) → Says marks given answer note → (bytes : List ℕ) (script : ScriptModel) → Undisturbed given bytes script → (answer ≡ status.Done) ⊎ (answer ≡ status.NoMemory)
+complete marks given status.Done note said bytes script calm = inl refl
+complete marks given status.NoMemory note said bytes script calm = inr refl
+complete marks given status.Usage note said bytes script calm = absurd (said.0 calm.form)
+complete marks given status.Refused note (form, rule, line, token, words, why, same) bytes script calm =
+    absurd (not_refused bytes script form rule line token calm.is (λ run. calm.built (subst (IsForm given.words) run words))
+    (subst (λ text. HasFault form text rule line token) (text_of given.source.told_before why.text given.source.told_after bytes calm.told (script_size bytes script calm.is) why.read) why.fault))
+complete marks given status.ReadFault note said bytes script calm = absurd (stood given.source.faults_before given.source.faults_after calm.read said.1)
+complete marks given status.WriteFault note said bytes script calm = absurd (wrote said.0.form said.0.work)
+  where
+    wrote : (form : Form) → Does form marks said.0.script given.reactor given.rack_before given.rack_after (λ events. ⊤) (WritesPart given.out) → ⊥
+    wrote forms.Run work = stood given.out.faults_before given.out.faults_after calm.write work.3.1
+    wrote forms.Upgrade work = stood given.out.faults_before given.out.faults_after calm.write work.1.1
+complete marks given status.ReactorFault note said bytes script calm = absurd (failed said.1.form said.1.words said.1.work)
+  where
+    failed : (form : Form) → IsForm given.words form → Does form marks said.1.script given.reactor given.rack_before given.rack_after ShowsFault (Writes given.out) → ⊥
+    failed forms.Run words work = stood given.reactor.sent.faults_before given.reactor.sent.faults_after calm.reactor (work.1.faults work.2)
+    failed forms.Upgrade words work = other_form given.words said.0 words

@@ -5,10 +5,12 @@ use Rattle.asio_types.specs.declared.code.Class.TheVariants as class
 use Rattle.std.proofs.Math.Nat.{eq-or-lt_of_le}
 use Rattle.std.proofs.Math.ListN.{length-set}
 use Rattle.asio_types.specs.declared.code.Code.TheVariants as code
-use Rattle.session_script.specs.Script.{ScriptModel, numbers_in}
-use Rattle.std.specs.Prelude.{All, None}
+use Rattle.session_script.specs.Script.{ScriptModel, branch_of, is_op, numbers_in}
+use Rattle.std.specs.Prelude.{All, None, Some, List, [], ◌∷◌, map}
+use Rattle.session_script.specs.declared.act.Act.{Act}
+use Rattle.asio_types.specs.declared.code.Class.{Class}
 use Rattle.history_book.specs.State.{State, act_at, call_at, op_at, is_outstanding, with_op}
-use Rattle.history_book.specs.Calls.{accepted, operates}
+use Rattle.history_book.specs.Calls.{accepted}
 use Rattle.history_book.specs.Executions.{MayBegin, after_begin, after_end}
 use Rattle.history_book.specs.Rounds.{RoundIsOpen, MayDrop, after_drop}
 use Rattle.history_book.specs.declared.phase.CallPhase.TheVariants as call
@@ -28,7 +30,7 @@ round_open script s postings back closings =
     }
 
 -- an operation is ready once it was accepted
-pub accepted_ready : (script : ScriptModel) (o : ℕ) → operates script o ≡ true → accepted script o ≡ op.Ready code.Ok 0
+pub accepted_ready : (script : ScriptModel) (o : ℕ) → is_op script o ≡ true → accepted script o ≡ op.Ready code.Ok 0
 accepted_ready script o is = rw is refl
 
 -- one operation was changed, and the others stay
@@ -51,7 +53,7 @@ call_at-with_op s n new j below = by_place (same_or_other j n)
     by_place (inr other) = ap (λ act. act.call) (act_at-other s n (record (act_at s n) { op = new }) j other)
 
 -- the next ready posting may begin
-pub may_begin_next : (script : ScriptModel) (s : State) (o : ℕ) → IsPostings script → RanTo script s o → o < length script.acts → operates script o ≡ true → MayBegin script s o code.Ok 0
+pub may_begin_next : (script : ScriptModel) (s : State) (o : ℕ) → IsPostings script → RanTo script s o → o < length script.acts → is_op script o ≡ true → MayBegin script s o code.Ok 0
 may_begin_next script s o postings ran below is =
     record { round = round_open script s postings ran.back ran.closings; ready = ran.ready o (omega arith) below ∙ accepted_ready script o is; allowed = ran.allowed }
 
@@ -85,11 +87,11 @@ executed script s o ran below =
     ended_at i (inr before) = ap is_outstanding (others i (λ same. absurd (omega (arith, before, same)))) ∙ ran.ended i before
 
 -- an act that is no operation was not accepted
-not_accepted : (script : ScriptModel) (o : ℕ) → operates script o ≡ false → accepted script o ≡ op.Absent
+not_accepted : (script : ScriptModel) (o : ℕ) → is_op script o ≡ false → accepted script o ≡ op.Absent
 not_accepted script o isnt = rw isnt refl
 
 -- an act without a handler is passed
-pub passed : (script : ScriptModel) (s : State) (o : ℕ) → RanTo script s o → o < length script.acts → operates script o ≡ false → RanTo script s (o + 1)
+pub passed : (script : ScriptModel) (s : State) (o : ℕ) → RanTo script s o → o < length script.acts → is_op script o ≡ false → RanTo script s (o + 1)
 passed script s o ran below isnt =
     record {
       size = ran.size;
@@ -106,7 +108,7 @@ passed script s o ran below isnt =
     ended_at i (inr before) = ran.ended i before
 
 -- the next operation that never ran may be destroyed
-pub may_drop_next : (script : ScriptModel) (s : State) (o : ℕ) → SpentTo script s o → o < length script.acts → operates script o ≡ true → MayDrop script s o
+pub may_drop_next : (script : ScriptModel) (s : State) (o : ℕ) → SpentTo script s o → o < length script.acts → is_op script o ≡ true → MayDrop script s o
 may_drop_next script s o spent below is =
     record { over = spent.over; left = ap is_outstanding (spent.left o (omega arith) below ∙ accepted_ready script o is); least = spent.spent }
 
@@ -124,10 +126,19 @@ destroyed script s o spent below =
     spent_at i (inl same) = rw same (ap is_outstanding (op_at-same s o op.Dropped (omega (arith, below, spent.size))))
     spent_at i (inr before) = ap is_outstanding (op_at-other s o op.Dropped i (λ same. absurd (omega (arith, before, same)))) ∙ spent.spent i before
 
-pub passed_over : (script : ScriptModel) (s : State) (o : ℕ) → SpentTo script s o → o < length script.acts → operates script o ≡ false → SpentTo script s (o + 1)
+pub passed_over : (script : ScriptModel) (s : State) (o : ℕ) → SpentTo script s o → o < length script.acts → is_op script o ≡ false → SpentTo script s (o + 1)
 passed_over script s o spent below isnt =
     record { size = spent.size; over = spent.over; spent = λ i before. spent_at i (eq-or-lt_of_le (omega arith)); left = λ i after. spent.left i (omega arith) }
   where
     spent_at : (i : ℕ) → (i ≡ o) ⊎ (i < o) → is_outstanding (op_at s i) ≡ false
     spent_at i (inl same) = rw same (ap is_outstanding (spent.left o (omega arith) below ∙ not_accepted script o isnt))
     spent_at i (inr before) = spent.spent i before
+
+-- an act of `open` stands in no branch
+none_inside : (o n : ℕ) (class : Class) (acts : List Act) → numbers_in (Some (o, class)) n (map in_open acts) ≡ []
+none_inside o n class [] = refl
+none_inside o n class (act ∷ acts) = none_inside o (n + 1) class acts
+
+-- no act stands in a branch
+pub branch_of-postings : (script : ScriptModel) (o : ℕ) (class : Class) → IsPostings script → branch_of script o class ≡ []
+branch_of-postings script o class postings = ap (numbers_in (Some (o, class)) 0) postings.listed ∙ none_inside o 0 class postings.acts

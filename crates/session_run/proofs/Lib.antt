@@ -1,10 +1,11 @@
-pub mod EventLemmas
-pub mod OpeningLemmas
-pub mod ExecutionLemmas
-pub mod RackLemmas
+pub mod BuiltLemmas
 pub mod ClosingLemmas
 pub mod CompleteLemmas
+pub mod EventLemmas
+pub mod ExecutionLemmas
+pub mod NoteLemmas
+pub mod OpeningLemmas
+pub mod RackLemmas
+pub mod RunLemmas
 pub mod TextLemmas
 pub mod WordLemmas
-pub mod AnswerLemmas
-pub mod BuiltLemmas

@@ -8,11 +8,11 @@ use Rattle.std.proofs.lemmas.List.{get_or-set_same, get_or-set_other, get_or_def
 use Rattle.std.proofs.Math.ListN.{length-set}
 use Rattle.std.proofs.lemmas.List.Elements.{All-nil, All-cons}
 use Rattle.session_script.specs.declared.act.Act.{Act}
-use Rattle.session_script.specs.Script.{ScriptModel, numbers_in, opening_of}
+use Rattle.session_script.specs.Script.{ScriptModel, numbers_in, opening_of, stops}
 use Rattle.history_book.specs.State.{State, act_at, call_at, is_open, is_uncalled, with_act, fresh}
 use Rattle.history_book.specs.declared.phase.ActState.{ActState}
 use Rattle.history_book.specs.declared.phase.CallPhase.TheVariants as call
-use Rattle.history_book.specs.Calls.{MayCall, NoCallIsOpen, accepted, after_call, after_return, after_stop, stops}
+use Rattle.history_book.specs.Calls.{MayCall, NoCallIsOpen, accepted, after_call, after_return, after_stop}
 use Rattle.session_run.specs.Progress.{OpenedTo, IsPostings, in_open}
 
 -- a number is found at once, or passed

@@ -6,8 +6,9 @@ use Rattle.std.proofs.lemmas.Slice.{take-put_mid, take-put_mid_below}
 use Rattle.std.proofs.Math.ListN.{drop_of_length-le}
 use Rattle.std.proofs.Math.Seq.{take-append-add, take-nil, drop-nil}
 use borrow.Rule.Slice.PartMut.{put_mid}
-use Rattle.asio_types.specs.Source.{GivesNext, IsNext, LosesFirst}
-use Rattle.session_run.specs.Text.{ReadsText, most_read}
+use Rattle.asio_types.specs.Source.{GivesNext, IsNextPart, LosesFirst}
+use Rattle.session_script.specs.Limits.{most_read}
+use Rattle.session_run.specs.Text.{ReadsText}
 
 -- what was read so far, where the source tells its bytes
 abbrev pub IsFilled : Option (List ℕ) → ℕ → List ℕ → Option (List ℕ) → Type 0
@@ -23,7 +24,7 @@ drop-add zero n xs = ap (λ k. drop k xs) (zero-add n)
 drop-add (suc a) n [] = simp drop-nil refl
 drop-add (suc a) n (x ∷ xs) = let e : suc a + n ≡ suc (a + n) = omega arith in ap (λ k. drop k (x ∷ xs)) e ∙ drop-add a n xs
 
-is_next : (o : Option (List ℕ)) (rest : List ℕ) (n : ℕ) (buf : List ℕ) → o ≡ Some rest → GivesNext o n buf → IsNext rest n buf
+is_next : (o : Option (List ℕ)) (rest : List ℕ) (n : ℕ) (buf : List ℕ) → o ≡ Some rest → GivesNext o n buf → IsNextPart rest n buf
 is_next None rest n buf same next = cc same
 is_next (Some left) rest n buf same next = let e : left ≡ rest = cc in rw (← e) next
 

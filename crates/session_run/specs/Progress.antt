@@ -1,9 +1,9 @@
 -- How far a session of plain postings and stops has come.
 use Rattle.std.specs.Prelude.{◌≡◌, ◌<◌, ◌≤◌, ℕ, true, false, not, length, map, List, None}
 use Rattle.session_script.specs.declared.act.Act.{Act}
-use Rattle.session_script.specs.Script.{Entry, ScriptModel}
+use Rattle.session_script.specs.Script.{Entry, ScriptModel, stops}
 use Rattle.history_book.specs.State.{State, act_at, call_at, op_at, fresh, is_outstanding}
-use Rattle.history_book.specs.Calls.{accepted, stops}
+use Rattle.history_book.specs.Calls.{accepted}
 use Rattle.history_book.specs.declared.phase.CallPhase.TheVariants as call
 
 -- an act of `open` itself

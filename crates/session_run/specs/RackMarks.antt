@@ -1,7 +1,7 @@
 -- The marks that the handlers of a rack have.
-use Rattle.std.specs.Prelude.{◌≡◌, ℕ, Option, Some, None, length}
+use Rattle.std.specs.Prelude.{ℕ, Option, Some, None}
 use Rattle.op_handlers.specs.Marks.{Marks}
-use Rattle.op_handlers.specs.Rack.{handler_at, handlers_in}
+use Rattle.op_handlers.specs.Rack.{handler_at}
 use Rattle.op_handlers.specs.declared.rack.Rack.{Rack}
 
 -- a mark of the handler, where there is one
@@ -16,8 +16,3 @@ run_mark marks rack n = mark_by (λ m. m.run) marks (handler_at rack n)
 -- the drop mark of the handler with a number
 abbrev pub drop_mark : {H : Type 0} → (H → Marks) → Rack H → ℕ → ℕ
 drop_mark marks rack n = mark_by (λ m. m.drop) marks (handler_at rack n)
-
--- no handler is left, and the numbers stay
-pub record AllTaken {H : Type 0} (old new : Rack H) : Type 0 where
-  pub size : length (handlers_in new) ≡ length (handlers_in old)
-  pub none : (n : ℕ) → handler_at new n ≡ None

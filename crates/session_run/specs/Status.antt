@@ -27,7 +27,11 @@ note_of status.WriteFault = note_line (codes "write fault")
 note_of status.ReactorFault = note_line (codes "reactor fault")
 note_of status.NoMemory = note_line (codes "no memory")
 
+-- words with a number behind them
+abbrev pub field : List ℕ → ℕ → List ℕ
+field words number = words ++ decimal number
+
 -- the note of a refusal
 abbrev pub refused_note : ℕ → ℕ → ℕ → List ℕ
 refused_note rule line token =
-    codes "asio_run: refused " ++ decimal rule ++ codes " at line " ++ decimal line ++ codes " token " ++ decimal token ++ 10 ∷ []
+    field (codes "asio_run: refused ") rule ++ field (codes " at line ") line ++ field (codes " token ") token ++ 10 ∷ []

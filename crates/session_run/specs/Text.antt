@@ -1,9 +1,6 @@
 -- What a session reads from its source.
 use Rattle.std.specs.Prelude.{◌≡◌, ◌≤◌, ℕ, List, take, drop, Option, Some, None, ⊤}
-
--- the most bytes that are read: one more than a script may have
-abbrev pub most_read : ℕ
-most_read = 262145
+use Rattle.session_script.specs.Limits.{most_read}
 
 -- The text is all that the source had, or its first part, and the rest is left; where the source tells that.
 abbrev pub ReadsText : Option (List ℕ) → List ℕ → Option (List ℕ) → Type 0

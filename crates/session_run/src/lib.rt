@@ -3,25 +3,28 @@
 //! with its cause. The program stands on it.
 #![tactic(auto)]
 
-mod acts;
 mod built;
 mod destruction;
+mod ending;
 mod execution;
 mod form;
-mod note;
+mod limits;
+mod noting;
 mod opening;
-mod refusing;
-mod rest;
+mod origin;
+mod recording;
+mod rounds;
 mod running;
 mod session;
 mod status;
 #[cfg(test)]
 mod tests;
 mod text;
-mod top;
+mod unfinished;
 mod upgrading;
 
 pub use built::is_built;
 pub use form::Form;
+pub use limits::HANDLERS;
+pub use session::asio_session;
 pub use status::Status;
-pub use top::asio_session;

@@ -1,11 +1,10 @@
 ghost use Rattle.std.specs.Prelude.{◌≡◌, ◌<◌, ◌≤◌, ◌+◌, ◌*◌, ℕ, [], length, true, false, if◌then◌else◌};
-ghost use Rattle.history_book.specs.Calls.{stops};
+ghost use Rattle.session_script.specs.Script.{stops};
 ghost use Rattle.history_book.specs.Legal.{IsLegalSoFar, state_of};
 ghost use Rattle.history_book.specs.Marks.{HasMarks};
 ghost use Rattle.session_run.specs.Progress.{IsPostings, OpenedTo};
 
-use crate::acts::stops;
-use crate::note::note;
+use crate::recording::record_event;
 use asio_types::{ActNo, Event};
 use history_book::History;
 use session_script::Script;
@@ -16,17 +15,17 @@ fn post(script: &Script, history: &mut History, a: ActNo)
     requires act { a < length script.now.acts }
     requires posting { stops script.now a ≡ false }
     requires room { 2 ≤ history.old.spare }
-    requires so_far { IsLegalSoFar script.now true history.old.events }
-    requires opened { OpenedTo script.now (state_of script.now true history.old.events) a }
+    requires so_far { IsLegalSoFar script.now false history.old.events }
+    requires opened { OpenedTo script.now (state_of script.now false history.old.events) a }
     requires unmarked { (run drop : ℕ → ℕ) → HasMarks run drop history.old.events }
-    ensures legal { IsLegalSoFar script.now true history.new.events }
-    ensures one_more { OpenedTo script.now (state_of script.now true history.new.events) (a + 1) }
-    ensures going { (state_of script.now true history.new.events).stopped ≡ (state_of script.now true history.old.events).stopped }
+    ensures legal { IsLegalSoFar script.now false history.new.events }
+    ensures one_more { OpenedTo script.now (state_of script.now false history.new.events) (a + 1) }
+    ensures going { (state_of script.now false history.new.events).stopped ≡ (state_of script.now false history.old.events).stopped }
     ensures still_unmarked { (run drop : ℕ → ℕ) → HasMarks run drop history.new.events }
     ensures spare { history.new.spare + 2 ≡ history.old.spare }
 {
-    note(script, history, Event::Call { act: a });
-    note(script, history, Event::Back { act: a });
+    record_event(script, history, Event::Call { act: a });
+    record_event(script, history, Event::Back { act: a });
 }
 
 /// The call of a stop in `open`: the context is stopped before the call returns.
@@ -35,18 +34,18 @@ fn stop(script: &Script, history: &mut History, a: ActNo)
     requires act { a < length script.now.acts }
     requires stop { stops script.now a ≡ true }
     requires room { 3 ≤ history.old.spare }
-    requires so_far { IsLegalSoFar script.now true history.old.events }
-    requires opened { OpenedTo script.now (state_of script.now true history.old.events) a }
+    requires so_far { IsLegalSoFar script.now false history.old.events }
+    requires opened { OpenedTo script.now (state_of script.now false history.old.events) a }
     requires unmarked { (run drop : ℕ → ℕ) → HasMarks run drop history.old.events }
-    ensures legal { IsLegalSoFar script.now true history.new.events }
-    ensures one_more { OpenedTo script.now (state_of script.now true history.new.events) (a + 1) }
-    ensures stopped { (state_of script.now true history.new.events).stopped ≡ true }
+    ensures legal { IsLegalSoFar script.now false history.new.events }
+    ensures one_more { OpenedTo script.now (state_of script.now false history.new.events) (a + 1) }
+    ensures stopped { (state_of script.now false history.new.events).stopped ≡ true }
     ensures still_unmarked { (run drop : ℕ → ℕ) → HasMarks run drop history.new.events }
     ensures spare { history.new.spare + 3 ≡ history.old.spare }
 {
-    note(script, history, Event::Call { act: a });
-    note(script, history, Event::Stop { act: Some(a) });
-    note(script, history, Event::Back { act: a });
+    record_event(script, history, Event::Call { act: a });
+    record_event(script, history, Event::Stop { act: Some(a) });
+    record_event(script, history, Event::Back { act: a });
 }
 
 /// The call of one act of `open`, and whether it stopped the context.
@@ -54,16 +53,16 @@ fn open_act(script: &Script, history: &mut History, a: ActNo) -> bool
     requires postings { IsPostings script.now }
     requires act { a < length script.now.acts }
     requires room { 3 ≤ history.old.spare }
-    requires so_far { IsLegalSoFar script.now true history.old.events }
-    requires opened { OpenedTo script.now (state_of script.now true history.old.events) a }
+    requires so_far { IsLegalSoFar script.now false history.old.events }
+    requires opened { OpenedTo script.now (state_of script.now false history.old.events) a }
     requires unmarked { (run drop : ℕ → ℕ) → HasMarks run drop history.old.events }
-    ensures legal { IsLegalSoFar script.now true history.new.events }
-    ensures one_more { OpenedTo script.now (state_of script.now true history.new.events) (a + 1) }
-    ensures stopped { (state_of script.now true history.new.events).stopped ≡ (if result then true else (state_of script.now true history.old.events).stopped) }
+    ensures legal { IsLegalSoFar script.now false history.new.events }
+    ensures one_more { OpenedTo script.now (state_of script.now false history.new.events) (a + 1) }
+    ensures stopped { (state_of script.now false history.new.events).stopped ≡ (if result then true else (state_of script.now false history.old.events).stopped) }
     ensures still_unmarked { (run drop : ℕ → ℕ) → HasMarks run drop history.new.events }
     ensures spare { history.old.spare ≤ history.new.spare + 3 }
 {
-    if stops(script, a) {
+    if script.is_stop(a) {
         stop(script, history, a);
         return true;
     }
@@ -76,9 +75,9 @@ pub(crate) fn open(script: &Script, history: &mut History) -> bool
     requires postings { IsPostings script.now }
     requires room { 3 * length script.now.acts ≤ history.old.spare }
     requires empty { history.old.events ≡ [] }
-    ensures legal { IsLegalSoFar script.now true history.new.events }
-    ensures opened { OpenedTo script.now (state_of script.now true history.new.events) (length script.now.acts) }
-    ensures stopped { result ≡ (state_of script.now true history.new.events).stopped }
+    ensures legal { IsLegalSoFar script.now false history.new.events }
+    ensures opened { OpenedTo script.now (state_of script.now false history.new.events) (length script.now.acts) }
+    ensures stopped { result ≡ (state_of script.now false history.new.events).stopped }
     ensures unmarked { (run drop : ℕ → ℕ) → HasMarks run drop history.new.events }
     ensures spare { history.old.spare ≤ history.new.spare + 3 * length script.now.acts }
 {

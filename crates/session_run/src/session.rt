@@ -1,70 +1,126 @@
-ghost use Rattle.std.specs.Prelude.{◌≡◌, ◌<◌, ◌≤◌, ◌+◌, ◌*◌, ℕ, [], length, true, false, IsSome};
-ghost use Rattle.op_handlers.specs.Rack.{handler_at, handlers_in};
-ghost use Rattle.history_book.specs.Legal.{IsLegal, IsLegalSoFar, state_of};
-ghost use Rattle.history_book.specs.Marks.{HasMarks};
-ghost use Rattle.session_run.specs.Progress.{IsPostings, OpenedTo};
-ghost use Rattle.session_run.specs.RackMarks.{run_mark, drop_mark};
+ghost use Rattle.std.specs.Prelude.{◌≡◌, ◌⊎◌, ℕ, List, Err, OnOk, Some, map, length, string_bytes, ⊤};
+ghost use Rattle.op_handlers.specs.Rack.{IsWholeRack, handlers_in};
+ghost use Rattle.session_script.specs.Script.{ScriptModel};
+ghost use Rattle.session_script.specs.Grammar.{IsScript};
+ghost use Rattle.session_run.specs.Built.{IsBuilt};
+ghost use Rattle.session_run.specs.Form.{HasForm, IsRun, IsUpgrade};
+ghost use Rattle.session_run.specs.Answer.{Answers, CountsReads, CountsWrites, Does, LeavesAll, Says, Stood, Writes, WritesPart};
+ghost use Rattle.session_run.specs.Ending.{CountsFailures, note_at, status_of};
+ghost use Rattle.session_run.specs.Given.{no_reactor, seen_by};
+ghost use Rattle.session_run.specs.Limits.{handler_count};
+ghost use Rattle.session_run.specs.Run.{ShowsNoFault};
+ghost use Rattle.session_run.specs.Text.{TakesSome};
+ghost use Rattle.session_run.specs.declared.form.Form.TheVariants as form_is;
+ghost use Rattle.session_run.specs.declared.status.Status.TheVariants as status;
 
-use crate::destruction::destroy_all;
-use crate::execution::run;
-use crate::note::note;
-use crate::opening::open;
-use asio_types::Event;
-use history_book::History;
+use crate::ending::Ending;
+use crate::form::{Form, form_of};
+use crate::noting::write_note;
+use crate::origin::{NoScript, read_origin};
+use crate::running::run_and_write;
+use crate::status::Status;
+use crate::unfinished::Unfinished;
+use crate::upgrading::upgrade_and_write;
+use asio_types::{Sink, Source};
 use op_handlers::{CompletionHandler, Rack};
 use session_script::Script;
+use std::alloc::Global;
 
-/// The round of a context that goes on: it runs until no work is left.
-fn run_to_end<H: CompletionHandler>(script: &Script, history: &mut History, rack: &mut Rack<H>)
-    requires postings { IsPostings script.now }
-    requires whole { (i : ℕ) → i < length script.now.acts → IsSome (handler_at rack.old i) }
-    requires room { 2 * length script.now.acts + 1 ≤ history.old.spare }
-    requires so_far { IsLegalSoFar script.now true history.old.events }
-    requires opened { OpenedTo script.now (state_of script.now true history.old.events) (length script.now.acts) }
-    requires going { (state_of script.now true history.old.events).stopped ≡ false }
-    requires marked { HasMarks (run_mark H.marks rack.old) (drop_mark H.marks rack.old) history.old.events }
-    ensures legal { IsLegal script.now true history.new.events }
-    ensures marks { HasMarks (run_mark H.marks rack.old) (drop_mark H.marks rack.old) history.new.events }
-    ensures size { length (handlers_in rack.new) ≡ length (handlers_in rack.old) }
-{
-    run(script, history, rack);
-    note(script, history, Event::Ended);
-}
-
-/// The round of a context that was stopped in `open`: no handler runs, and all are destroyed.
-fn stop_at_once<H: CompletionHandler>(script: &Script, history: &mut History, rack: &mut Rack<H>)
-    requires postings { IsPostings script.now }
-    requires whole { (i : ℕ) → i < length script.now.acts → IsSome (handler_at rack.old i) }
-    requires room { length script.now.acts + 1 ≤ history.old.spare }
-    requires so_far { IsLegalSoFar script.now true history.old.events }
-    requires opened { OpenedTo script.now (state_of script.now true history.old.events) (length script.now.acts) }
-    requires stopped { (state_of script.now true history.old.events).stopped ≡ true }
-    requires marked { HasMarks (run_mark H.marks rack.old) (drop_mark H.marks rack.old) history.old.events }
-    ensures legal { IsLegal script.now true history.new.events }
-    ensures marks { HasMarks (run_mark H.marks rack.old) (drop_mark H.marks rack.old) history.new.events }
-    ensures size { length (handlers_in rack.new) ≡ length (handlers_in rack.old) }
-{
-    note(script, history, Event::Stopped);
-    destroy_all(script, history, rack);
-}
-
-/// Runs the script from its first event to its last with the handlers of the rack. Takes no memory.
-pub(crate) fn run_script<H: CompletionHandler>(
+/// Does with a script what the form says, and writes what comes of it.
+fn work<K: Sink, H: CompletionHandler>(
+    alloc: Global,
+    form: Form,
     script: &Script,
-    history: &mut History,
+    out: &mut K,
     rack: &mut Rack<H>,
-)
-    requires postings { IsPostings script.now }
-    requires whole { (i : ℕ) → i < length script.now.acts → IsSome (handler_at rack.old i) }
-    requires room { 5 * length script.now.acts + 1 ≤ history.old.spare }
-    requires empty { history.old.events ≡ [] }
-    ensures legal { IsLegal script.now true history.new.events }
-    ensures marks { HasMarks (run_mark H.marks rack.old) (drop_mark H.marks rack.old) history.new.events }
-    ensures size { length (handlers_in rack.new) ≡ length (handlers_in rack.old) }
+) -> Result<(), Unfinished>
+    requires built { form ≡ form_is.Run → IsBuilt script.now }
+    requires whole { IsWholeRack rack.old }
+    requires count { length (handlers_in rack.old) ≡ handler_count }
+    ensures done { OnOk result (Does form H.marks script.now no_reactor rack.old rack.new ShowsNoFault (Writes (seen_by K.written K.faults out.old out.new))) }
+    ensures cut_off { result ≡ Err Unfinished.Failed → Does form H.marks script.now no_reactor rack.old rack.new (λ events. ⊤) (WritesPart (seen_by K.written K.faults out.old out.new)) }
+    ensures quiet { result ≡ Err Unfinished.NoMemory → out.new ≡ out.old }
+    ensures kept { result ≡ Err Unfinished.NoMemory → handlers_in rack.new ≡ handlers_in rack.old }
+    ensures upgrade { form ≡ form_is.Upgrade → handlers_in rack.new ≡ handlers_in rack.old }
+    ensures counts { CountsFailures result (K.faults out.old) (K.faults out.new) }
 {
-    if open(script, history) {
-        stop_at_once(script, history, rack);
-    } else {
-        run_to_end(script, history, rack);
+    match form {
+        Form::Run => run_and_write(alloc, script, out, rack),
+        Form::Upgrade => upgrade_and_write(alloc, script, out),
     }
+}
+
+/// The session without its notes.
+fn end<S: Source, K: Sink, H: CompletionHandler>(
+    alloc: Global,
+    words: &[String],
+    source: &mut S,
+    out: &mut K,
+    rack: &mut Rack<H>,
+) -> Ending
+    requires whole { IsWholeRack rack.old }
+    requires count { length (handlers_in rack.old) ≡ handler_count }
+    ensures says { Says H.marks (record { words = map string_bytes words.now; source = seen_by S.left S.faults source.old source.new; out = seen_by K.written K.faults out.old out.new; reactor = no_reactor; rack_before = rack.old; rack_after = rack.new }) (status_of result) (note_at result) }
+    ensures quiet { LeavesAll (status_of result) → out.new ≡ out.old }
+    ensures kept { LeavesAll (status_of result) → handlers_in rack.new ≡ handlers_in rack.old }
+    ensures unread { status_of result ≡ status.Usage → source.new ≡ source.old }
+    ensures taken { TakesSome (S.left source.old) (S.left source.new) }
+    ensures upgrade { IsUpgrade (map string_bytes words.now) → handlers_in rack.new ≡ handlers_in rack.old }
+    ensures reads { CountsReads (status_of result) (S.faults source.old) (S.faults source.new) }
+    ensures writes { CountsWrites (status_of result) (K.faults out.old) (K.faults out.new) }
+{
+    let Some(form) = form_of(words) else {
+        return Ending::Usage;
+    };
+    let script = match read_origin(alloc, form, source) {
+        Ok(script) => script,
+        Err(NoScript::Refused(refused)) => return Ending::Refused(refused),
+        Err(NoScript::Failed) => return Ending::ReadFault,
+        Err(NoScript::NoMemory) => return Ending::NoMemory,
+    };
+    match work(alloc, form, &script, out, rack) {
+        Ok(()) => Ending::Done,
+        Err(Unfinished::Failed) => Ending::WriteFault,
+        Err(Unfinished::NoMemory) => Ending::NoMemory,
+    }
+}
+
+/// Reads a script from the source and does with it what the words say, which are those behind the program's name. `run`
+/// runs it on one io_context with the handlers of the rack, and writes its trace to out. What can be run so far is a
+/// script of plain postings and stops with one round of `run`; other scripts are refused as rule 10 at line 0 and token
+/// 0. `upgrade` writes the text of the same script in version 2 to out, its words with one space between two, and one
+/// line feed; it takes every script, runs none, and leaves the rack as it was. The status says how far this went, with
+/// its cause; the notes get the status's note, and change no status.
+///
+/// Reads at most `MOST_READ` bytes. With the statuses 1, 2, 3 and 6 nothing was run and nothing written; with 0 and 4
+/// every handler was spent by `run`, and none by `upgrade`. Memory is taken for the text, the script, and the history or
+/// the upgrade with its text, before the first handler runs and before anything is written.
+pub fn asio_session<S: Source, K: Sink, N: Sink, H: CompletionHandler>(
+    alloc: Global,
+    words: &[String],
+    source: &mut S,
+    out: &mut K,
+    notes: &mut N,
+    rack: &mut Rack<H>,
+) -> Status
+    requires whole { IsWholeRack rack.old }
+    requires count { length (handlers_in rack.old) ≡ handler_count }
+    ensures answer { Answers H.marks (record { words = map string_bytes words.now; source = seen_by S.left S.faults source.old source.new; out = seen_by K.written K.faults out.old out.new; reactor = no_reactor; rack_before = rack.old; rack_after = rack.new }) (seen_by N.written N.faults notes.old notes.new) result }
+    // With these statuses nothing was run and nothing written.
+    ensures quiet { LeavesAll result → out.new ≡ out.old }
+    ensures kept { LeavesAll result → handlers_in rack.new ≡ handlers_in rack.old }
+    ensures unread { result ≡ status.Usage → source.new ≡ source.old }
+    ensures taken { TakesSome (S.left source.old) (S.left source.new) }
+    // Status 3 comes exactly where the source's count of faults rose, and status 4 exactly where out's did.
+    ensures reads { CountsReads result (S.faults source.old) (S.faults source.new) }
+    ensures writes { CountsWrites result (K.faults out.old) (K.faults out.new) }
+    // A script whose reading and writing don't fail is run to its end, or its upgrade is written, unless memory runs out.
+    ensures complete { (bytes : List ℕ) (script : ScriptModel) → HasForm (map string_bytes words.now) → S.left source.old ≡ Some bytes → IsScript bytes script → (IsRun (map string_bytes words.now) → IsBuilt script)
+        → Stood (S.faults source.old) (S.faults source.new) → Stood (K.faults out.old) (K.faults out.new) → (result ≡ status.Done) ⊎ (result ≡ status.NoMemory) }
+    // An upgrade executes nothing and destroys nothing.
+    ensures upgrade { IsUpgrade (map string_bytes words.now) → handlers_in rack.new ≡ handlers_in rack.old }
+{
+    let ending = end(alloc, words, source, out, rack);
+    let _ = write_note(notes, ending);
+    ending.status()
 }

@@ -1,10 +1,10 @@
-ghost use Rattle.std.specs.Prelude.{◌≡◌, ◌⊎◌, ◌≤◌, IfOk};
-ghost use Rattle.asio_types.specs.Faults.{Rose};
-ghost use Rattle.asio_types.specs.Sink.{Extends, ExtendsByPart};
+ghost use Rattle.std.specs.Prelude.{◌≡◌, IfOk, OnOk, Err};
+ghost use Rattle.session_run.specs.Answer.{Writes, WritesPart};
+ghost use Rattle.session_run.specs.Ending.{CountsFailures};
+ghost use Rattle.session_run.specs.Given.{seen_by};
 ghost use Rattle.session_run.specs.Upgrade.{upgraded_text};
-ghost use Rattle.session_run.specs.declared.status.Status.TheVariants as status;
 
-use crate::status::Status;
+use crate::unfinished::Unfinished;
 use asio_types::{NoMemory, Sink, write_all};
 use session_script::{Script, upgrade, write_script};
 use std::alloc::Global;
@@ -20,18 +20,21 @@ fn upgraded_text(alloc: Global, script: &Script) -> Result<Vec<u8>, NoMemory>
 }
 
 /// Upgrades a script that was read, and writes the text of its upgrade. Takes all memory before the first byte is written.
-pub(crate) fn upgrade_and_write<K: Sink>(alloc: Global, script: &Script, out: &mut K) -> Status
-    ensures done { result ≡ status.Done → Extends (K.written out.old) (upgraded_text script.now) (K.written out.new) }
-    ensures cut_off { result ≡ status.WriteFault → ExtendsByPart (K.written out.old) (upgraded_text script.now) (K.written out.new) × Rose (K.faults out.old) (K.faults out.new) }
-    ensures no_memory { result ≡ status.NoMemory → out.new ≡ out.old }
-    ensures cases { (result ≡ status.Done) ⊎ ((result ≡ status.WriteFault) ⊎ (result ≡ status.NoMemory)) }
-    ensures later { K.faults out.old ≤ K.faults out.new }
+pub(crate) fn upgrade_and_write<K: Sink>(
+    alloc: Global,
+    script: &Script,
+    out: &mut K,
+) -> Result<(), Unfinished>
+    ensures done { OnOk result (Writes (seen_by K.written K.faults out.old out.new) (upgraded_text script.now)) }
+    ensures cut_off { result ≡ Err Unfinished.Failed → WritesPart (seen_by K.written K.faults out.old out.new) (upgraded_text script.now) }
+    ensures quiet { result ≡ Err Unfinished.NoMemory → out.new ≡ out.old }
+    ensures counts { CountsFailures result (K.faults out.old) (K.faults out.new) }
 {
     let Ok(text) = upgraded_text(alloc, script) else {
-        return Status::NoMemory;
+        return Err(Unfinished::NoMemory);
     };
     match write_all(out, text.as_slice()) {
-        Ok(()) => Status::Done,
-        Err(_) => Status::WriteFault,
+        Ok(()) => Ok(()),
+        Err(_) => Err(Unfinished::Failed),
     }
 }

@@ -7,7 +7,7 @@ use Rattle.session_script.specs.declared.token.Position.{Position}
 use Rattle.session_script.specs.Tokens.{Tokens, end, token, begins}
 use Rattle.session_script.specs.Productions.{and_then, ◌>>=◌, done, judged, one, repeated}
 use Rattle.session_script.specs.Text.{words_of, Words}
-use Rattle.session_script.proofs.Shrinking.{Takes}
+use Rattle.session_script.proofs.Shrinking.{Shrinks}
 use Rattle.session_script.proofs.Repeating.{repeated_step}
 
 pub record Accepts {A : Type 0} (P : A → Words → Words → Type 0) (r : Tokens → Result (A × Tokens) Refusal) : Type 0 where
@@ -32,16 +32,16 @@ pub done_accepts : {A : Type 0} (value : A) → Accepts (λ a ws rest. (a ≡ va
 done_accepts value = record { accepts = λ a ts rest p. (ts, p.1, ap (λ v. Ok (v, ts)) (sym p.0)) }
 
 -- one word that a test takes
-abbrev pub Passes : {A : Type 0} → (List ℕ → Result A Rule) → A → Words → Words → Type 0
-Passes test a ws rest = (w : List ℕ) × (test w ≡ Ok a) × (ws ≡ w ∷ rest)
+abbrev pub TakesWord : {A : Type 0} → (List ℕ → Result A Rule) → A → Words → Words → Type 0
+TakesWord test a ws rest = (w : List ℕ) × (test w ≡ Ok a) × (ws ≡ w ∷ rest)
 
-one_is : {A : Type 0} (test : List ℕ → Result A Rule) (a : A) (ts : Tokens) (rest : Words) → Passes test a (words_of ts) rest → (left : Tokens) × (words_of left ≡ rest) × (one test ts ≡ Ok (a, left))
+one_is : {A : Type 0} (test : List ℕ → Result A Rule) (a : A) (ts : Tokens) (rest : Words) → TakesWord test a (words_of ts) rest → (left : Tokens) × (words_of left ≡ rest) × (one test ts ≡ Ok (a, left))
 one_is test a (end at) rest p = cc (p.2)
 one_is test a (token bytes at left) rest p =
     let is : test bytes ≡ Ok a = cc (p.1, p.2) in
     (left, cc (p.2), ap (λ tested. judged tested at left) is)
 
-pub one_accepts : {A : Type 0} (test : List ℕ → Result A Rule) → Accepts (Passes test) (one test)
+pub one_accepts : {A : Type 0} (test : List ℕ → Result A Rule) → Accepts (TakesWord test) (one test)
 one_accepts test = record { accepts = one_is test }
 
 -- whether the next word is this one
@@ -58,7 +58,7 @@ pub data Turns {S : Type 0} (goes : Words → Bool) (P : S → S → Words → W
   over : {s : S} {ws : Words} → goes ws ≡ false → Turns goes P s s ws ws
   turn : {s after : S} {ws rest : Words} (next : S) (mid : Words) → goes ws ≡ true → P s next ws mid → Turns goes P next after mid rest → Turns goes P s after ws rest
 
-module _ {S : Type 0} (more : Tokens → Bool) (goes : Words → Bool) (reader : S → Tokens → Result (S × Tokens) Refusal) (P : S → S → Words → Words → Type 0) (same : (ts : Tokens) → more ts ≡ goes (words_of ts)) (ends : (at : Position) → more (end at) ≡ false) (takes : (s : S) → Takes (reader s)) (reads : (s : S) → Accepts (P s) (reader s)) where
+module _ {S : Type 0} (more : Tokens → Bool) (goes : Words → Bool) (reader : S → Tokens → Result (S × Tokens) Refusal) (P : S → S → Words → Words → Type 0) (same : (ts : Tokens) → more ts ≡ goes (words_of ts)) (ends : (at : Position) → more (end at) ≡ false) (takes : (s : S) → Shrinks (reader s)) (reads : (s : S) → Accepts (P s) (reader s)) where
   turns_are_read : (s after : S) (ts : Tokens) (ws rest : Words) → words_of ts ≡ ws → Turns goes P s after ws rest → (left : Tokens) × (words_of left ≡ rest) × (repeated more reader s ts ≡ Ok (after, left))
   turns_are_read s _ ts ws _ is (over stops) =
       let none : more ts ≡ false = same ts ∙ ap goes is ∙ stops in

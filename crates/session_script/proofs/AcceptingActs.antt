@@ -9,10 +9,10 @@ use Rattle.session_script.specs.declared.act.Act.TheVariants as act
 use Rattle.session_script.specs.declared.parts.Header.{Header}
 use Rattle.session_script.specs.declared.reader.act_word.ActWord.{ActWord}
 use Rattle.session_script.specs.declared.reader.act_word.ActWord.TheVariants as words
-use Rattle.session_script.specs.declared.reader.body.Bodies.TheVariants as bodies
+use Rattle.session_script.specs.declared.act.Bodies.TheVariants as bodies
 use Rattle.session_script.specs.Tokens.{Tokens, begins}
 use Rattle.session_script.specs.Productions.{◌>>=◌, done, word, bounded, declared_number, optional, types, plug, bytes}
-use Rattle.session_script.specs.Acts.{context_word, timer_word, stream_word, act_of, act_word, fields, bodies_of}
+use Rattle.session_script.specs.Acts.{context_word, timer_word, stream_word, act_word_of, act_word, fields, bodies_of}
 use Rattle.session_script.specs.Text.{words_of, Words, IsWord, IsN, IsDashOrN, IsDataText, IsLater, IsPlugText, IsTail, act_text, IsFieldsText, BelongsTo}
 use Rattle.session_script.specs.WellFormed.{IsLane, IsPlug, FitsAct}
 use Rattle.session_script.proofs.Accepting.{Accepts, Then, then_accepts, weaker_accepts, done_accepts, starts, begins_starts}
@@ -46,7 +46,7 @@ is_not_first (suc (suc v)) later = grind (arith, nat_tests)
 
 -- the word of an act is read as its act word
 pub act_word_is : (v : ℕ) (made : Act) → BelongsTo v made → act_word v false (act_text made) ≡ Ok (word_of made)
-unfolding act_word act_of context_word timer_word stream_word word_of
+unfolding act_word act_word_of context_word timer_word stream_word word_of
 act_word_is v (act.Post strand) belongs = refl
 act_word_is v (act.Defer strand) belongs = refl
 act_word_is v (act.Dispatch strand) belongs = refl
@@ -152,8 +152,8 @@ abbrev IsBelow : ℕ → ℕ → Words → Words → Type 0
 IsBelow count n ws rest = IsN n ws rest × (n < count)
 
 -- a number within limits
-abbrev IsWithin : ℕ → ℕ → ℕ → Words → Words → Type 0
-IsWithin least most n ws rest = IsN n ws rest × (least ≤ n) × (n ≤ most)
+abbrev IsBounded : ℕ → ℕ → ℕ → Words → Words → Type 0
+IsBounded least most n ws rest = IsN n ws rest × (least ≤ n) × (n ≤ most)
 
 -- bytes that are not too many
 abbrev IsShort : ℕ → List ℕ → Words → Words → Type 0
@@ -169,7 +169,7 @@ numbered count make = then_accepts (declared_accepts count) (λ n. done_accepts 
 laned : (count : ℕ) (make : Option ℕ → Act) → Accepts (Then (IsChosen count) (λ strand. Made (make strand))) (optional count >>= λ strand. done (make strand))
 laned count make = then_accepts (optional_accepts count) (λ strand. done_accepts (make strand))
 
-timed : (h : Header) (make : ℕ → ℕ → Act) → Accepts (Then (IsBelow h.timers) (λ timer. Then (IsWithin 0 h.limits.time) (λ time. Made (make timer time)))) (declared_number h.timers >>= λ timer. bounded 0 h.limits.time >>= λ time. done (make timer time))
+timed : (h : Header) (make : ℕ → ℕ → Act) → Accepts (Then (IsBelow h.timers) (λ timer. Then (IsBounded 0 h.limits.time) (λ time. Made (make timer time)))) (declared_number h.timers >>= λ timer. bounded 0 h.limits.time >>= λ time. done (make timer time))
 timed h make = then_accepts (declared_accepts h.timers) (λ timer. then_accepts (bounded_accepts 0 h.limits.time) (λ time. done_accepts (make timer time)))
 
 -- what stands after the timer or the stream of an operation
@@ -184,7 +184,7 @@ tail_is h make strand slot filter ws rest text lane fits free = (strand, text.0,
 
 -- an operation with a size
 abbrev Sized : Header → (ℕ → ℕ → Option ℕ → Option ℕ → ℕ → Act) → Act → Words → Words → Type 0
-Sized h make = Then (IsBelow h.streams) (λ stream. Then (IsWithin 1 h.limits.size) (λ size. Tail h (make stream size)))
+Sized h make = Then (IsBelow h.streams) (λ stream. Then (IsBounded 1 h.limits.size) (λ size. Tail h (make stream size)))
 
 sized : (h : Header) (make : ℕ → ℕ → Option ℕ → Option ℕ → ℕ → Act) → Accepts (Sized h make) (declared_number h.streams >>= λ stream. bounded 1 h.limits.size >>= λ size. optional h.strands >>= λ strand. plug h >>= λ plugged. done (make stream size strand plugged.0 plugged.1))
 sized h make = then_accepts (declared_accepts h.streams) (λ stream. then_accepts (bounded_accepts 1 h.limits.size) (λ size. tailed h (make stream size)))
@@ -198,7 +198,7 @@ filled h make = then_accepts (declared_accepts h.streams) (λ stream. then_accep
 
 -- an operation with a delimiter
 abbrev Delimited : Header → Act → Words → Words → Type 0
-Delimited h = Then (IsBelow h.streams) (λ stream. Then (IsShort h.limits.delimiter) (λ bs. Then (IsWithin 1 h.limits.size) (λ max. Tail h (act.Until stream bs max))))
+Delimited h = Then (IsBelow h.streams) (λ stream. Then (IsShort h.limits.delimiter) (λ bs. Then (IsBounded 1 h.limits.size) (λ max. Tail h (act.Until stream bs max))))
 
 delimited : (h : Header) → Accepts (Delimited h) (fields h words.Until)
 unfolding fields

@@ -2,22 +2,22 @@
 use Rattle.std.proofs.Common.{◌≡◌, ℕ, zero, suc, ◌≤◌, Bool, false, not, List, [], ◌∷◌, ◌++◌, length, Some, None, Ok, refl, ap, ◌∙◌, inl, inr, arith, length-append}
 use Rattle.std.specs.Prelude.{nat_le, slice_get}
 use Rattle.std.specs.Str.{bytes_eq}
-use Rattle.std.proofs.lemmas.Bool.Decides.{nat_tests}
 use lib.Chars.{codes}
 use Rattle.asio_types.specs.declared.code.Class.TheVariants as class
 use Rattle.session_script.specs.declared.act.Act.{Act}
 use Rattle.session_script.specs.declared.parts.Header.{Header}
-use Rattle.session_script.specs.declared.reader.body.Bodies.{Bodies}
-use Rattle.session_script.specs.declared.reader.body.Bodies.TheVariants as bodies
+use Rattle.session_script.specs.declared.act.Bodies.{Bodies}
+use Rattle.session_script.specs.declared.act.Bodies.TheVariants as bodies
 use Rattle.session_script.specs.Script.{Place, Entry, ScriptModel}
 use Rattle.session_script.specs.Limits.{limits_of}
 use Rattle.session_script.specs.Tokens.{Tokens, end, token, begins, goes_on}
 use Rattle.session_script.specs.Acts.{act_word, bodies_of, BodyReader, branch, branches, bodies_after, entry, braced, body}
-use Rattle.session_script.specs.Text.{words_of, Words, IsWord, act_text, IsActText, IsBodyText, in_braces, IsActsText, no_act, an_act, IsBodiesText, no_body, one_body, all_bodies, IsBranchText, left_out, written}
+use Rattle.session_script.specs.Text.{words_of, Words, IsWord, act_text, IsActText, IsBodyText, in_braces, IsActsText, no_act, an_act, IsBodiesText, no_body, one_body, all_bodies, IsBranchText, left_out, spelled_out}
 use Rattle.session_script.specs.WellFormed.{header_of, FitsAct, IsWellFormed}
 use Rattle.session_script.proofs.Bodies.{KeepsAll, entry_takes, body_keeps}
 use Rattle.session_script.proofs.Forest.{slice_get-seam, Extends, extends_by_none, extends_both, extends_by_one}
-use Rattle.session_script.proofs.Accepting.{Accepts, Then, then_accepts, weaker_accepts, done_accepts, Passes, one_accepts, starts, begins_starts, Turns, over, turn, repeated_accepts}
+use Rattle.session_script.proofs.Accepting.{Accepts, Then, then_accepts, weaker_accepts, done_accepts, TakesWord, one_accepts, starts, begins_starts, Turns, over, turn, repeated_accepts}
+use Rattle.session_script.proofs.Sequences.{has_room}
 use Rattle.session_script.proofs.AcceptingParts.{same_text, word_accepts, another_accepts}
 use Rattle.session_script.proofs.Choosing.{Either, either_accepts}
 use Rattle.session_script.proofs.AcceptingActs.{word_of, act_word_is, act_text_is_no, FieldsFit, fields_accept}
@@ -38,7 +38,7 @@ mutual
 
   branch_extends : {v levels : ℕ} {text : List ℕ} {place : Place} {before after : List Entry} {ws rest : Words} → IsBranchText v levels text place before after ws rest → Extends before after
   branch_extends (left_out {acts = acts}) = extends_by_none acts
-  branch_extends (written a begun in_body) = body_extends in_body
+  branch_extends (spelled_out a begun in_body) = body_extends in_body
 
 -- acts that are within the limits
 pub record Fit (h : Header) (acts : List Entry) : Type 0 where
@@ -96,9 +96,6 @@ operation_begins no_body is = absurd (cc)
 operation_begins (one_body in_body) is = absurd (cc)
 operation_begins (all_bodies after_ok after_abort a b (in_braces c d opened acts closed) second third) is = ap (starts (codes "only")) opened
 
-has_room : (h : Header) (before : List Entry) (e : Entry) → Fit h (before ++ e ∷ []) → nat_le h.limits.acts (length before) ≡ false
-has_room h before e fit = grind (arith, nat_tests, fit.count, length-append before (e ∷ []))
-
 no_body_text : {v : ℕ} {place : Place} {before after : List Entry} {ws rest : Words} → IsBodyText v zero place before after ws rest → ⊥
 no_body_text in_body = elim in_body [ ]
 
@@ -113,7 +110,7 @@ module _ (h : Header) (levels : ℕ) (inner : BodyReader) (accepts : AcceptsAll 
 
   branch_parts : (text : List ℕ) (place : Place) (before after : List Entry) (ws rest : Words) → IsBranchText h.version levels text place before after ws rest → Fit h after → starts text rest ≡ false → MayBeWritten text place before after ws rest
   branch_parts text place before _ ws rest left_out fit none = inr (none, (refl, refl))
-  branch_parts text place before after ws rest (written a begun in_body) fit none = inl (ap (starts text) begun ∙ same_text text, (tt, a, begun, (in_body, fit)))
+  branch_parts text place before after ws rest (spelled_out a begun in_body) fit none = inl (ap (starts text) begun ∙ same_text text, (tt, a, begun, (in_body, fit)))
 
   branch_accepts : (text : List ℕ) (place : Place) (before : List Entry) → Accepts (BranchFits h levels text place before) (branch text inner place before)
   unfolding branch
@@ -126,15 +123,15 @@ module _ (h : Header) (levels : ℕ) (inner : BodyReader) (accepts : AcceptsAll 
   -- where `other` may come next, `abort` doesn't
   no_abort : {place : Place} {before after : List Entry} {ws rest : Words} → IsBranchText h.version levels (codes "other") place before after ws rest → starts (codes "abort") rest ≡ false → starts (codes "abort") ws ≡ false
   no_abort left_out none = none
-  no_abort (written a begun in_body) none = ap (starts (codes "abort")) begun
+  no_abort (spelled_out a begun in_body) none = ap (starts (codes "abort")) begun
 
   -- what follows an act, by which bodies it has
-  abbrev After : ℕ → Bodies → List Entry → List Entry → Words → Words → Type 0
-  After op bodies.Nothing before after ws rest = (after ≡ before) × (ws ≡ rest)
-  After op bodies.Posting before after ws rest = BodyFits h levels (Some (op, class.Ok)) before after ws rest
-  After op bodies.Operation before after ws rest = AllBodies op before after ws rest
+  abbrev BodiesFit : ℕ → Bodies → List Entry → List Entry → Words → Words → Type 0
+  BodiesFit op bodies.Nothing before after ws rest = (after ≡ before) × (ws ≡ rest)
+  BodiesFit op bodies.Posting before after ws rest = BodyFits h levels (Some (op, class.Ok)) before after ws rest
+  BodiesFit op bodies.Operation before after ws rest = AllBodies op before after ws rest
 
-  after_parts : (op : ℕ) (which : Bodies) (before after : List Entry) (ws rest : Words) → IsBodiesText h.version levels which op before after ws rest → Fit h after → IsOver rest → After op which before after ws rest
+  after_parts : (op : ℕ) (which : Bodies) (before after : List Entry) (ws rest : Words) → IsBodiesText h.version levels which op before after ws rest → Fit h after → IsOver rest → BodiesFit op which before after ws rest
   after_parts op _ before _ ws rest no_body fit none = (refl, refl)
   after_parts op _ before after ws rest (one_body in_body) fit none = (in_body, fit)
   after_parts op _ before after ws rest (all_bodies after_ok after_abort a b first second third) fit none =
@@ -142,7 +139,7 @@ module _ (h : Header) (levels : ℕ) (inner : BodyReader) (accepts : AcceptsAll 
       let fit_ok = earlier_fit (branch_extends second) fit_abort in
       (after_ok, a, (first, fit_ok), (after_abort, b, (second, fit_abort, no_abort third none.0), (third, fit, none.1)))
 
-  bodies_accept : (op : ℕ) (which : Bodies) (before : List Entry) → Accepts (After op which before) (bodies_after inner op which before)
+  bodies_accept : (op : ℕ) (which : Bodies) (before : List Entry) → Accepts (BodiesFit op which before) (bodies_after inner op which before)
   unfolding branches
   bodies_accept op bodies.Nothing before = done_accepts before
   bodies_accept op bodies.Posting before = accepts (Some (op, class.Ok)) before
@@ -150,13 +147,13 @@ module _ (h : Header) (levels : ℕ) (inner : BodyReader) (accepts : AcceptsAll 
 
   -- the parts of an act in the order in which they are read
   abbrev EntryParts : Place → List Entry → List Entry → Words → Words → Type 0
-  EntryParts place before = Then (Passes (act_word h.version (nat_le h.limits.acts (length before)))) (λ w. Then (λ made ws rest. (w ≡ word_of made) × FieldsFit h made ws rest) (λ made. After (length before) (bodies_of made) (before ++ record { act = made; parent = place } ∷ [])))
+  EntryParts place before = Then (TakesWord (act_word h.version (nat_le h.limits.acts (length before)))) (λ w. Then (λ made ws rest. (w ≡ word_of made) × FieldsFit h made ws rest) (λ made. BodiesFit (length before) (bodies_of made) (before ++ record { act = made; parent = place } ∷ [])))
 
   entry_parts : (place : Place) (before after : List Entry) (ws rest : Words) → EntryFits h levels place before after ws rest → EntryParts place before after ws rest
   entry_parts place before after ws rest (made, a, text, in_bodies, fit, none) =
       let e : Entry = record { act = made; parent = place } in
       let fit_here : Fit h (before ++ e ∷ []) = earlier_fit (bodies_extend in_bodies) fit in
-      let begun = ap (λ full. act_word h.version full (act_text made)) (has_room h before e fit_here) ∙ act_word_is h.version made text.1 in
+      let begun = ap (λ full. act_word h.version full (act_text made)) (has_room h.limits.acts (length before) (omega (arith, fit_here.count, length-append before (e ∷ [])))) ∙ act_word_is h.version made text.1 in
       (word_of made, text.0, (act_text made, begun, text.2), (made, a, (refl, (text.3, fit_here.fits (length before) e (slice_get-seam before e), operation_begins in_bodies)), after_parts (length before) (bodies_of made) (before ++ e ∷ []) after a rest in_bodies fit none))
 
   entry_accepts : (place : Place) (before : List Entry) → Accepts (EntryFits h levels place before) (entry h inner place before)

@@ -5,7 +5,7 @@ use Rattle.std.specs.Str.{bytes_eq}
 use Rattle.std.proofs.lemmas.Slice.Eq.{bytes_eq-Decides}
 use Rattle.std.proofs.lemmas.Bool.Decides.{nat_tests}
 use lib.Chars.{codes}
-use Rattle.session_script.specs.Kinds.{is_number, number, exactly, one_more, within, known, chosen, version, data_digits, decoded}
+use Rattle.session_script.specs.Kinds.{is_number, number, exactly, another_word, within, known, chosen, version, data_digits, decoded}
 use Rattle.session_script.specs.Productions.{one, word, another, bounded, declared_number, optional, types, bytes}
 use Rattle.session_script.specs.Text.{Words, IsWord, IsN, IsDashOrN, IsDataText}
 use Rattle.session_script.proofs.Spelled.{is_text}
@@ -28,13 +28,13 @@ pub word_accepts : (text : List ℕ) → Accepts (λ u. IsWord text) (word text)
 unfolding word
 word_accepts text = tested_accepts (exactly text) (λ u. IsWord text) (λ u ws rest is. (text, exactly_itself text, is))
 
-one_more_itself : (text : List ℕ) → one_more text false text ≡ Ok tt
-unfolding one_more
-one_more_itself text = rw (exactly_itself text) refl
+another_word_itself : (text : List ℕ) → another_word text false text ≡ Ok tt
+unfolding another_word
+another_word_itself text = rw (exactly_itself text) refl
 
 pub another_accepts : (text : List ℕ) → Accepts (λ u. IsWord text) (another text false)
 unfolding another
-another_accepts text = tested_accepts (one_more text false) (λ u. IsWord text) (λ u ws rest is. (text, one_more_itself text, is))
+another_accepts text = tested_accepts (another_word text false) (λ u. IsWord text) (λ u ws rest is. (text, another_word_itself text, is))
 
 is_within : (least most n : ℕ) (w : List ℕ) → number w ≡ Ok n → least ≤ n → n ≤ most → within least most w ≡ Ok n
 unfolding within
@@ -76,13 +76,13 @@ is_chosen : (count n : ℕ) (w : List ℕ) → number w ≡ Ok n → n < count �
 unfolding chosen
 is_chosen count n w is below = rw (is_no_dash n w is, is_known count n w is below) refl
 
-choice_passes : (count : ℕ) (o : Option ℕ) (ws rest : Words) → IsDashOrN o ws rest × IfSome o (λ n. n < count) → (w : List ℕ) × (chosen count w ≡ Ok o) × (ws ≡ w ∷ rest)
-choice_passes count None ws rest p = (codes "-", dash_is_chosen count, p.0)
-choice_passes count (Some n) ws rest p = (p.0.0, is_chosen count n p.0.0 p.0.1 p.1, p.0.2)
+option_is_read : (count : ℕ) (o : Option ℕ) (ws rest : Words) → IsDashOrN o ws rest × IfSome o (λ n. n < count) → (w : List ℕ) × (chosen count w ≡ Ok o) × (ws ≡ w ∷ rest)
+option_is_read count None ws rest p = (codes "-", dash_is_chosen count, p.0)
+option_is_read count (Some n) ws rest p = (p.0.0, is_chosen count n p.0.0 p.0.1 p.1, p.0.2)
 
 pub optional_accepts : (count : ℕ) → Accepts (λ o ws rest. IsDashOrN o ws rest × IfSome o (λ n. n < count)) (optional count)
 unfolding optional
-optional_accepts count = tested_accepts (chosen count) (λ o ws rest. IsDashOrN o ws rest × IfSome o (λ n. n < count)) (choice_passes count)
+optional_accepts count = tested_accepts (chosen count) (λ o ws rest. IsDashOrN o ws rest × IfSome o (λ n. n < count)) (option_is_read count)
 
 -- the number of a version
 is_version : (n : ℕ) (w : List ℕ) → number w ≡ Ok n → (n ≡ 1) ⊎ (n ≡ 2) → version w ≡ Ok n

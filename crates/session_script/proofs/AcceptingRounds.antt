@@ -17,15 +17,14 @@ use Rattle.session_script.specs.WellFormed.{FitsRound}
 use Rattle.session_script.proofs.Accepting.{one_accepts, starts, repeated_accepts}
 use Rattle.session_script.proofs.ReadingAs.{ReadsAs, by_accepts, accepts_by, then_reads_as, done_reads_as, begun_reads_as, unbegun_reads_as}
 use Rattle.session_script.proofs.AcceptingParts.{another_accepts, bounded_accepts}
-use Rattle.session_script.proofs.AcceptingLines.{has_room}
 use Rattle.session_script.proofs.NextWords.{word_starts, starts_with_another}
-use Rattle.session_script.proofs.Sequences.{Sequence, Appends, sequence_turns}
+use Rattle.session_script.proofs.Sequences.{Sequence, ReadsOneMore, has_room, sequence_turns}
 use Rattle.session_script.proofs.Turns.{next_round_takes, no_round_at_end}
 
-pace_passes : (p : Pace) → pace_word false (pace_text p) ≡ Ok p
+pace_is_read : (p : Pace) → pace_word false (pace_text p) ≡ Ok p
 unfolding pace_word
-pace_passes pace.Run = refl
-pace_passes pace.Poll = refl
+pace_is_read pace.Run = refl
+pace_is_read pace.Poll = refl
 
 pace_is_no_restart : (p : Pace) → bytes_eq (pace_text p) (codes "restart") ≡ false
 pace_is_no_restart pace.Run = refl
@@ -47,7 +46,7 @@ unfolding round
 round_is_read h next ws rest p fits =
     let other : starts (codes "restart") p.0 ≡ false = starts_with_another (pace_text next.pace) (codes "restart") p.0 (word_starts (pace_text next.pace) p.0 p.1 p.3) (pace_is_no_restart next.pace) in
     then_reads_as _ (restart_is_read next.restart ws p.0 p.2 other)
-    (then_reads_as _ (by_accepts (one_accepts (pace_word false)) next.pace p.0 p.1 (pace_text next.pace, pace_passes next.pace, p.3))
+    (then_reads_as _ (by_accepts (one_accepts (pace_word false)) next.pace p.0 p.1 (pace_text next.pace, pace_is_read next.pace, p.3))
     (then_reads_as _ (by_accepts (bounded_accepts 1 h.limits.workers) next.workers p.1 rest (p.4, fits.0, fits.1))
     (done_reads_as next rest)))
 
@@ -55,7 +54,7 @@ round_is_read h next ws rest p fits =
 abbrev IsFittingRound : Header → Round → Words → Words → Type 0
 IsFittingRound h round ws rest = IsRoundText round ws rest × FitsRound h round
 
-next_round_is_read : (h : Header) → Appends (IsFittingRound h) h.limits.rounds (next_round h)
+next_round_is_read : (h : Header) → ReadsOneMore (IsFittingRound h) h.limits.rounds (next_round h)
 unfolding next_round
 next_round_is_read h so_far next ws rest below p =
     let as_round : ReadsAs (round h (nat_le h.limits.rounds (length so_far))) next ws rest = subst (λ full. ReadsAs (round h full) next ws rest) (sym (has_room h.limits.rounds (length so_far) below)) (round_is_read h next ws rest p.0 p.1) in

@@ -4,9 +4,9 @@ use Rattle.std.proofs.lemmas.Bool.{ne_eqb}
 use Rattle.std.proofs.Math.Seq.{drop-append_seam, drop-length}
 use Rattle.asio_types.specs.declared.code.Class.{Class}
 use Rattle.asio_types.specs.declared.code.Class.TheVariants as class
-use Rattle.session_script.specs.declared.reader.body.Bodies.{Bodies}
+use Rattle.session_script.specs.declared.act.Bodies.{Bodies}
 use Rattle.session_script.specs.Script.{Place, Entry, same_class, same_place, numbers_in}
-use Rattle.session_script.specs.Text.{Words, IsBodyText, in_braces, IsActsText, no_act, an_act, IsBodiesText, no_body, one_body, all_bodies, IsBranchText, left_out, written}
+use Rattle.session_script.specs.Text.{Words, IsBodyText, in_braces, IsActsText, no_act, an_act, IsBodiesText, no_body, one_body, all_bodies, IsBranchText, left_out, spelled_out}
 
 numbers_in-append : (q : Place) (n : ℕ) (xs ys : List Entry) → numbers_in q n (xs ++ ys) ≡ numbers_in q n xs ++ numbers_in q (n + length xs) ys
 numbers_in-append q n [] ys = ap (λ k. numbers_in q k ys) (omega arith)
@@ -139,4 +139,4 @@ mutual
 
   pub branch_appends : {version levels : ℕ} {text : List ℕ} {place : Place} {before after : List Entry} {ws rest : Words} → IsBranchText version levels text place before after ws rest → Appends (NotIn place) before after
   branch_appends left_out = appends_none _
-  branch_appends (written a word body) = body_appends body
+  branch_appends (spelled_out a word body) = body_appends body

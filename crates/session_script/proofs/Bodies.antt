@@ -11,15 +11,15 @@ use Rattle.session_script.specs.declared.refusal.ScriptFault.TheVariants as faul
 use Rattle.session_script.specs.declared.parts.Header.{Header}
 use Rattle.session_script.specs.declared.reader.act_word.ActWord.{ActWord}
 use Rattle.session_script.specs.declared.reader.act_word.ActWord.TheVariants as words
-use Rattle.session_script.specs.declared.reader.body.Bodies.{Bodies}
-use Rattle.session_script.specs.declared.reader.body.Bodies.TheVariants as bodies
+use Rattle.session_script.specs.declared.act.Bodies.{Bodies}
+use Rattle.session_script.specs.declared.act.Bodies.TheVariants as bodies
 use Rattle.session_script.specs.Script.{Place, Entry}
 use Rattle.session_script.specs.Tokens.{Tokens, token, end, goes_on}
-use Rattle.session_script.specs.Kinds.{exactly, one_more, ◌>>=◌}
+use Rattle.session_script.specs.Kinds.{exactly, another_word, ◌>>=◌}
 use Rattle.session_script.specs.Productions.{and_then, repeated, word, another, types, plug}
 use Rattle.session_script.specs.Acts.{fields, BodyReader, branch, branches, bodies_after, entry, braced, body}
 use Rattle.session_script.specs.Outcome.{Fails}
-use Rattle.session_script.proofs.Shrinking.{Keeps, Takes, keeps_taking, one_takes, then_keeps, then_takes, done_keeps, if_keeps, else_keeps, word_keeps, another_keeps, bounded_keeps, declared_keeps, optional_keeps, repeated_keeps}
+use Rattle.session_script.proofs.Shrinking.{Keeps, Shrinks, keeps_taking, one_takes, then_keeps, then_takes, done_keeps, if_keeps, else_keeps, word_keeps, another_keeps, bounded_keeps, declared_keeps, optional_keeps, repeated_keeps}
 use Rattle.session_script.proofs.Turns.{bytes_keeps}
 
 types_keeps : Keeps types
@@ -67,7 +67,7 @@ after_keeps inner op bodies.Nothing entries keeps = done_keeps entries
 after_keeps inner op bodies.Posting entries keeps = keeps _ entries
 after_keeps inner op bodies.Operation entries keeps = branches_keeps inner op entries keeps
 
-pub entry_takes : (h : Header) (inner : BodyReader) (place : Place) (entries : List Entry) → KeepsAll inner → Takes (entry h inner place entries)
+pub entry_takes : (h : Header) (inner : BodyReader) (place : Place) (entries : List Entry) → KeepsAll inner → Shrinks (entry h inner place entries)
 unfolding entry
 entry_takes h inner place entries keeps = then_takes (one_takes _) (λ begun. then_keeps (fields_keeps h begun) (λ made. after_keeps inner _ _ _ keeps))
 
@@ -84,8 +84,8 @@ limit_after : (r : Result (Unit {0}) Rule) → (violated : Rule) × (◌>>=◌ {
 limit_after (Ok value) = (rule.Limit, refl)
 limit_after (Err violated) = (violated, refl)
 
-full_breaks : (text bytes : List ℕ) → (violated : Rule) × (one_more text true bytes ≡ Err violated)
-unfolding one_more
+full_breaks : (text bytes : List ℕ) → (violated : Rule) × (another_word text true bytes ≡ Err violated)
+unfolding another_word
 full_breaks text bytes = limit_after (exactly text bytes)
 
 -- where no level is left, the brace is refused, whatever would be read behind it

@@ -6,17 +6,16 @@ use lib.Chars.{codes}
 use Rattle.asio_types.specs.declared.code.Class.{Class}
 use Rattle.asio_types.specs.declared.code.Class.TheVariants as class
 use Rattle.session_script.specs.declared.act.Act.{Act}
-use Rattle.session_script.specs.declared.reader.body.Bodies.{Bodies}
+use Rattle.session_script.specs.declared.act.Bodies.{Bodies}
 use Rattle.session_script.specs.Script.{Place, Entry, ScriptModel, opening_of, branch_of}
 use Rattle.session_script.specs.Tokens.{is_printable}
 use Rattle.session_script.specs.Acts.{bodies_of}
-use Rattle.session_script.specs.Text.{Words, IsWord, act_text, IsActText, IsBodyText, in_braces, IsActsText, no_act, an_act, IsBodiesText, no_body, one_body, all_bodies, IsBranchText, left_out, written}
+use Rattle.session_script.specs.Text.{Words, IsWord, act_text, IsActText, IsBodyText, in_braces, IsActsText, no_act, an_act, IsBodiesText, no_body, one_body, all_bodies, IsBranchText, left_out, spelled_out}
 use Rattle.session_script.specs.Spelling.{field_words, BodyWords, branch_words, bodies_words, entry_words, body_words}
 use Rattle.session_script.proofs.Tokenizing.{IsToken, size}
-use Rattle.session_script.proofs.Respelling.{Respells}
-use Rattle.session_script.proofs.Rewriting.{Rewrites, rewrites_none, rewrites_word, rewrites_both, rewrites_as, respelled, respells}
+use Rattle.session_script.proofs.Respelling.{Respells, Rewrites, rewrites_none, rewrites_word, rewrites_both, rewrites_as}
 use Rattle.session_script.proofs.Appending.{Continues, continues_both, new_numbers, new_numbers-none, NotIn, Away, Appends, acts_append, bodies_append, body_appends, branch_appends, act_longer}
-use Rattle.session_script.proofs.Gathering.{Around, around_whole, Below, below_later, numbers_of_act, around_bodies, around_others, body_none}
+use Rattle.session_script.proofs.Gathering.{Around, around_whole, IsEarlier, below_later, numbers_of_act, around_bodies, around_others, body_none}
 use Rattle.session_script.proofs.Branches.{IsBranch, only_branch, ok_branch, abort_branch, final_branch}
 
 brace_opens : IsToken (codes "{")
@@ -35,7 +34,7 @@ other_is_token : IsToken (codes "other")
 unfolding is_printable
 other_is_token = (omega arith, refl)
 
-entry_at : (before : List Entry) (e : Entry) (later : List Entry) → slice_get (before ++ e ∷ later) (length before) ≡ Some e
+pub entry_at : (before : List Entry) (e : Entry) (later : List Entry) → slice_get (before ++ e ∷ later) (length before) ≡ Some e
 entry_at [] e later = refl
 entry_at (x ∷ before) e later = entry_at before e later
 
@@ -65,9 +64,9 @@ module _ (version : ℕ) (script : ScriptModel) where
   written_rewrites levels text place before after ws a rest [] token word none body =
       subst (λ acts. Rewrites (IsBranchText version levels text place before acts) [] ws rest) (none refl) (rewrites_none ws rest (omega (arith, ap size word, body.shorter)) (λ other. left_out))
   written_rewrites levels text place before after ws a rest (n ∷ ns) token word none body =
-      rewrites_both (λ ws mid rest word body. written mid word body) (rewrites_word text ws a token word) body
+      rewrites_both (λ ws mid rest word body. spelled_out mid word body) (rewrites_word text ws a token word) body
 
-module _ (version : ℕ) (act_respells : (made : Act) → Respells (IsActText version) made (act_text made ∷ field_words made)) (script : ScriptModel) where
+module _ (version : ℕ) (act_respells : (made : Act) → Respells (IsActText version made) (act_text made ∷ field_words made)) (script : ScriptModel) where
   -- an act, its bodies and the acts after it
   act_rewrites : (levels : ℕ) (before mid after : List Entry) (e : Entry) (ws a b rest : Words) → Continues (before ++ e ∷ []) script.acts → new_numbers e.parent before after ≡ length before ∷ new_numbers e.parent mid after → IsActText version e.act ws a →
       Rewrites (IsBodiesText version levels (bodies_of e.act) (length before) (before ++ e ∷ []) mid) (bodies_words (body_words levels script) script (length before) (bodies_of e.act)) a b →
@@ -77,17 +76,17 @@ module _ (version : ℕ) (act_respells : (made : Act) → Respells (IsActText ve
       subst (λ words. Rewrites (IsActsText version levels e.parent before after) words ws rest) (sym words)
       (rewrites_both {Q = λ a rest. (b : Words) × IsBodiesText version levels (bodies_of e.act) (length before) (before ++ e ∷ []) mid a b × IsActsText version levels e.parent mid after b rest}
       (λ ws a rest act later. an_act e.act mid a later.0 act later.1 later.2)
-      (respelled (act_respells e.act) act)
+      ((act_respells e.act).rewrites ws a act)
       (rewrites_both (λ a b rest bodies others. (b, bodies, others)) bodies others))
 
   mutual
-    pub body_rewrites : {levels : ℕ} {place : Place} {before after : List Entry} {ws rest : Words} → IsBodyText version levels place before after ws rest → Below (length before) place → Around script (length before) before after → Rewrites (IsBodyText version levels place before after) (body_words levels script (new_numbers place before after)) ws rest
+    pub body_rewrites : {levels : ℕ} {place : Place} {before after : List Entry} {ws rest : Words} → IsBodyText version levels place before after ws rest → IsEarlier (length before) place → Around script (length before) before after → Rewrites (IsBodyText version levels place before after) (body_words levels script (new_numbers place before after)) ws rest
     body_rewrites {place = place} {before = before} {after = after} {ws = ws} {rest = rest} (in_braces {levels = levels} a b opens acts closes) below around =
         rewrites_both {Q = λ a rest. (b : Words) × IsActsText version levels place before after a b × IsWord (codes "}") b rest} (λ ws a rest opens later. in_braces a later.0 opens later.1 later.2)
         (rewrites_word (codes "{") ws a brace_opens opens)
         (rewrites_both (λ a b rest acts closes. (b, acts, closes)) (acts_rewrite acts below around) (rewrites_word (codes "}") b rest brace_closes closes))
 
-    acts_rewrite : {levels : ℕ} {place : Place} {before after : List Entry} {ws rest : Words} → IsActsText version levels place before after ws rest → Below (length before) place → Around script (length before) before after → Rewrites (IsActsText version levels place before after) (acts_words levels script (new_numbers place before after)) ws rest
+    acts_rewrite : {levels : ℕ} {place : Place} {before after : List Entry} {ws rest : Words} → IsActsText version levels place before after ws rest → IsEarlier (length before) place → Around script (length before) before after → Rewrites (IsActsText version levels place before after) (acts_words levels script (new_numbers place before after)) ws rest
     acts_rewrite {levels = levels} {place = place} (no_act {acts = acts} {ws = ws}) below around =
         subst (λ numbers. Rewrites (IsActsText version levels place acts acts) (acts_words levels script numbers) ws ws) (sym (new_numbers-none place acts)) (rewrites_none ws ws (omega arith) (λ other. no_act))
     acts_rewrite {levels = levels} {place = place} {before = before} {after = after} {ws = ws} {rest = rest} (an_act made mid a b act bodies acts) below around =
@@ -119,13 +118,13 @@ module _ (version : ℕ) (act_respells : (made : Act) → Respells (IsActText ve
         (on_branch (branch_words (body_words levels script) (codes "abort")) aborted (branch_rewrites abort abort_is_token aborted.below aborted.around))
         (on_branch (branch_words (body_words levels script) (codes "other")) final (branch_rewrites other other_is_token final.below final.around)))
 
-    branch_rewrites : {levels : ℕ} {text : List ℕ} {place : Place} {before after : List Entry} {ws rest : Words} → IsBranchText version levels text place before after ws rest → IsToken text → Below (length before) place → Around script (length before) before after → Rewrites (IsBranchText version levels text place before after) (branch_words (body_words levels script) text (new_numbers place before after)) ws rest
+    branch_rewrites : {levels : ℕ} {text : List ℕ} {place : Place} {before after : List Entry} {ws rest : Words} → IsBranchText version levels text place before after ws rest → IsToken text → IsEarlier (length before) place → Around script (length before) before after → Rewrites (IsBranchText version levels text place before after) (branch_words (body_words levels script) text (new_numbers place before after)) ws rest
     branch_rewrites {levels = levels} {text = text} {place = place} (left_out {acts = acts} {ws = ws}) token below around =
         subst (λ numbers. Rewrites (IsBranchText version levels text place acts acts) (branch_words (body_words levels script) text numbers) ws ws) (sym (new_numbers-none place acts)) (rewrites_none ws ws (omega arith) (λ other. left_out))
-    branch_rewrites {levels = levels} {text = text} {place = place} {before = before} {after = after} {ws = ws} {rest = rest} (written a word body) token below around =
+    branch_rewrites {levels = levels} {text = text} {place = place} {before = before} {after = after} {ws = ws} {rest = rest} (spelled_out a word body) token below around =
         written_rewrites version script levels text place before after ws a rest (new_numbers place before after) token word (body_none body below) (body_rewrites body below around)
 
-module _ (version : ℕ) (act_respells : (made : Act) → Respells (IsActText version) made (act_text made ∷ field_words made)) where
+module _ (version : ℕ) (act_respells : (made : Act) → Respells (IsActText version made) (act_text made ∷ field_words made)) where
   -- the body of `open` is spelled by the words that it is written as
-  pub opening_respells : (levels : ℕ) (script : ScriptModel) → Respells (λ acts ws rest. IsBodyText version levels None [] acts ws rest) script.acts (body_words levels script (opening_of script))
-  opening_respells levels script = respells (λ ws rest body. body_rewrites version act_respells script body tt (around_whole script))
+  pub opening_respells : (levels : ℕ) (script : ScriptModel) → Respells (IsBodyText version levels None [] script.acts) (body_words levels script (opening_of script))
+  opening_respells levels script = record { rewrites = λ ws rest body. body_rewrites version act_respells script body tt (around_whole script) }

@@ -10,7 +10,7 @@ use Rattle.session_script.proofs.Holding.{both}
 digit_of-hexadecimal : (digit : ℕ) → is_hexadecimal digit ≡ true → digit_of (hexadecimal digit) ≡ digit
 digit_of-hexadecimal digit h = grind (arith, nat_tests)
 
-hexadecimal-small : (digit : ℕ) → is_hexadecimal digit ≡ true → hexadecimal digit < 16
+pub hexadecimal-small : (digit : ℕ) → is_hexadecimal digit ≡ true → hexadecimal digit < 16
 hexadecimal-small digit h = grind (arith, nat_tests)
 
 high_half : (high low : ℕ) → low < 16 → (16 * high + low) / 16 ≡ high

@@ -51,19 +51,19 @@ pub forest_of_none : (h : Header) → IsForest h []
 forest_of_none h = record { count = omega arith; placed = λ n e there. absurd (cc) }
 
 -- a place where an act may stand, with so many levels of bodies left
-pub record Stands (acts : List Entry) (place : Place) (levels : ℕ) : Type 0 where
+pub record Stands (nesting : ℕ) (acts : List Entry) (place : Place) (levels : ℕ) : Type 0 where
   pub parent : HasParent acts (length acts) place
   pub depth : ℕ
   pub nested : IsNested acts place depth
-  pub levels_left : depth + levels ≡ 33
+  pub levels_left : depth + levels ≡ nesting + 1
 
-pub stands_later : {acts later : List Entry} {place : Place} {levels : ℕ} → Extends acts later → Stands acts place levels → Stands later place levels
+pub stands_later : {nesting : ℕ} {acts later : List Entry} {place : Place} {levels : ℕ} → Extends acts later → Stands nesting acts place levels → Stands nesting later place levels
 stands_later {place = place} more stands = record { parent = parent_later _ _ place more more.longer stands.parent; depth = stands.depth; nested = nested_later more stands.nested; levels_left = stands.levels_left }
 
-pub stands_in_open : (levels : ℕ) → levels ≡ 32 → Stands [] None levels
-stands_in_open levels e = record { parent = tt; depth = 1; nested = in_open; levels_left = omega arith }
+pub stands_in_open : (nesting : ℕ) → Stands nesting [] None nesting
+stands_in_open nesting = record { parent = tt; depth = 1; nested = in_open; levels_left = omega arith }
 
-module _ (h : Header) (acts : List Entry) (e : Entry) (levels : ℕ) (stands : Stands acts e.parent (levels + 1)) where
+module _ (h : Header) (acts : List Entry) (e : Entry) (levels : ℕ) (stands : Stands h.limits.nesting acts e.parent (levels + 1)) where
   -- one more act
   pub forest_of_one_more : IsForest h acts → length acts < h.limits.acts → FitsAct h e.act → IsForest h (acts ++ e ∷ [])
   forest_of_one_more forest room fits =
@@ -75,7 +75,7 @@ module _ (h : Header) (acts : List Entry) (e : Entry) (levels : ℕ) (stands : S
       }
 
   -- a branch of that act
-  pub stands_in_branch : (branch : Class) → has_branch (bodies_of e.act) branch ≡ true → Stands (acts ++ e ∷ []) (Some (length acts, branch)) levels
+  pub stands_in_branch : (branch : Class) → has_branch (bodies_of e.act) branch ≡ true → Stands h.limits.nesting (acts ++ e ∷ []) (Some (length acts, branch)) levels
   stands_in_branch branch has = record {
     parent = (omega (arith, length-append acts (e ∷ [])), (e, slice_get-seam acts e, has));
     depth = suc stands.depth;

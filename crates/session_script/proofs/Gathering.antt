@@ -33,25 +33,25 @@ around_part {low = low} {low' = low'} {c = c} {d = d} around first second third 
 }
 
 -- `open`, or a branch of an operation before this number
-abbrev pub Below : ℕ → Place → Type 0
-Below n None = Unit {0}
-Below n (Some at) = at.0 < n
+abbrev pub IsEarlier : ℕ → Place → Type 0
+IsEarlier n None = Unit {0}
+IsEarlier n (Some at) = at.0 < n
 
-below_not_in : (n high : ℕ) (place q : Place) → Below n place → Inside n high q → NotIn place q
+below_not_in : (n high : ℕ) (place q : Place) → IsEarlier n place → Inside n high q → NotIn place q
 below_not_in n high None None below in' = absurd in'
 below_not_in n high None (Some at) below in' = refl
 below_not_in n high (Some p) None below in' = refl
 below_not_in n high (Some p) (Some at) below in' = away_is_not_in p.0 p.1 (Some at) (λ e. omega arith)
 
-pub below_later : (n m : ℕ) (place : Place) → n ≤ m → Below n place → Below m place
+pub below_later : (n m : ℕ) (place : Place) → n ≤ m → IsEarlier n place → IsEarlier m place
 below_later n m None le below = tt
 below_later n m (Some at) le below = omega arith
 
-below_outside : (n low high : ℕ) (place : Place) → n ≤ low → Below n place → Outside low high place
+below_outside : (n low high : ℕ) (place : Place) → n ≤ low → IsEarlier n place → Outside low high place
 below_outside n low high None le below = tt
 below_outside n low high (Some p) le below = inl (omega arith)
 
-below_away : (n : ℕ) (place : Place) → Below n place → Away n place
+below_away : (n : ℕ) (place : Place) → IsEarlier n place → Away n place
 below_away n None below = tt
 below_away n (Some p) below = λ e. omega arith
 
@@ -72,12 +72,12 @@ same_class-self class.Ok = refl
 same_class-self class.Abort = refl
 same_class-self class.Other = refl
 
-same_place-self : (place : Place) → same_place place place ≡ true
+pub same_place-self : (place : Place) → same_place place place ≡ true
 same_place-self None = refl
 same_place-self (Some p) = rw (eq-eqb p.0 p.0 refl) (same_class-self p.1)
 
 -- an act, its bodies and the acts after them
-pub numbers_of_act : (before : List Entry) (e : Entry) {mid after : List Entry} → Below (length before) e.parent → Appends (Away (length before)) (before ++ e ∷ []) mid → Continues mid after → new_numbers e.parent before after ≡ length before ∷ new_numbers e.parent mid after
+pub numbers_of_act : (before : List Entry) (e : Entry) {mid after : List Entry} → IsEarlier (length before) e.parent → Appends (Away (length before)) (before ++ e ∷ []) mid → Continues mid after → new_numbers e.parent before after ≡ length before ∷ new_numbers e.parent mid after
 numbers_of_act before e {mid} {after} below bodies others =
     let one : Continues before (before ++ e ∷ []) = record { new = e ∷ []; is = refl } in
     let itself : new_numbers e.parent before (before ++ e ∷ []) ≡ length before ∷ [] = new_numbers-one e.parent before e ∙ rw (same_place-self e.parent) refl in
@@ -87,7 +87,7 @@ numbers_of_act before e {mid} {after} below bodies others =
     let rest : new_numbers e.parent (before ++ e ∷ []) after ≡ new_numbers e.parent (before ++ e ∷ []) mid ++ new_numbers e.parent mid after = new_numbers-both e.parent bodies.continues others in
     whole ∙ rw (itself, rest, none) refl
 
-module _ {script : ScriptModel} (before : List Entry) (e : Entry) {mid after : List Entry} (below : Below (length before) e.parent) (around : Around script (length before) before after) (bodies : Appends (Away (length before)) (before ++ e ∷ []) mid) (others : Appends (NotIn e.parent) mid after) where
+module _ {script : ScriptModel} (before : List Entry) (e : Entry) {mid after : List Entry} (below : IsEarlier (length before) e.parent) (around : Around script (length before) before after) (bodies : Appends (Away (length before)) (before ++ e ∷ []) mid) (others : Appends (NotIn e.parent) mid after) where
   -- the bodies of an act
   pub around_bodies : Around script (length before) (before ++ e ∷ []) mid
   around_bodies = around_part around (record { new = e ∷ []; is = refl }) bodies.continues others.continues (omega arith) (λ q in'.
@@ -104,11 +104,11 @@ module _ {script : ScriptModel} (before : List Entry) (e : Entry) {mid after : L
       (act.elsewhere q apart (beyond_outside (length before) (length mid) (length after) q in'), new_numbers-none q after))
 
 -- a body that appends no act of its own appends none
-acts_none : {version levels : ℕ} {place : Place} {before after : List Entry} {ws rest : Words} → IsActsText version levels place before after ws rest → Below (length before) place → new_numbers place before after ≡ [] → before ≡ after
+acts_none : {version levels : ℕ} {place : Place} {before after : List Entry} {ws rest : Words} → IsActsText version levels place before after ws rest → IsEarlier (length before) place → new_numbers place before after ≡ [] → before ≡ after
 acts_none no_act below none = refl
 acts_none {place = place} {before = before} (an_act made mid a b act bodies acts) below none =
     let some = numbers_of_act before (record { act = made; parent = place }) below (bodies_append bodies) (acts_append acts).continues in
     cc (some, none)
 
-pub body_none : {version levels : ℕ} {place : Place} {before after : List Entry} {ws rest : Words} → IsBodyText version levels place before after ws rest → Below (length before) place → new_numbers place before after ≡ [] → before ≡ after
+pub body_none : {version levels : ℕ} {place : Place} {before after : List Entry} {ws rest : Words} → IsBodyText version levels place before after ws rest → IsEarlier (length before) place → new_numbers place before after ≡ [] → before ≡ after
 body_none (in_braces a b opens acts closes) below none = acts_none acts below none

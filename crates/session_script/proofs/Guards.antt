@@ -2,17 +2,17 @@
 use Rattle.std.proofs.Common.{◌≡◌, ℕ, zero, suc, ◌+◌, ◌<◌, Bool, true, false, ◌&&◌, ◌||◌, List, [], ◌∷◌, refl, sym, ap, ◌∙◌, ⊎_elim, add-one, arith}
 use Rattle.std.proofs.str.Laws.{order}
 use Rattle.std.specs.List.{list_any}
-use Rattle.session_script.specs.declared.parts.Entry.{Entry}
+use Rattle.session_script.specs.declared.parts.PlacedAct.{PlacedAct}
 use Rattle.session_script.specs.Script as script
 use Rattle.session_script.specs.Grammar.{releases, is_released, are_released}
 use Rattle.session_script.specs.Outcome.{entry_of, entries_of}
 
-any_of_map : (p : script.Entry → Bool) (entries : List Entry) → list_any (λ entry. p (entry_of entry)) entries ≡ list_any p (entries_of entries)
+any_of_map : (p : script.Entry → Bool) (entries : List PlacedAct) → list_any (λ entry. p (entry_of entry)) entries ≡ list_any p (entries_of entries)
 any_of_map p [] = refl
 any_of_map p (entry ∷ entries) = ap (λ b. p (entry_of entry) || b) (any_of_map p entries)
 
 -- a guard is released where one of the acts as they are kept releases it
-pub released_in : (guard : ℕ) (entries : List Entry) → list_any (λ entry. releases guard entry.act) entries ≡ is_released guard (entries_of entries)
+pub released_in : (guard : ℕ) (entries : List PlacedAct) → list_any (λ entry. releases guard entry.act) entries ≡ is_released guard (entries_of entries)
 unfolding is_released
 released_in guard entries = any_of_map (λ entry. releases guard entry.act) entries
 

@@ -8,7 +8,7 @@ use Rattle.session_script.specs.declared.refusal.Rule.{Rule}
 use Rattle.session_script.specs.declared.refusal.Refusal.{Refusal}
 use Rattle.session_script.specs.Tokens.{Tokens, end, token, token_count}
 use Rattle.session_script.specs.Kinds as kinds
-use Rattle.session_script.specs.Kinds.{is_data, number, within, known, chosen, version, data_digits, decoded, one_more, exactly}
+use Rattle.session_script.specs.Kinds.{is_data, number, within, known, chosen, version, data_digits, decoded, another_word, exactly}
 use Rattle.session_script.specs.Productions.{and_then, ◌>>=◌, done, judged, one, many, repeated, another, bounded, declared_number, optional, bytes}
 use Rattle.session_script.specs.WellFormed.{IsSize}
 
@@ -138,8 +138,8 @@ version_reads = one_reads version (λ bs. bind_passes (λ n. Unit {0}) (λ n. (n
 
 -- one more of something begins only where there is room
 pub another_reads : (text : List ℕ) (full : Bool) → Reads (λ u. full ≡ false) (another text full)
-unfolding another one_more
-another_reads text full = one_reads (one_more text full) (λ bs. bind_passes (λ u. Unit {0}) (λ u. full ≡ false) (exactly text bs) _ (any_passes (exactly text bs)) (λ u _. bar_passes (λ u. full ≡ false) full (Ok tt) _ (λ free. free)))
+unfolding another another_word
+another_reads text full = one_reads (another_word text full) (λ bs. bind_passes (λ u. Unit {0}) (λ u. full ≡ false) (exactly text bs) _ (any_passes (exactly text bs)) (λ u _. bar_passes (λ u. full ≡ false) full (Ok tt) _ (λ free. free)))
 
 -- half as many bytes as digits
 pub decoded_size : (digits : List ℕ) → (2 * length (decoded digits) ≤ length digits) × (length digits ≤ 2 * length (decoded digits) + 1)

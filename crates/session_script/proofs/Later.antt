@@ -2,9 +2,9 @@
 use Rattle.std.proofs.Common.{ℕ, List, Option, inl, inr}
 use Rattle.session_script.specs.declared.act.Act.{Act}
 use Rattle.session_script.specs.declared.act.Act.TheVariants as act
-use Rattle.session_script.specs.declared.reader.body.Bodies.{Bodies}
+use Rattle.session_script.specs.declared.act.Bodies.{Bodies}
 use Rattle.session_script.specs.Script.{Place, Entry}
-use Rattle.session_script.specs.Text.{Words, IsLater, IsPlugText, IsTail, BelongsTo, IsFieldsText, IsActText, IsBodyText, in_braces, IsActsText, no_act, an_act, IsBodiesText, no_body, one_body, all_bodies, IsBranchText, left_out, written}
+use Rattle.session_script.specs.Text.{Words, IsLater, IsPlugText, IsTail, BelongsTo, IsFieldsText, IsActText, IsBodyText, in_braces, IsActsText, no_act, an_act, IsBodiesText, no_body, one_body, all_bodies, IsBranchText, left_out, spelled_out}
 
 module _ (first second : ℕ) (later : IsLater second) where
   later_plug : (slot : Option ℕ) (filter : ℕ) (ws rest : Words) → IsPlugText first slot filter ws rest → IsPlugText second slot filter ws rest
@@ -70,4 +70,4 @@ module _ (first second : ℕ) (later : IsLater second) where
 
     later_branch : {levels : ℕ} {text : List ℕ} {place : Place} {before after : List Entry} {ws rest : Words} → IsBranchText first levels text place before after ws rest → IsBranchText second levels text place before after ws rest
     later_branch left_out = left_out
-    later_branch (written a word body) = written a word (later_body body)
+    later_branch (spelled_out a word body) = spelled_out a word (later_body body)

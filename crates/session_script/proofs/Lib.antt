@@ -33,10 +33,8 @@ pub mod AcceptingActs
 pub mod AcceptingBodies
 pub mod AcceptingScript
 pub mod Respelling
-pub mod Joining
 pub mod Canonical
 pub mod CanonicalActs
-pub mod Rewriting
 pub mod Appending
 pub mod Gathering
 pub mod Branches
@@ -44,3 +42,12 @@ pub mod CanonicalBodies
 pub mod CanonicalScript
 pub mod Later
 pub mod ReadingBack
+pub mod PlacingLemmas
+pub mod JudgingLemmas
+pub mod WordLemmas
+pub mod SayingLemmas
+pub mod OrderLemmas
+pub mod BuildingLemmas
+pub mod WritingLemmas
+pub mod TextOrderLemmas
+pub mod SpokenLemmas

@@ -10,7 +10,7 @@ use Rattle.session_script.specs.declared.refusal.Rule.{Rule}
 use Rattle.session_script.specs.Tokens.{is_printable}
 use Rattle.session_script.specs.Kinds.{is_digit, is_hexadecimal, is_number, is_data, decimal_from, number, data_digits, decoded}
 use Rattle.session_script.specs.Spelling.{data_text}
-use Rattle.session_script.proofs.Holding.{Passes, both, not_false, data_long, decoded_size, digits_pass}
+use Rattle.session_script.proofs.Holding.{both, not_false, data_long, decoded_size}
 use Rattle.session_script.proofs.Tokenizing.{IsToken}
 use Rattle.session_script.proofs.DataLemmas.{encoded-decoded}
 
@@ -64,7 +64,7 @@ numeral_of w n e =
     record { some = some; digits = is.1; no_zero = alone (get_or w 0 0) (length w) some lead.0; small = (Decides-ltb (decimal_from 0 w) (2 ^ 64)).0 fits.0; value = fits.1 }
 
 -- digits and their value are those that std reads
-decimal_model : IsNumeralModel (λ ds. list_all is_digit ds ≡ true) (decimal_from 0)
+pub decimal_model : IsNumeralModel (λ ds. list_all is_digit ds ≡ true) (decimal_from 0)
 decimal_model = numerals_by_fold _ (search rules) decimal_from (search rules)
 
 -- a numeral without a leading zero is the decimal text of its value
@@ -111,12 +111,8 @@ digits_of most w digits e =
     let parts = data_parts most w digits e in
     subst (IsDataOf w) parts.1 (data_of w parts.0)
 
--- as many bytes as half the digits, which is within what is allowed, and one at least
-pub data_size : (most : ℕ) (w digits : List ℕ) → data_digits most w ≡ Ok digits → (1 ≤ length (decoded digits)) × (length (decoded digits) ≤ most)
-data_size most w digits e =
-    let passes = subst (Passes (λ ds. (2 ≤ length ds) × (length ds / 2 ≤ most))) e (digits_pass most w) in
-    let size = decoded_size digits in
-    (omega (arith, passes.0, size.1), omega (arith, passes.1, size.0))
+pub digits_are_hexadecimal : (most : ℕ) (w digits : List ℕ) → data_digits most w ≡ Ok digits → list_all is_hexadecimal digits ≡ true
+digits_are_hexadecimal most w digits e = (digits_of most w digits e).all
 
 -- DATA is the text of the bytes that it spells
 pub data_is_text : (most : ℕ) (w digits : List ℕ) → data_digits most w ≡ Ok digits → w ≡ data_text (decoded digits)

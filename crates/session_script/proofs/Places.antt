@@ -5,9 +5,9 @@ use Rattle.std.proofs.lemmas.Bool.{cases_lt, cases_eq, lt-ltb, le-ltb, eq-eqb, n
 use Rattle.asio_types.specs.declared.code.Class.{Class}
 use Rattle.asio_types.specs.declared.code.Class.TheVariants as class
 use Rattle.asio_types.specs.declared.number.Lane.{Lane}
-use Rattle.session_script.specs.declared.parts.Entry as parts
+use Rattle.session_script.specs.declared.parts.PlacedAct as parts
 use Rattle.session_script.specs.Script.{Place, Entry, same_class, same_place, numbers_in}
-use Rattle.session_script.specs.Limits.{limits_of}
+use Rattle.session_script.specs.Limits.{limits_of, most_acts}
 use Rattle.session_script.specs.Lanes.{lanes_after, lane_in, caller_lane}
 use Rattle.session_script.specs.Groups.{class_number, place_number, numbers_with}
 use Rattle.session_script.specs.Layout.{HoldsPlaces}
@@ -64,7 +64,7 @@ place_test count (Some p) None h = rw (lt-ltb p.0 count h) (ne_eqb 0 (1 + 3 * p.
 place_test count (Some p) (Some q) h = rw (lt-ltb p.0 count h) (by_range count p.0 q.0 p.1 q.1 h (cases_lt q.0 count))
 
 -- the acts of a place are those with its number
-pub same_numbers : (count : ℕ) (place : Place) (n : ℕ) (acts : List parts.Entry) → IsWithin count place → numbers_with (place_number count place) n (map (λ entry. place_number count entry.parent) acts) ≡ numbers_in place n (entries_of acts)
+pub same_numbers : (count : ℕ) (place : Place) (n : ℕ) (acts : List parts.PlacedAct) → IsWithin count place → numbers_with (place_number count place) n (map (λ entry. place_number count entry.parent) acts) ≡ numbers_in place n (entries_of acts)
 same_numbers count place n [] h = refl
 same_numbers count place n (entry ∷ acts) h = rw (place_test count place entry.parent h, same_numbers count place (n + 1) acts h) refl
 
@@ -76,12 +76,12 @@ number_below count (Some at) = by_test (cases_lt at.0 count)
     by_test (inl within) = rw (lt-ltb at.0 count within) (omega (arith, below_three at.1))
     by_test (inr beyond) = rw (le-ltb at.0 count beyond) (omega arith)
 
-pub numbers_below : (count i : ℕ) (acts : List parts.Entry) → i < length (map (λ entry. place_number count entry.parent) acts) → get_or (map (λ entry. place_number count entry.parent) acts) i 0 < 3 * count + 2
+pub numbers_below : (count i : ℕ) (acts : List parts.PlacedAct) → i < length (map (λ entry. place_number count entry.parent) acts) → get_or (map (λ entry. place_number count entry.parent) acts) i 0 < 3 * count + 2
 numbers_below count i [] lt = absurd (omega arith)
 numbers_below count zero (entry ∷ acts) lt = number_below count entry.parent
 numbers_below count (suc i) (entry ∷ acts) lt = numbers_below count i acts (omega arith)
 
-pub length-entries : (acts : List parts.Entry) → length (entries_of acts) ≡ length acts
+pub length-entries : (acts : List parts.PlacedAct) → length (entries_of acts) ≡ length acts
 length-entries [] = refl
 length-entries (entry ∷ acts) = ap suc (length-entries acts)
 
@@ -90,7 +90,7 @@ length-lanes_after lanes [] = omega arith
 length-lanes_after lanes (entry ∷ entries) = omega (arith, length-lanes_after (lanes ++ lane_in (caller_lane lanes entry.parent) (length lanes) entry.act ∷ []) entries, length-append lanes (lane_in (caller_lane lanes entry.parent) (length lanes) entry.act ∷ []))
 
 -- the groups by the numbers of places hold the acts of the places
-pub holds_places : (acts : List parts.Entry) (groups : List (List ℕ)) → length groups ≡ 3 * length acts + 2 →
+pub holds_places : (acts : List parts.PlacedAct) (groups : List (List ℕ)) → length groups ≡ 3 * length acts + 2 →
     ((key : ℕ) → key < 3 * length acts + 2 → get_or groups key [] ≡ numbers_with key 0 (map (λ entry. place_number (length acts) entry.parent) acts)) → HoldsPlaces (entries_of acts) groups
 holds_places acts groups count are = record {
   count = rw (length-entries acts) count;
@@ -101,10 +101,10 @@ holds_places acts groups count are = record {
       are (1 + 3 * op + class_number cl) (omega (arith, below_three cl)) ∙ rw (← number) (same_numbers (length acts) (Some (op, cl)) 0 acts lt');
 }
 
-either : (first : Bool) → cond first 1024 4096 ≤ 4096
+either : (first : Bool) → cond first 1024 most_acts ≤ most_acts
 either true = omega arith
 either false = omega arith
 
-pub acts_allowed : (version : ℕ) → (limits_of version).acts ≤ 4096
+pub acts_allowed : (version : ℕ) → (limits_of version).acts ≤ most_acts
 unfolding limits_of
 acts_allowed version = either (nat_eq version 1)

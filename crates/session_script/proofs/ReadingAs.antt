@@ -5,7 +5,7 @@ use Rattle.session_script.specs.declared.refusal.Refusal.{Refusal}
 use Rattle.session_script.specs.Tokens.{Tokens, begins}
 use Rattle.session_script.specs.Productions.{and_then, ◌>>=◌, done, one}
 use Rattle.session_script.specs.Text.{words_of, Words}
-use Rattle.session_script.proofs.Accepting.{Accepts, weaker_accepts, Passes, one_accepts, starts, begins_starts}
+use Rattle.session_script.proofs.Accepting.{Accepts, weaker_accepts, TakesWord, one_accepts, starts, begins_starts}
 
 -- of all tokens with these words, a reader gives this value, and leaves those with the rest
 pub record ReadsAs {A : Type 0} (r : Tokens → Result (A × Tokens) Refusal) (a : A) (ws rest : Words) : Type 0 where
@@ -18,8 +18,8 @@ pub accepts_by : {A : Type 0} (P : A → Words → Words → Type 0) {r : Tokens
 accepts_by P reading = record { accepts = λ a ts rest p. (reading a (words_of ts) rest p).reads ts refl }
 
 -- one word that a test takes as a value
-pub tested_accepts : {A : Type 0} (test : List ℕ → Result A Rule) (P : A → Words → Words → Type 0) → ((a : A) (ws rest : Words) → P a ws rest → Passes test a ws rest) → Accepts P (one test)
-tested_accepts test P passes = weaker_accepts (Passes test) P passes (one_accepts test)
+pub tested_accepts : {A : Type 0} (test : List ℕ → Result A Rule) (P : A → Words → Words → Type 0) → ((a : A) (ws rest : Words) → P a ws rest → TakesWord test a ws rest) → Accepts P (one test)
+tested_accepts test P passes = weaker_accepts (TakesWord test) P passes (one_accepts test)
 
 -- a part, and what comes after it
 pub then_reads_as : {A B : Type 0} {r : Tokens → Result (A × Tokens) Refusal} {a : A} {b : B} {ws mid rest : Words} (f : A → Tokens → Result (B × Tokens) Refusal) → ReadsAs r a ws mid → ReadsAs (f a) b mid rest → ReadsAs (r >>= f) b ws rest

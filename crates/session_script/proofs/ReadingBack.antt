@@ -116,15 +116,25 @@ module _ (script : ScriptModel) (ws : Words) (is : IsScriptText script ws) (form
 pub spelled_is_script : (bytes : List ℕ) (script : ScriptModel) → SpellsScript bytes script → IsScript bytes script
 spelled_is_script bytes script spelled = is_read bytes script spelled.size spelled.text (script_is_read script (tokens_of bytes) spelled.words spelled.limits)
 
--- the canonical text is read back, and is no longer than any words that spell the script
-pub reads_back : (script : ScriptModel) (ws : Words) → IsScriptText script ws → IsWellFormed script → size ws ≤ most_bytes + 1 → IsScript (spelling_of script) script × (length (spelling_of script) + 1 ≤ size ws)
+-- a canonical text that isn't too long is read back, where any words spell the script
+pub canonical_is_read : (script : ScriptModel) (ws : Words) → IsScriptText script ws → IsWellFormed script → length (spelling_of script) ≤ most_bytes → IsScript (spelling_of script) script
 unfolding spelling_of
-reads_back script ws is formed short =
+canonical_is_read script ws is formed short =
     let tokens = all_tokens script ws is in
-    let le = no_longer script ws is in
-    let long : length (spelling_of script) + 1 ≡ size (canonical script) = length_written (codes "session") (words_after_session script) in
     let read : IsScriptText script (words_of (tokens_of (spelling_of script))) = subst (IsScriptText script) (sym (words_written (codes "session") (words_after_session script) tokens)) (spelled_again script ws is) in
-    (is_read (spelling_of script) script (omega (arith, long, le, short)) (written_is_text (codes "session") (words_after_session script) tokens) (script_is_read script (tokens_of (spelling_of script)) read formed), omega (arith, long, le))
+    is_read (spelling_of script) script short (written_is_text (codes "session") (words_after_session script) tokens) (script_is_read script (tokens_of (spelling_of script)) read formed)
+
+-- it is no longer than any words that spell the script
+canonical_is_shortest : (script : ScriptModel) (ws : Words) → IsScriptText script ws → length (spelling_of script) + 1 ≤ size ws
+unfolding spelling_of
+canonical_is_shortest script ws is =
+    let long : length (spelling_of script) + 1 ≡ size (canonical script) = length_written (codes "session") (words_after_session script) in
+    omega (arith, long, no_longer script ws is)
+
+reads_back : (script : ScriptModel) (ws : Words) → IsScriptText script ws → IsWellFormed script → size ws ≤ most_bytes + 1 → IsScript (spelling_of script) script × (length (spelling_of script) + 1 ≤ size ws)
+reads_back script ws is formed short =
+    let shortest = canonical_is_shortest script ws is in
+    (canonical_is_read script ws is formed (omega (arith, shortest, short)), shortest)
 
 pub written_is_read : (bytes : List ℕ) (script : ScriptModel) → IsScript bytes script → IsScript (spelling_of script) script × (length (spelling_of script) ≤ length bytes)
 written_is_read bytes script is =

@@ -6,9 +6,9 @@ use Rattle.session_script.specs.declared.refusal.ScriptFault.TheVariants as faul
 use Rattle.session_script.specs.Tokens.{Tokens, end, token, token_count}
 use Rattle.session_script.specs.Productions.{and_then, many, repeated}
 use Rattle.session_script.specs.Outcome.{Fails}
-use Rattle.session_script.proofs.Shrinking.{Below, Takes}
+use Rattle.session_script.proofs.Shrinking.{Below, Shrinks}
 
-module _ {S : Type 0} (more : Tokens → Bool) (reader : S → Tokens → Result (S × Tokens) Refusal) (ends : (at : _) → more (end at) ≡ false) (takes : (s : S) → Takes (reader s)) where
+module _ {S : Type 0} (more : Tokens → Bool) (reader : S → Tokens → Result (S × Tokens) Refusal) (ends : (at : _) → more (end at) ≡ false) (takes : (s : S) → Shrinks (reader s)) where
   -- with as many turns as tokens or more, it makes no difference how many
   same_then : (r : Result (S × Tokens) Refusal) (f g : S → Tokens → Result (S × Tokens) Refusal) (n : ℕ) → Below n r → ((s : S) (ts : Tokens) → token_count ts < n → f s ts ≡ g s ts) → and_then r f ≡ and_then r g
   same_then (Ok read) f g n below same = same read.0 read.1 below

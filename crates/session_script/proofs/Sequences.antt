@@ -1,5 +1,7 @@
 -- One after the other, as turns of a loop that appends each.
 use Rattle.std.proofs.Common.{◌≡◌, ℕ, Result, ◌<◌, ◌≤◌, ◌+◌, Bool, true, false, List, [], ◌∷◌, ◌++◌, length, sym, subst, append_assoc, arith, length-append}
+use Rattle.std.specs.Prelude.{nat_le}
+use Rattle.std.proofs.lemmas.Bool.Decides.{nat_tests}
 use Rattle.std.proofs.lemmas.List.{append-nil}
 use Rattle.session_script.specs.declared.refusal.Refusal.{Refusal}
 use Rattle.session_script.specs.Tokens.{Tokens}
@@ -12,11 +14,15 @@ abbrev pub Sequence : {A : Type 0} → (A → Words → Words → Type 0) → Li
 Sequence P [] ws rest = ws ≡ rest
 Sequence P (x ∷ xs) ws rest = (mid : Words) × P x ws mid × Sequence P xs mid rest
 
--- a turn appends one more, unless there are as many as the limit
-abbrev pub Appends : {A : Type 0} → (A → Words → Words → Type 0) → ℕ → (List A → Tokens → Result (List A × Tokens) Refusal) → Type 0
-Appends {A = A} P limit next = (so_far : List A) (x : A) (ws rest : Words) → length so_far < limit → P x ws rest → ReadsAs (next so_far) (so_far ++ x ∷ []) ws rest
+-- as long as the limit isn't reached
+pub has_room : (most so_far : ℕ) → so_far < most → nat_le most so_far ≡ false
+has_room most so_far below = grind (arith, nat_tests)
 
-module _ {A : Type 0} (P : A → Words → Words → Type 0) (goes : Words → Bool) (begins : (x : A) (ws rest : Words) → P x ws rest → goes ws ≡ true) (limit : ℕ) (next : List A → Tokens → Result (List A × Tokens) Refusal) (appends : Appends P limit next) where
+-- a turn appends one more, unless there are as many as the limit
+abbrev pub ReadsOneMore : {A : Type 0} → (A → Words → Words → Type 0) → ℕ → (List A → Tokens → Result (List A × Tokens) Refusal) → Type 0
+ReadsOneMore {A = A} P limit next = (so_far : List A) (x : A) (ws rest : Words) → length so_far < limit → P x ws rest → ReadsAs (next so_far) (so_far ++ x ∷ []) ws rest
+
+module _ {A : Type 0} (P : A → Words → Words → Type 0) (goes : Words → Bool) (begins : (x : A) (ws rest : Words) → P x ws rest → goes ws ≡ true) (limit : ℕ) (next : List A → Tokens → Result (List A × Tokens) Refusal) (appends : ReadsOneMore P limit next) where
   pub sequence_turns : (so_far xs : List A) (ws rest : Words) → length so_far + length xs ≤ limit → Sequence P xs ws rest → goes rest ≡ false → Turns goes (λ s. ReadsAs (next s)) so_far (so_far ++ xs) ws rest
   sequence_turns so_far [] ws rest fits is stops =
       subst (λ (now : Words). Turns goes (λ s. ReadsAs (next s)) so_far (so_far ++ []) now rest) (sym is)

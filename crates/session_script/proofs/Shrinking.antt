@@ -16,14 +16,14 @@ pub record Keeps {A : Type 0} (r : Tokens → Result (A × Tokens) Refusal) : Ty
   pub below : (n : ℕ) (ts : Tokens) → token_count ts < n → Below n (r ts)
 
 -- a reader takes a token at least
-pub record Takes {A : Type 0} (r : Tokens → Result (A × Tokens) Refusal) : Type 0 where
+pub record Shrinks {A : Type 0} (r : Tokens → Result (A × Tokens) Refusal) : Type 0 where
   pub below : (ts : Tokens) → Below (token_count ts) (r ts)
 
 below_more : {A : Type 0} (m n : ℕ) (r : Result (A × Tokens) Refusal) → m ≤ n → Below m r → Below n r
 below_more m n (Ok read) le h = omega arith
 below_more m n (Err refusal) le h = tt
 
-pub keeps_taking : {A : Type 0} {r : Tokens → Result (A × Tokens) Refusal} → Takes r → Keeps r
+pub keeps_taking : {A : Type 0} {r : Tokens → Result (A × Tokens) Refusal} → Shrinks r → Keeps r
 keeps_taking {r = r} takes = record { below = λ n ts lt. below_more (token_count ts) n (r ts) (omega arith) (takes.below ts) }
 
 judged_below : {A : Type 0} (n : ℕ) (test : Result A Rule) (at : Position) (rest : Tokens) → token_count rest < n → Below n (judged test at rest)
@@ -34,7 +34,7 @@ one_below : {A : Type 0} (test : List ℕ → Result A Rule) (ts : Tokens) → B
 one_below test (end at) = tt
 one_below test (token bytes at rest) = judged_below (token_count rest + 1) (test bytes) at rest (omega arith)
 
-pub one_takes : {A : Type 0} (test : List ℕ → Result A Rule) → Takes (one test)
+pub one_takes : {A : Type 0} (test : List ℕ → Result A Rule) → Shrinks (one test)
 one_takes test = record { below = one_below test }
 
 and_then_below : {A B : Type 0} (n : ℕ) (r : Result (A × Tokens) Refusal) (f : A → Tokens → Result (B × Tokens) Refusal) → Below n r → ((a : A) → Keeps (f a)) → Below n (and_then r f)
@@ -45,14 +45,14 @@ and_then_below n (Err refusal) f below keeps = tt
 pub then_keeps : {A B : Type 0} {r : Tokens → Result (A × Tokens) Refusal} {f : A → Tokens → Result (B × Tokens) Refusal} → Keeps r → ((a : A) → Keeps (f a)) → Keeps (r >>= f)
 then_keeps {r = r} {f = f} first second = record { below = λ n ts lt. and_then_below n (r ts) f (first.below n ts lt) second }
 
-pub then_takes : {A B : Type 0} {r : Tokens → Result (A × Tokens) Refusal} {f : A → Tokens → Result (B × Tokens) Refusal} → Takes r → ((a : A) → Keeps (f a)) → Takes (r >>= f)
+pub then_takes : {A B : Type 0} {r : Tokens → Result (A × Tokens) Refusal} {f : A → Tokens → Result (B × Tokens) Refusal} → Shrinks r → ((a : A) → Keeps (f a)) → Shrinks (r >>= f)
 then_takes {r = r} {f = f} first second = record { below = λ ts. and_then_below (token_count ts) (r ts) f (first.below ts) second }
 
-takes_second : {A B : Type 0} (n : ℕ) (r : Result (A × Tokens) Refusal) (f : A → Tokens → Result (B × Tokens) Refusal) → Below (n + 1) r → ((a : A) → Takes (f a)) → Below n (and_then r f)
+takes_second : {A B : Type 0} (n : ℕ) (r : Result (A × Tokens) Refusal) (f : A → Tokens → Result (B × Tokens) Refusal) → Below (n + 1) r → ((a : A) → Shrinks (f a)) → Below n (and_then r f)
 takes_second n (Ok read) f below takes = below_more (token_count read.1) n (f read.0 read.1) (omega arith) ((takes read.0).below read.1)
 takes_second n (Err refusal) f below takes = tt
 
-pub keeps_then_takes : {A B : Type 0} {r : Tokens → Result (A × Tokens) Refusal} {f : A → Tokens → Result (B × Tokens) Refusal} → Keeps r → ((a : A) → Takes (f a)) → Takes (r >>= f)
+pub keeps_then_takes : {A B : Type 0} {r : Tokens → Result (A × Tokens) Refusal} {f : A → Tokens → Result (B × Tokens) Refusal} → Keeps r → ((a : A) → Shrinks (f a)) → Shrinks (r >>= f)
 keeps_then_takes {r = r} {f = f} first second = record { below = λ ts. takes_second (token_count ts) (r ts) f (first.below (token_count ts + 1) ts (omega arith)) second }
 
 pub done_keeps : {A : Type 0} (value : A) → Keeps (done value)
@@ -61,23 +61,23 @@ done_keeps value = record { below = λ n ts lt. lt }
 pub one_keeps : {A : Type 0} (test : List ℕ → Result A Rule) → Keeps (one test)
 one_keeps test = keeps_taking (one_takes test)
 
-pub word_takes : (text : List ℕ) → Takes (word text)
+pub word_takes : (text : List ℕ) → Shrinks (word text)
 unfolding word
 word_takes text = one_takes _
 
-pub another_takes : (text : List ℕ) (full : Bool) → Takes (another text full)
+pub another_takes : (text : List ℕ) (full : Bool) → Shrinks (another text full)
 unfolding another
 another_takes text full = one_takes _
 
-pub bounded_takes : (least most : ℕ) → Takes (bounded least most)
+pub bounded_takes : (least most : ℕ) → Shrinks (bounded least most)
 unfolding bounded
 bounded_takes least most = one_takes _
 
-pub declared_takes : (count : ℕ) → Takes (declared_number count)
+pub declared_takes : (count : ℕ) → Shrinks (declared_number count)
 unfolding declared_number
 declared_takes count = one_takes _
 
-pub optional_takes : (count : ℕ) → Takes (optional count)
+pub optional_takes : (count : ℕ) → Shrinks (optional count)
 unfolding optional
 optional_takes count = one_takes _
 

@@ -11,7 +11,7 @@ use Rattle.session_script.specs.declared.refusal.Refusal.{Refusal}
 use Rattle.session_script.specs.declared.parts.Header.{Header}
 use Rattle.session_script.specs.Tokens.{Tokens, end, token, begins}
 use Rattle.session_script.specs.Kinds as kinds
-use Rattle.session_script.specs.Kinds.{misplaced, number, exactly, one_more, within, known, chosen, version, data_digits, decoded}
+use Rattle.session_script.specs.Kinds.{misplaced, number, exactly, another_word, within, known, chosen, version, data_digits, decoded}
 use Rattle.session_script.specs.Productions.{and_then, ◌>>=◌, done, judged, one, word, another, bounded, declared_number, optional, types, plug, bytes, count}
 use Rattle.session_script.specs.Text.{words_of, Words, IsWord, IsN, IsDashOrN, IsLater, IsPlugText, IsDataText, IsCountText}
 
@@ -94,23 +94,23 @@ itself test bs (Err _) e = tt
 pub is_text : (bs text : List ℕ) → bytes_eq bs text ≡ true → bs ≡ text
 is_text bs text e = (bytes_eq-Decides bs text).0 e
 
-abbrev Names : List ℕ → Unit {0} → List ℕ → Type 0
-Names text u w = w ≡ text
+abbrev IsTheWord : List ℕ → Unit {0} → List ℕ → Type 0
+IsTheWord text u w = w ≡ text
 
-exactly_says : (text bs : List ℕ) → Says (Names text) bs (exactly text bs)
+exactly_says : (text bs : List ℕ) → Says (IsTheWord text) bs (exactly text bs)
 unfolding exactly
-exactly_says text bs = choice_says (Names text) bs (bytes_eq bs text) (Ok tt) _ (λ e. is_text bs text e) (λ _. tt)
+exactly_says text bs = choice_says (IsTheWord text) bs (bytes_eq bs text) (Ok tt) _ (λ e. is_text bs text e) (λ _. tt)
 
-as_word : (text : List ℕ) (u : Unit {0}) (ws rest : Words) → OneWord (Names text) u ws rest → IsWord text ws rest
+as_word : (text : List ℕ) (u : Unit {0}) (ws rest : Words) → OneWord (IsTheWord text) u ws rest → IsWord text ws rest
 as_word text u ws rest p = p.2 ∙ ap (λ w. w ∷ rest) p.1
 
 pub word_spells : (text : List ℕ) → Spells (λ u. IsWord text) (word text)
 unfolding word
-word_spells text = weaker_spells (OneWord (Names text)) (λ u. IsWord text) (as_word text) (one_spells (Names text) (exactly text) (exactly_says text))
+word_spells text = weaker_spells (OneWord (IsTheWord text)) (λ u. IsWord text) (as_word text) (one_spells (IsTheWord text) (exactly text) (exactly_says text))
 
 pub another_spells : (text : List ℕ) (full : Bool) → Spells (λ u. IsWord text) (another text full)
-unfolding another one_more
-another_spells text full = weaker_spells (OneWord (Names text)) (λ u. IsWord text) (as_word text) (one_spells (Names text) (one_more text full) (λ bs. bind_says (Names text) (Names text) bs (exactly text bs) _ (exactly_says text bs) (λ u e. choice_says (Names text) bs full _ _ (λ _. tt) (λ _. e))))
+unfolding another another_word
+another_spells text full = weaker_spells (OneWord (IsTheWord text)) (λ u. IsWord text) (as_word text) (one_spells (IsTheWord text) (another_word text full) (λ bs. bind_says (IsTheWord text) (IsTheWord text) bs (exactly text bs) _ (exactly_says text bs) (λ u e. choice_says (IsTheWord text) bs full _ _ (λ _. tt) (λ _. e))))
 
 abbrev IsNumeral : ℕ → List ℕ → Type 0
 IsNumeral n w = number w ≡ Ok n

@@ -9,13 +9,13 @@ use Rattle.session_script.specs.declared.act.Act.{Act}
 use Rattle.session_script.specs.declared.parts.Header.{Header}
 use Rattle.session_script.specs.declared.reader.act_word.ActWord.{ActWord}
 use Rattle.session_script.specs.declared.reader.act_word.ActWord.TheVariants as words
-use Rattle.session_script.specs.declared.reader.body.Bodies.{Bodies}
-use Rattle.session_script.specs.declared.reader.body.Bodies.TheVariants as bodies
+use Rattle.session_script.specs.declared.act.Bodies.{Bodies}
+use Rattle.session_script.specs.declared.act.Bodies.TheVariants as bodies
 use Rattle.session_script.specs.Script.{Place, Entry}
 use Rattle.session_script.specs.Tokens.{Tokens, begins, goes_on, token_count}
 use Rattle.session_script.specs.Productions.{and_then, one, many, repeated, another}
-use Rattle.session_script.specs.Acts.{context_word, timer_word, stream_word, or_else, act_of, while_room, act_word, fields, bodies_of, BodyReader, branch, branches, bodies_after, entry, braced, body}
-use Rattle.session_script.specs.Text.{Words, IsWord, act_text, IsLater, BelongsTo, IsFieldsText, IsActText, IsBodyText, in_braces, IsActsText, no_act, an_act, IsBodiesText, no_body, one_body, all_bodies, IsBranchText, left_out, written}
+use Rattle.session_script.specs.Acts.{context_word, timer_word, stream_word, or_else, act_word_of, while_room, act_word, fields, bodies_of, BodyReader, branch, branches, bodies_after, entry, braced, body}
+use Rattle.session_script.specs.Text.{Words, IsWord, act_text, IsLater, BelongsTo, IsFieldsText, IsActText, IsBodyText, in_braces, IsActsText, no_act, an_act, IsBodiesText, no_body, one_body, all_bodies, IsBranchText, left_out, spelled_out}
 use Rattle.std.proofs.lemmas.Bool.{false≢true}
 use Rattle.session_script.proofs.Holding.{Holds, another_reads}
 use Rattle.session_script.proofs.Spelled.{is_later, Spelt, Spells, then_spells, done_spells, weaker_spells, if_spells, Says, OneWord, one_spells, is_text, word_spells, another_spells, bounded_spells, declared_spells, optional_spells, types_spells, plug_spells, bytes_spells}
@@ -79,12 +79,12 @@ second_of_both : (a b : Bool) → (a && b) ≡ true → b ≡ true
 second_of_both true b h = h
 second_of_both false b h = absurd (false≢true h)
 
-is_false : (b : Bool) → not b ≡ true → b ≡ false
-is_false true h = absurd (false≢true h)
-is_false false h = refl
+not_true : (b : Bool) → not b ≡ true → b ≡ false
+not_true true h = absurd (false≢true h)
+not_true false h = refl
 
 later_word : (v : ℕ) (bs : List ℕ) → (bytes_eq bs (codes "expiresat") && not (nat_eq v 1)) ≡ true → (bs ≡ codes "expiresat") × IsLater v
-later_word v bs e = (is_text bs _ (first_of_both (bytes_eq bs (codes "expiresat")) (not (nat_eq v 1)) e), is_later v (is_false (nat_eq v 1) (second_of_both (bytes_eq bs (codes "expiresat")) (not (nat_eq v 1)) e)))
+later_word v bs e = (is_text bs _ (first_of_both (bytes_eq bs (codes "expiresat")) (not (nat_eq v 1)) e), is_later v (not_true (nat_eq v 1) (second_of_both (bytes_eq bs (codes "expiresat")) (not (nat_eq v 1)) e)))
 
 finds_timer : (v : ℕ) (bs : List ℕ) → Finds v bs (timer_word v bs)
 unfolding timer_word word_text
@@ -94,8 +94,8 @@ finds_stream : (v : ℕ) (bs : List ℕ) → Finds v bs (stream_word bs)
 unfolding stream_word word_text
 finds_stream v bs = finds_or v bs words.ReadSome _ _ (spelt_word bs _) (finds_or v bs words.Read _ _ (spelt_word bs _) (finds_or v bs words.Until _ _ (spelt_word bs _) (finds_or v bs words.WriteSome _ _ (spelt_word bs _) (finds_or v bs words.Write _ _ (spelt_word bs _) (finds_or v bs words.Close _ _ (spelt_word bs _) (finds_none v bs))))))
 
-finds_act : (v : ℕ) (bs : List ℕ) → Finds v bs (act_of v bs)
-unfolding act_of
+finds_act : (v : ℕ) (bs : List ℕ) → Finds v bs (act_word_of v bs)
+unfolding act_word_of
 finds_act v bs = finds_else v bs (context_word bs) (or_else (timer_word v bs) (stream_word bs)) (finds_context v bs) (finds_else v bs (timer_word v bs) (stream_word bs) (finds_timer v bs) (finds_stream v bs))
 
 abbrev IsActWord : ℕ → ActWord → List ℕ → Type 0
@@ -112,7 +112,7 @@ IsWordOf v w ws rest = IsWord (word_text w) ws rest × WordBelongs v w
 
 begun_spells : (v : ℕ) (full : Bool) → Spells (IsWordOf v) (one (act_word v full))
 unfolding act_word
-begun_spells v full = weaker_spells (OneWord (IsActWord v)) (IsWordOf v) (λ w ws rest p. (p.2 ∙ ap (λ t. t ∷ rest) p.1.0, p.1.1)) (one_spells (IsActWord v) (act_word v full) (λ bs. room_says v full bs (act_of v bs) (finds_act v bs)))
+begun_spells v full = weaker_spells (OneWord (IsActWord v)) (IsWordOf v) (λ w ws rest p. (p.2 ∙ ap (λ t. t ∷ rest) p.1.0, p.1.1)) (one_spells (IsActWord v) (act_word v full) (λ bs. room_says v full bs (act_word_of v bs) (finds_act v bs)))
 
 -- the fields of an act after its word
 abbrev IsAfterWord : ℕ → ActWord → Act → Words → Words → Type 0
@@ -144,7 +144,7 @@ SpellsAll v levels inner = (place : Place) (entries : List Entry) → Spells (Is
 
 branch_spells : (v levels : ℕ) (text : List ℕ) (inner : BodyReader) (place : Place) (entries : List Entry) → SpellsAll v levels inner → Spells (IsBranchText v levels text place entries) (branch text inner place entries)
 unfolding branch
-branch_spells v levels text inner place entries spells = if_spells {P = IsBranchText v levels text place entries} (begins text) entries (λ ws. left_out) (then_spells (word_spells text) (λ _. weaker_spells (IsBodyText v levels place entries) _ (λ after mid rest in_body ws w. written mid w in_body) (spells place entries)))
+branch_spells v levels text inner place entries spells = if_spells {P = IsBranchText v levels text place entries} (begins text) entries (λ ws. left_out) (then_spells (word_spells text) (λ _. weaker_spells (IsBodyText v levels place entries) _ (λ after mid rest in_body ws w. spelled_out mid w in_body) (spells place entries)))
 
 branches_spell : (v levels : ℕ) (inner : BodyReader) (op : ℕ) (entries : List Entry) → SpellsAll v levels inner → Spells (IsBodiesText v levels bodies.Operation op entries) (branches inner op entries)
 unfolding branches

@@ -12,14 +12,14 @@ use Rattle.session_script.specs.declared.round.Round.{Round}
 use Rattle.session_script.specs.declared.round.Pace.{Pace}
 use Rattle.session_script.specs.declared.round.Pace.TheVariants as pace
 use Rattle.session_script.specs.declared.parts.Header.{Header}
-use Rattle.session_script.specs.declared.reader.line.LineWord.{LineWord}
-use Rattle.session_script.specs.declared.reader.line.LineWord.TheVariants as lines
+use Rattle.session_script.specs.declared.reader.world_line.WorldWord.{WorldWord}
+use Rattle.session_script.specs.declared.reader.world_line.WorldWord.TheVariants as world
 use Rattle.session_script.specs.Script.{Entry, ScriptModel}
 use Rattle.session_script.specs.Limits.{limits_of}
 use Rattle.session_script.specs.declared.limits.Limits.{Limits}
 use Rattle.session_script.specs.Tokens.{Tokens, end, token, begins, token_count, tokens_of}
 use Rattle.session_script.specs.Kinds.{misplaced, pace_word}
-use Rattle.session_script.specs.Productions.{one, many, repeated, header, line_word, what_happens, line, next_line, world_lines, restart, round, begins_round, next_round, session_rounds}
+use Rattle.session_script.specs.Productions.{one, many, repeated, header, world_word, what_happens, world_line, next_world_line, world_lines, restart, round, begins_round, next_round, session_rounds}
 use Rattle.session_script.specs.Grammar.{are_released, ends, script, whole, IsScript}
 use Rattle.session_script.specs.Text.{words_of, Words, IsWord, IsN, IsCountText, IsWhatText, IsLineText, IsLinesText, IsBodyText, pace_text, IsRestartText, IsRoundText, IsRoundsText, IsScriptText}
 use Rattle.session_script.proofs.Reading.{Told, script_has}
@@ -27,37 +27,37 @@ use Rattle.session_script.proofs.Spelled.{Spelt, choice_spelt, Spells, then_spel
 use Rattle.session_script.proofs.SpelledActs.{body_spells}
 
 -- the word of what happens in a line
-line_text : LineWord → List ℕ
-line_text lines.Feed = codes "feed"
-line_text lines.End = codes "end"
-line_text lines.Reset = codes "reset"
-line_text lines.Room = codes "room"
+world_text : WorldWord → List ℕ
+world_text world.Feed = codes "feed"
+world_text world.End = codes "end"
+world_text world.Reset = codes "reset"
+world_text world.Room = codes "room"
 
-abbrev IsLineWord : LineWord → List ℕ → Type 0
-IsLineWord w bs = bs ≡ line_text w
+abbrev IsWorldWord : WorldWord → List ℕ → Type 0
+IsWorldWord w bs = bs ≡ world_text w
 
-happens_spells : Spells (λ w. IsWord (line_text w)) (one line_word)
-unfolding line_word line_text
-happens_spells = weaker_spells (OneWord IsLineWord) (λ w. IsWord (line_text w)) (λ w ws rest p. p.2 ∙ ap (λ t. t ∷ rest) p.1)
-    (one_spells IsLineWord line_word (λ bs.
-    choice_says IsLineWord bs (bytes_eq bs (codes "feed")) (Ok lines.Feed) _ (is_text bs (codes "feed")) (λ _.
-    choice_says IsLineWord bs (bytes_eq bs (codes "end")) (Ok lines.End) _ (is_text bs (codes "end")) (λ _.
-    choice_says IsLineWord bs (bytes_eq bs (codes "reset")) (Ok lines.Reset) _ (is_text bs (codes "reset")) (λ _.
-    choice_says IsLineWord bs (bytes_eq bs (codes "room")) (Ok lines.Room) (Err (misplaced bs)) (is_text bs (codes "room")) (λ _. tt))))))
+happens_spells : Spells (λ w. IsWord (world_text w)) (one world_word)
+unfolding world_word world_text
+happens_spells = weaker_spells (OneWord IsWorldWord) (λ w. IsWord (world_text w)) (λ w ws rest p. p.2 ∙ ap (λ t. t ∷ rest) p.1)
+    (one_spells IsWorldWord world_word (λ bs.
+    choice_says IsWorldWord bs (bytes_eq bs (codes "feed")) (Ok world.Feed) _ (is_text bs (codes "feed")) (λ _.
+    choice_says IsWorldWord bs (bytes_eq bs (codes "end")) (Ok world.End) _ (is_text bs (codes "end")) (λ _.
+    choice_says IsWorldWord bs (bytes_eq bs (codes "reset")) (Ok world.Reset) _ (is_text bs (codes "reset")) (λ _.
+    choice_says IsWorldWord bs (bytes_eq bs (codes "room")) (Ok world.Room) (Err (misplaced bs)) (is_text bs (codes "room")) (λ _. tt))))))
 
 -- what stands after the word and the stream of a line
-abbrev IsAfterStream : LineWord → What → Words → Words → Type 0
-IsAfterStream w happened mid rest = (ws : Words) (a : Words) (stream : ℕ) → IsWord (line_text w) ws a → IsN stream a mid → IsWhatText happened stream ws rest
+abbrev IsAfterStream : WorldWord → What → Words → Words → Type 0
+IsAfterStream w happened mid rest = (ws : Words) (a : Words) (stream : ℕ) → IsWord (world_text w) ws a → IsN stream a mid → IsWhatText happened stream ws rest
 
-what_spells : (h : Header) (w : LineWord) → Spells (IsAfterStream w) (what_happens h w)
-unfolding what_happens line_text
-what_spells h lines.Feed = then_spells (bytes_spells h.limits.size) (λ fed. done_spells (λ rest mid is_data ws a stream is_word numeral. (a, mid, is_word, numeral, is_data)))
-what_spells h lines.End = done_spells (λ mid ws a stream is_word numeral. (a, is_word, numeral))
-what_spells h lines.Reset = done_spells (λ mid ws a stream is_word numeral. (a, is_word, numeral))
-what_spells h lines.Room = then_spells (bounded_spells 1 h.limits.room) (λ room. done_spells (λ rest mid size ws a stream is_word numeral. (a, mid, is_word, numeral, size)))
+what_spells : (h : Header) (w : WorldWord) → Spells (IsAfterStream w) (what_happens h w)
+unfolding what_happens world_text
+what_spells h world.Feed = then_spells (bytes_spells h.limits.size) (λ fed. done_spells (λ rest mid is_data ws a stream is_word numeral. (a, mid, is_word, numeral, is_data)))
+what_spells h world.End = done_spells (λ mid ws a stream is_word numeral. (a, is_word, numeral))
+what_spells h world.Reset = done_spells (λ mid ws a stream is_word numeral. (a, is_word, numeral))
+what_spells h world.Room = then_spells (bounded_spells 1 h.limits.room) (λ room. done_spells (λ rest mid size ws a stream is_word numeral. (a, mid, is_word, numeral, size)))
 
-line_spells : (h : Header) (full : Bool) → Spells IsLineText (line h full)
-unfolding line
+line_spells : (h : Header) (full : Bool) → Spells IsLineText (world_line h full)
+unfolding world_line
 line_spells h full =
     then_spells (another_spells (codes "at") full) (λ _.
     then_spells (bounded_spells 0 h.limits.time) (λ time.
@@ -66,23 +66,23 @@ line_spells h full =
     then_spells (what_spells h happens) (λ what. done_spells (λ rest d after c numeral b is_word a time_is ws at_is. (a, b, at_is, time_is, after b c stream is_word numeral)))))))
 
 -- what was appended is spelled so
-abbrev Appends : {A : Type 0} → (List A → Words → Words → Type 0) → List A → List A → Words → Words → Type 0
-Appends {A} P before after ws rest = (new : List A) × (after ≡ before ++ new) × P new ws rest
+abbrev SpellsMore : {A : Type 0} → (List A → Words → Words → Type 0) → List A → List A → Words → Words → Type 0
+SpellsMore {A} P before after ws rest = (new : List A) × (after ≡ before ++ new) × P new ws rest
 
-next_line_spells : (h : Header) (so_far : List Line) → Spells (λ after ws rest. (next : Line) × (after ≡ so_far ++ next ∷ []) × IsLineText next ws rest) (next_line h so_far)
-unfolding next_line
+next_line_spells : (h : Header) (so_far : List Line) → Spells (λ after ws rest. (next : Line) × (after ≡ so_far ++ next ∷ []) × IsLineText next ws rest) (next_world_line h so_far)
+unfolding next_world_line
 next_line_spells h so_far = then_spells (line_spells h (nat_le h.limits.lines (length so_far))) (λ next. done_spells (λ rest ws p. (next, refl, p)))
 
-many_lines : (h : Header) (fuel : ℕ) (so_far : List Line) → Spells (Appends IsLinesText so_far) (many (begins (codes "at")) (next_line h) fuel so_far)
+many_lines : (h : Header) (fuel : ℕ) (so_far : List Line) → Spells (SpellsMore IsLinesText so_far) (many (begins (codes "at")) (next_world_line h) fuel so_far)
 many_lines h zero so_far = done_spells (λ ws. ([], sym (append-nil so_far), refl))
-many_lines h (suc fuel) so_far = if_spells {P = Appends IsLinesText so_far} (begins (codes "at")) so_far (λ ws. ([], sym (append-nil so_far), refl)) (then_spells (next_line_spells h so_far) (λ mid_lines. weaker_spells (Appends IsLinesText mid_lines) _ (λ after mid rest others ws first. (first.0 ∷ others.0, others.1 ∙ ap (λ l. l ++ others.0) first.1 ∙ append_assoc so_far (first.0 ∷ []) others.0, (mid, first.2, others.2))) (many_lines h fuel mid_lines)))
+many_lines h (suc fuel) so_far = if_spells {P = SpellsMore IsLinesText so_far} (begins (codes "at")) so_far (λ ws. ([], sym (append-nil so_far), refl)) (then_spells (next_line_spells h so_far) (λ mid_lines. weaker_spells (SpellsMore IsLinesText mid_lines) _ (λ after mid rest others ws first. (first.0 ∷ others.0, others.1 ∙ ap (λ l. l ++ others.0) first.1 ∙ append_assoc so_far (first.0 ∷ []) others.0, (mid, first.2, others.2))) (many_lines h fuel mid_lines)))
 
-as_lines : (after : List Line) (ws rest : Words) → Appends IsLinesText [] after ws rest → IsLinesText after ws rest
+as_lines : (after : List Line) (ws rest : Words) → SpellsMore IsLinesText [] after ws rest → IsLinesText after ws rest
 as_lines after ws rest p = subst (λ ls. IsLinesText ls ws rest) (sym p.1) p.2
 
 pub lines_spell : (h : Header) → Spells IsLinesText (world_lines h)
 unfolding world_lines repeated
-lines_spell h = weaker_spells (Appends IsLinesText []) IsLinesText as_lines (record { spelt = λ ts. (many_lines h (token_count ts) []).spelt ts })
+lines_spell h = weaker_spells (SpellsMore IsLinesText []) IsLinesText as_lines (record { spelt = λ ts. (many_lines h (token_count ts) []).spelt ts })
 
 abbrev IsPace : Pace → List ℕ → Type 0
 IsPace p bs = bs ≡ pace_text p
@@ -110,13 +110,13 @@ next_round_spells : (h : Header) (so_far : List Round) → Spells (λ after ws r
 unfolding next_round
 next_round_spells h so_far = then_spells (round_spells h (nat_le h.limits.rounds (length so_far))) (λ next. done_spells (λ rest ws p. (next, refl, p)))
 
-many_rounds : (h : Header) (fuel : ℕ) (so_far : List Round) → Spells (Appends IsRoundsText so_far) (many begins_round (next_round h) fuel so_far)
+many_rounds : (h : Header) (fuel : ℕ) (so_far : List Round) → Spells (SpellsMore IsRoundsText so_far) (many begins_round (next_round h) fuel so_far)
 many_rounds h zero so_far = done_spells (λ ws. ([], sym (append-nil so_far), refl))
-many_rounds h (suc fuel) so_far = if_spells {P = Appends IsRoundsText so_far} begins_round so_far (λ ws. ([], sym (append-nil so_far), refl)) (then_spells (next_round_spells h so_far) (λ mid_rounds. weaker_spells (Appends IsRoundsText mid_rounds) _ (λ after mid rest others ws first. (first.0 ∷ others.0, others.1 ∙ ap (λ l. l ++ others.0) first.1 ∙ append_assoc so_far (first.0 ∷ []) others.0, (mid, first.2, others.2))) (many_rounds h fuel mid_rounds)))
+many_rounds h (suc fuel) so_far = if_spells {P = SpellsMore IsRoundsText so_far} begins_round so_far (λ ws. ([], sym (append-nil so_far), refl)) (then_spells (next_round_spells h so_far) (λ mid_rounds. weaker_spells (SpellsMore IsRoundsText mid_rounds) _ (λ after mid rest others ws first. (first.0 ∷ others.0, others.1 ∙ ap (λ l. l ++ others.0) first.1 ∙ append_assoc so_far (first.0 ∷ []) others.0, (mid, first.2, others.2))) (many_rounds h fuel mid_rounds)))
 
 pub rounds_spell : (h : Header) → Spells (λ rs ws rest. IsRoundsText rs ws rest × (1 ≤ length rs)) (session_rounds h)
 unfolding session_rounds repeated
-rounds_spell h = then_spells (round_spells h false) (λ first. weaker_spells (Appends IsRoundsText (first ∷ [])) _ (λ after mid rest others ws p. (subst (λ rs. IsRoundsText rs ws rest) (sym others.1) (mid, p, others.2), subst (λ (rs : List Round). 1 ≤ length rs) (sym others.1) (omega arith))) (record { spelt = λ ts. (many_rounds h (token_count ts) (first ∷ [])).spelt ts }))
+rounds_spell h = then_spells (round_spells h false) (λ first. weaker_spells (SpellsMore IsRoundsText (first ∷ [])) _ (λ after mid rest others ws p. (subst (λ rs. IsRoundsText rs ws rest) (sym others.1) (mid, p, others.2), subst (λ (rs : List Round). 1 ≤ length rs) (sym others.1) (omega arith))) (record { spelt = λ ts. (many_rounds h (token_count ts) (first ∷ [])).spelt ts }))
 
 -- what the reader of declarations gives is spelled so
 abbrev IsHeaderText : Header → Words → Words → Type 0

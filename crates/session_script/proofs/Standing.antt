@@ -10,12 +10,12 @@ use Rattle.session_script.specs.declared.refusal.Refusal.{Refusal}
 use Rattle.session_script.specs.declared.parts.Header.{Header}
 use Rattle.session_script.specs.declared.reader.act_word.ActWord.{ActWord}
 use Rattle.session_script.specs.declared.reader.act_word.ActWord.TheVariants as words
-use Rattle.session_script.specs.declared.reader.body.Bodies.{Bodies}
-use Rattle.session_script.specs.declared.reader.body.Bodies.TheVariants as bodies
+use Rattle.session_script.specs.declared.act.Bodies.{Bodies}
+use Rattle.session_script.specs.declared.act.Bodies.TheVariants as bodies
 use Rattle.session_script.specs.Script.{Place, Entry}
 use Rattle.session_script.specs.Tokens.{Tokens, begins, goes_on}
 use Rattle.session_script.specs.Productions.{and_then, one, bounded, word, another, types, plug}
-use Rattle.session_script.specs.Acts.{act_of, act_word, while_room, fields, bodies_of, BodyReader, branch, branches, bodies_after, entry, braced, body}
+use Rattle.session_script.specs.Acts.{act_word_of, act_word, while_room, fields, bodies_of, BodyReader, branch, branches, bodies_after, entry, braced, body}
 use Rattle.session_script.specs.WellFormed.{IsPlug, FitsAct, has_branch, IsForest}
 use Rattle.session_script.proofs.Holding.{Passes, Holds, Reads, weaker, done_reads, then_reads, one_reads, any_reads, if_reads, else_reads, repeated_reads, bounded_reads, declared_reads, optional_reads, another_reads, bytes_reads}
 use Rattle.session_script.proofs.Forest.{Extends, extends_by_none, extends_both, extends_by_one, Stands, stands_later, forest_of_one_more, stands_in_branch}
@@ -61,7 +61,7 @@ room_passes full bs None = tt
 
 word_reads : (h : Header) (count : ℕ) → Reads (λ w. count < h.limits.acts) (one (act_word h.version (nat_le h.limits.acts count)))
 unfolding act_word
-word_reads h count = weaker (λ w. nat_le h.limits.acts count ≡ false) (λ w. count < h.limits.acts) (λ w free. is_below h.limits.acts count free) (one_reads (act_word h.version (nat_le h.limits.acts count)) (λ bs. room_passes (nat_le h.limits.acts count) bs (act_of h.version bs)))
+word_reads h count = weaker (λ w. nat_le h.limits.acts count ≡ false) (λ w. count < h.limits.acts) (λ w free. is_below h.limits.acts count free) (one_reads (act_word h.version (nat_le h.limits.acts count)) (λ bs. room_passes (nat_le h.limits.acts count) bs (act_word_of h.version bs)))
 
 -- the acts so far are a forest, and they begin with others
 pub record Grown (h : Header) (before acts : List Entry) : Type 0 where
@@ -70,17 +70,17 @@ pub record Grown (h : Header) (before acts : List Entry) : Type 0 where
 
 -- bodies with so many levels left append to a forest
 abbrev pub GrowsAll : Header → BodyReader → ℕ → Type 0
-GrowsAll h inner levels = (place : Place) (acts : List Entry) → IsForest h acts → Stands acts place levels → Reads (Grown h acts) (inner place acts)
+GrowsAll h inner levels = (place : Place) (acts : List Entry) → IsForest h acts → Stands h.limits.nesting acts place levels → Reads (Grown h acts) (inner place acts)
 
 grown_more : (h : Header) (before acts later : List Entry) → Extends before acts → Grown h acts later → Grown h before later
 grown_more h before acts later more grown = record { forest = grown.forest; extends = extends_both more grown.extends }
 
 module _ (h : Header) (inner : BodyReader) (levels : ℕ) (grows : GrowsAll h inner levels) where
-  branch_reads : (text : List ℕ) (place : Place) (acts : List Entry) → IsForest h acts → Stands acts place levels → Reads (Grown h acts) (branch text inner place acts)
+  branch_reads : (text : List ℕ) (place : Place) (acts : List Entry) → IsForest h acts → Stands h.limits.nesting acts place levels → Reads (Grown h acts) (branch text inner place acts)
   unfolding branch
   branch_reads text place acts forest stands = if_reads {P = Grown h acts} (begins text) acts (record { forest = forest; extends = extends_by_none acts }) (then_reads (any_reads (word text)) (λ _ _. grows place acts forest stands))
 
-  branches_reads : (op : ℕ) (acts : List Entry) → IsForest h acts → ((branch : Class) → Stands acts (Some (op, branch)) levels) → Reads (Grown h acts) (branches inner op acts)
+  branches_reads : (op : ℕ) (acts : List Entry) → IsForest h acts → ((branch : Class) → Stands h.limits.nesting acts (Some (op, branch)) levels) → Reads (Grown h acts) (branches inner op acts)
   unfolding branches
   branches_reads op acts forest stands =
       then_reads (grows (Some (op, class.Ok)) acts forest (stands class.Ok)) (λ after_ok first.
@@ -89,12 +89,12 @@ module _ (h : Header) (inner : BodyReader) (levels : ℕ) (grows : GrowsAll h in
       weaker (Grown h after_abort) (Grown h acts) (λ later third. grown_more h acts after_abort later so_far third)
       (branch_reads (codes "other") (Some (op, class.Other)) after_abort second.forest (stands_later so_far (stands class.Other)))))
 
-  after_reads : (op : ℕ) (which : Bodies) (acts : List Entry) → IsForest h acts → ((branch : Class) → has_branch which branch ≡ true → Stands acts (Some (op, branch)) levels) → Reads (Grown h acts) (bodies_after inner op which acts)
+  after_reads : (op : ℕ) (which : Bodies) (acts : List Entry) → IsForest h acts → ((branch : Class) → has_branch which branch ≡ true → Stands h.limits.nesting acts (Some (op, branch)) levels) → Reads (Grown h acts) (bodies_after inner op which acts)
   after_reads op bodies.Nothing acts forest stands = done_reads (record { forest = forest; extends = extends_by_none acts })
   after_reads op bodies.Posting acts forest stands = grows (Some (op, class.Ok)) acts forest (stands class.Ok refl)
   after_reads op bodies.Operation acts forest stands = branches_reads op acts forest (λ branch. stands branch refl)
 
-  entry_reads : (place : Place) (acts : List Entry) → IsForest h acts → Stands acts place (levels + 1) → Reads (Grown h acts) (entry h inner place acts)
+  entry_reads : (place : Place) (acts : List Entry) → IsForest h acts → Stands h.limits.nesting acts place (levels + 1) → Reads (Grown h acts) (entry h inner place acts)
   unfolding entry
   entry_reads place acts forest stands =
       then_reads (word_reads h (length acts)) (λ begun room.
@@ -103,7 +103,7 @@ module _ (h : Header) (inner : BodyReader) (levels : ℕ) (grows : GrowsAll h in
       weaker (Grown h (acts ++ new ∷ [])) (Grown h acts) (λ later grown. grown_more h acts (acts ++ new ∷ []) later (extends_by_one acts new) grown)
       (after_reads (length acts) (bodies_of made) (acts ++ new ∷ []) (forest_of_one_more h acts new levels stands forest room fits) (stands_in_branch h acts new levels stands))))
 
-  acts_reads : (place : Place) (acts : List Entry) → IsForest h acts → Stands acts place (levels + 1) → Reads (Grown h acts) (braced h false inner place acts)
+  acts_reads : (place : Place) (acts : List Entry) → IsForest h acts → Stands h.limits.nesting acts place (levels + 1) → Reads (Grown h acts) (braced h false inner place acts)
   unfolding braced
   acts_reads place acts forest stands =
       then_reads (any_reads (another (codes "{") false)) (λ _ _.
@@ -116,4 +116,4 @@ full_reads P text f ts = (then_reads {P = λ u. true ≡ false} {Q = P} {f = f} 
 pub body_reads : (h : Header) (levels : ℕ) → GrowsAll h (body h levels) levels
 unfolding body braced
 body_reads h zero place acts forest stands = record { holds = λ ts. full_reads (Grown h acts) (codes "{") _ ts }
-body_reads h (suc levels) place acts forest stands = acts_reads h (body h levels) levels (body_reads h levels) place acts forest (subst (λ k. Stands acts place k) (sym (add-one levels)) stands)
+body_reads h (suc levels) place acts forest stands = acts_reads h (body h levels) levels (body_reads h levels) place acts forest (subst (λ k. Stands h.limits.nesting acts place k) (sym (add-one levels)) stands)

@@ -9,14 +9,15 @@ use Rattle.session_script.specs.declared.act.Act.TheVariants as act
 use Rattle.session_script.specs.declared.round.Round.{Round}
 use Rattle.session_script.specs.declared.limits.Limits.{Limits}
 use Rattle.session_script.specs.declared.parts.Header.{Header}
-use Rattle.session_script.specs.Script.{Entry, ScriptModel}
-use Rattle.session_script.specs.Limits.{limits_of}
-use Rattle.session_script.specs.WellFormed.{IsSize, FitsAct, FitsWhat, FitsLine, FitsRound, IsForest, header_of, IsWellFormed}
+use Rattle.session_script.specs.Script.{Entry, Place, ScriptModel}
+use Rattle.session_script.specs.Limits.{limits_of, most_acts, most_nesting}
+use Rattle.session_script.specs.WellFormed.{IsSize, FitsAct, FitsWhat, FitsLine, FitsRound, IsNested, IsForest, header_of, IsWellFormed}
 use Rattle.session_script.specs.Spelling.{upgraded}
 
 -- limits that are no less
 pub record Allows (few more : Limits) : Type 0 where
   acts : few.acts ≤ more.acts
+  nesting : few.nesting ≤ more.nesting
   strands : few.strands ≤ more.strands
   timers : few.timers ≤ more.timers
   slots : few.slots ≤ more.slots
@@ -37,7 +38,8 @@ second_allows false few more le = omega arith
 version_2_allows : (version : ℕ) → Allows (limits_of version) (limits_of 2)
 unfolding limits_of
 version_2_allows version = record {
-  acts = second_allows (nat_eq version 1) 1024 4096 (omega arith);
+  acts = second_allows (nat_eq version 1) 1024 most_acts (omega arith);
+  nesting = second_allows (nat_eq version 1) most_nesting most_nesting (omega arith);
   strands = second_allows (nat_eq version 1) 16 64 (omega arith);
   timers = second_allows (nat_eq version 1) 32 128 (omega arith);
   slots = second_allows (nat_eq version 1) 64 128 (omega arith);
@@ -94,11 +96,14 @@ module _ (h : Header) (more : Limits) (allows : Allows h.limits more) where
   unfolding wider
   fits_round round f = size_allows h.limits.workers more.workers round.workers allows.workers f
 
+  wider_nest : (acts : List Entry) (place : Place) → (depth : ℕ) × (depth ≤ h.limits.nesting) × IsNested acts place depth → (depth : ℕ) × (depth ≤ more.nesting) × IsNested acts place depth
+  wider_nest acts place nested = (nested.0, omega (arith, nested.1, allows.nesting), nested.2)
+
   is_forest : (acts : List Entry) → IsForest h acts → IsForest wider acts
   unfolding wider
   is_forest acts forest = record {
     count = omega (arith, forest.count, allows.acts);
-    placed = λ n entry there. record { fits = fits_act entry.act (forest.placed n entry there).fits; parent = (forest.placed n entry there).parent; nested = (forest.placed n entry there).nested };
+    placed = λ n entry there. record { fits = fits_act entry.act (forest.placed n entry there).fits; parent = (forest.placed n entry there).parent; nested = wider_nest acts entry.parent (forest.placed n entry there).nested };
   }
 
 -- a script of either version is well formed in version 2

@@ -1,6 +1,6 @@
 -- A script that is read is well formed.
-use Rattle.std.proofs.Common.{◌≡◌, ℕ, ◌≤◌, ◌⊎◌, Bool, true, false, cond, List, [], ◌∷◌, length, None, Result, Ok, Err, refl, sym, ap, subst, ◌∙◌, arith, length-append}
-use Rattle.std.specs.Prelude.{IfOk, nat_eq, nat_le}
+use Rattle.std.proofs.Common.{◌≡◌, ℕ, ◌≤◌, ◌⊎◌, Bool, true, false, cond, List, [], ◌∷◌, length, None, Result, Ok, Err, refl, sym, ap, subst, arith, length-append}
+use Rattle.std.specs.Prelude.{nat_eq, nat_le}
 use Rattle.std.specs.List.{All}
 use Rattle.std.specs.Str.{bytes_eq}
 use Rattle.std.proofs.lemmas.List.Elements.{All-push}
@@ -8,52 +8,49 @@ use lib.Chars.{codes}
 use Rattle.asio_types.specs.declared.world.Line.{Line}
 use Rattle.session_script.specs.declared.refusal.Rule.{Rule}
 use Rattle.session_script.specs.declared.refusal.Refusal.{Refusal}
-use Rattle.session_script.specs.declared.refusal.ScriptFault.{ScriptFault}
 use Rattle.session_script.specs.declared.round.Round.{Round}
 use Rattle.session_script.specs.declared.round.Pace.{Pace}
 use Rattle.session_script.specs.declared.parts.Header.{Header}
-use Rattle.session_script.specs.declared.parts.Parts.{Parts}
-use Rattle.session_script.specs.declared.reader.line.LineWord.{LineWord}
-use Rattle.session_script.specs.declared.reader.line.LineWord.TheVariants as lines
+use Rattle.session_script.specs.declared.reader.world_line.WorldWord.{WorldWord}
+use Rattle.session_script.specs.declared.reader.world_line.WorldWord.TheVariants as world
 use Rattle.session_script.specs.Script.{Entry, ScriptModel}
 use Rattle.session_script.specs.Tokens.{Tokens, end, token, begins, tokens_of}
 use Rattle.session_script.specs.Limits.{limits_of}
 use Rattle.session_script.specs.Kinds.{pace_word}
-use Rattle.session_script.specs.Productions.{one, word, count, header, line_word, what_happens, line, next_line, world_lines, restart, round, begins_round, next_round, session_rounds}
-use Rattle.session_script.specs.Grammar.{are_released, ends, script, whole, reading, IsScript}
-use Rattle.session_script.specs.Outcome.{Answers, model_of}
+use Rattle.session_script.specs.Productions.{one, word, count, header, world_word, what_happens, world_line, next_world_line, world_lines, restart, round, begins_round, next_round, session_rounds}
+use Rattle.session_script.specs.Grammar.{are_released, ends, script, whole, IsScript}
 use Rattle.session_script.specs.WellFormed.{FitsWhat, FitsLine, FitsRound, IsForest, header_of, IsWellFormed}
 use Rattle.session_script.proofs.Holding.{Passes, Holds, Reads, done_reads, then_reads, one_reads, any_reads, if_reads, repeated_reads, bounded_reads, declared_reads, another_reads, bytes_reads, version_reads}
 use Rattle.session_script.proofs.Forest.{forest_of_none, stands_in_open}
 use Rattle.session_script.proofs.Reading.{Told, script_has}
 use Rattle.session_script.proofs.Standing.{body_reads, time_reads, is_below}
 
-what_reads : (h : Header) (w : LineWord) → Reads (FitsWhat h) (what_happens h w)
+what_reads : (h : Header) (w : WorldWord) → Reads (FitsWhat h) (what_happens h w)
 unfolding what_happens
-what_reads h lines.Feed = then_reads (bytes_reads h.limits.size) (λ bs long. done_reads long)
-what_reads h lines.End = done_reads tt
-what_reads h lines.Reset = done_reads tt
-what_reads h lines.Room = then_reads (bounded_reads 1 h.limits.room) (λ room is_size. done_reads is_size)
+what_reads h world.Feed = then_reads (bytes_reads h.limits.size) (λ bs long. done_reads long)
+what_reads h world.End = done_reads tt
+what_reads h world.Reset = done_reads tt
+what_reads h world.Room = then_reads (bounded_reads 1 h.limits.room) (λ room is_size. done_reads is_size)
 
-line_reads : (h : Header) (full : Bool) → Reads (λ l. FitsLine h l × (full ≡ false)) (line h full)
-unfolding line
+line_reads : (h : Header) (full : Bool) → Reads (λ l. FitsLine h l × (full ≡ false)) (world_line h full)
+unfolding world_line
 line_reads h full =
     then_reads (another_reads (codes "at") full) (λ _ free.
     then_reads (time_reads h.limits.time) (λ time le.
-    then_reads (any_reads (one line_word)) (λ happens _.
+    then_reads (any_reads (one world_word)) (λ happens _.
     then_reads (declared_reads h.streams) (λ stream lt.
     then_reads (what_reads h happens) (λ what fits. done_reads ((le, lt, fits), free))))))
 
 abbrev AreLines : Header → List Line → Type 0
 AreLines h ls = All (FitsLine h) ls × (length ls ≤ h.limits.lines)
 
-next_line_reads : (h : Header) (so_far : List Line) → AreLines h so_far → Reads (AreLines h) (next_line h so_far)
-unfolding next_line
+next_line_reads : (h : Header) (so_far : List Line) → AreLines h so_far → Reads (AreLines h) (next_world_line h so_far)
+unfolding next_world_line
 next_line_reads h so_far are = then_reads (line_reads h (nat_le h.limits.lines (length so_far))) (λ next fits. done_reads (All-push (FitsLine h) so_far next are.0 fits.0, omega (arith, length-append so_far (next ∷ []), is_below h.limits.lines (length so_far) fits.1)))
 
 lines_reads : (h : Header) → Reads (AreLines h) (world_lines h)
 unfolding world_lines
-lines_reads h = repeated_reads (AreLines h) (begins (codes "at")) (next_line h) (next_line_reads h) [] ((λ k d lt. absurd (omega arith)), omega arith)
+lines_reads h = repeated_reads (AreLines h) (begins (codes "at")) (next_world_line h) (next_line_reads h) [] ((λ k d lt. absurd (omega arith)), omega arith)
 
 pace_passes : (full : Bool) (pace : Pace) (violated : Rule) → Passes (λ p. full ≡ false) (cond full (Err violated) (Ok pace))
 pace_passes true pace violated = tt
@@ -108,14 +105,6 @@ header_reads =
     then_reads (count_reads (codes "guards") (limits_of number).guards) (λ guards few_guards.
     done_reads (record { version = is_version; limits = refl; strands = few_strands; timers = few_timers; slots = few_slots; streams = few_streams; guards = few_guards }))))))))
 
-same_either : (test : Bool) (n : ℕ) → cond test n n ≡ n
-same_either true n = refl
-same_either false n = refl
-
-nesting_is : (v : ℕ) → (limits_of v).nesting ≡ 32
-unfolding limits_of
-nesting_is v = same_either (nat_eq v 1) 32
-
 some_rounds : (test : Bool) → 1 ≤ cond test 16 64
 some_rounds true = omega arith
 some_rounds false = omega arith
@@ -168,7 +157,7 @@ script_reads =
     then_reads header_reads (λ head declares.
     then_reads (lines_reads head) (λ lines are_lines.
     then_reads (any_reads (word (codes "open"))) (λ _ _.
-    then_reads (body_reads head head.limits.nesting None [] (forest_of_none head) (stands_in_open head.limits.nesting (ap (λ l. l.nesting) declares.limits ∙ nesting_is head.version))) (λ acts grown.
+    then_reads (body_reads head head.limits.nesting None [] (forest_of_none head) (stands_in_open head.limits.nesting)) (λ acts grown.
     then_reads (rounds_reads head (subst (λ l. 1 ≤ l.rounds) (sym declares.limits) (rounds_allowed head.version))) (λ rounds are_rounds.
     then_reads (ends_reads head.guards acts) (λ _ released.
     done_reads (well_formed head declares lines are_lines acts grown.forest rounds are_rounds released)))))))
@@ -180,8 +169,3 @@ holds_told (Err refusal) p = tt
 -- a script is well formed
 pub script_is_well_formed : (bytes : List ℕ) (model : ScriptModel) → IsScript bytes model → IsWellFormed model
 script_is_well_formed bytes model is = script_has IsWellFormed bytes model (holds_told (script (tokens_of bytes)) (script_reads.holds (tokens_of bytes))) is
-
-pub answer_is_well_formed : (r : Result Parts ScriptFault) (bytes : List ℕ) → Answers model_of r (reading bytes) → IfOk r (λ parts. IsWellFormed (model_of parts))
-unfolding IsScript
-answer_is_well_formed (Ok parts) bytes h = script_is_well_formed bytes (model_of parts) h
-answer_is_well_formed (Err missing) bytes h = tt

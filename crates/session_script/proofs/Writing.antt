@@ -1,7 +1,7 @@
 -- Words that are appended to a text.
-use Rattle.std.proofs.Common.{◌≡◌, ℕ, zero, suc, ◌+◌, ◌-◌, ◌<◌, ◌≤◌, Bool, true, false, cond, List, [], ◌∷◌, ◌++◌, length, drop, get_or, refl, sym, ap, ◌∙◌, arith}
+use Rattle.std.proofs.Common.{◌≡◌, ℕ, zero, suc, ◌+◌, ◌-◌, ◌<◌, Bool, true, false, cond, List, [], ◌∷◌, ◌++◌, length, drop, get_or, refl, sym, ap, ◌∙◌, arith}
 use Rattle.std.specs.List.{flat_map}
-use Rattle.std.proofs.lemmas.List.{drop_more, drop_all}
+use Rattle.std.proofs.lemmas.List.{drop_more}
 use lib.Chars.{codes}
 use Rattle.session_script.specs.Script.{Place, Entry, ScriptModel, same_place, numbers_in}
 use Rattle.session_script.specs.Text.{Words}
@@ -14,9 +14,6 @@ written-append text (w ∷ ws) vs = written-append (text ++ 32 ∷ w) ws vs
 -- one more of a list of things that are written
 pub written_more : {A : Type 0} (f : A → Words) (xs : List A) (i : ℕ) (d : A) (text : List ℕ) → i < length xs → written text (flat_map f (drop i xs)) ≡ written (written text (f (get_or xs i d))) (flat_map f (drop (i + 1) xs))
 written_more f xs i d text lt = ap (λ ys. written text (flat_map f ys)) (drop_more xs i d lt) ∙ written-append text (f (get_or xs i d)) (flat_map f (drop (i + 1) xs))
-
-pub written_all : {A : Type 0} (f : A → Words) (xs : List A) (i : ℕ) (text : List ℕ) → length xs ≤ i → written text (flat_map f (drop i xs)) ≡ text
-written_all f xs i text le = ap (λ ys. written text (flat_map f ys)) (drop_all i xs le)
 
 in_range_of : (b : Bool) (n m : ℕ) (rest : List ℕ) → ((k : ℕ) → k < length rest → get_or rest k 0 < m) → n < m → (k : ℕ) → k < length (cond b (n ∷ rest) rest) → get_or (cond b (n ∷ rest) rest) k 0 < m
 in_range_of true n m rest below first zero lt = first

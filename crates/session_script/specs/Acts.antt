@@ -11,8 +11,8 @@ use Rattle.session_script.specs.declared.refusal.Refusal.{Refusal}
 use Rattle.session_script.specs.declared.parts.Header.{Header}
 use Rattle.session_script.specs.declared.reader.act_word.ActWord.{ActWord}
 use Rattle.session_script.specs.declared.reader.act_word.ActWord.TheVariants as words
-use Rattle.session_script.specs.declared.reader.body.Bodies.{Bodies}
-use Rattle.session_script.specs.declared.reader.body.Bodies.TheVariants as bodies
+use Rattle.session_script.specs.declared.act.Bodies.{Bodies}
+use Rattle.session_script.specs.declared.act.Bodies.TheVariants as bodies
 use Rattle.session_script.specs.Script.{Place, Entry}
 use Rattle.session_script.specs.Tokens.{Tokens, begins, goes_on}
 use Rattle.session_script.specs.Kinds.{misplaced}
@@ -55,8 +55,8 @@ or_else (Some found) other = Some found
 or_else None other = other
 
 -- the words that begin an act
-unfoldable pub act_of : ℕ → List ℕ → Option ActWord
-act_of version bytes = or_else (context_word bytes) (or_else (timer_word version bytes) (stream_word bytes))
+unfoldable pub act_word_of : ℕ → List ℕ → Option ActWord
+act_word_of version bytes = or_else (context_word bytes) (or_else (timer_word version bytes) (stream_word bytes))
 
 -- an act word, while there is room for one more act
 abbrev pub while_room : Bool → List ℕ → Option ActWord → Result ActWord Rule
@@ -64,7 +64,7 @@ while_room full bytes (Some found) = if full then Err rule.Limit else Ok found
 while_room full bytes None = Err (misplaced bytes)
 
 unfoldable pub act_word : ℕ → Bool → List ℕ → Result ActWord Rule
-act_word version full bytes = while_room full bytes (act_of version bytes)
+act_word version full bytes = while_room full bytes (act_word_of version bytes)
 
 -- what an act has after its word, without its bodies
 unfoldable pub fields : Header → ActWord → Tokens → Result (Act × Tokens) Refusal

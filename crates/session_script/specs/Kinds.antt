@@ -49,8 +49,8 @@ unfoldable pub exactly : List ℕ → List ℕ → Result Unit Rule
 exactly word bytes = if bytes_eq bytes word then Ok tt else Err (misplaced bytes)
 
 -- what begins one more of something, unless there are as many as the limit allows
-unfoldable pub one_more : List ℕ → Bool → List ℕ → Result Unit Rule
-one_more word full bytes = do
+unfoldable pub another_word : List ℕ → Bool → List ℕ → Result Unit Rule
+another_word word full bytes = do
   _ ← exactly word bytes
   if full then Err rule.Limit else Ok tt
 

@@ -14,3 +14,4 @@ pub mod Lanes
 pub mod Groups
 pub mod Layout
 pub mod Spelling
+pub mod Writable

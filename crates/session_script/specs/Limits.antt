@@ -1,16 +1,28 @@
 -- The limits of the two versions, as one table.
-use Rattle.std.specs.Prelude.{ℕ, ◌-◌, ◌^◌, ◌==◌, if◌then◌else◌}
+use Rattle.std.specs.Prelude.{ℕ, ◌+◌, ◌-◌, ◌^◌, ◌==◌, if◌then◌else◌}
 use Rattle.session_script.specs.declared.limits.Limits.{Limits}
 
--- the bytes of a script, in both versions
+-- the acts of a script, in either version
+abbrev pub most_acts : ℕ
+most_acts = 4096
+
+-- the bytes of a text of a script, in both versions
 abbrev pub most_bytes : ℕ
 most_bytes = 262144
+
+-- the bytes of which a reader has any use: one more shows that a text is too long
+abbrev pub most_read : ℕ
+most_read = most_bytes + 1
+
+-- how deep bodies nest, in both versions, the body of `open` being 1
+abbrev pub most_nesting : ℕ
+most_nesting = 32
 
 --                     version 1 and version 2
 unfoldable pub limits_of : ℕ → Limits
 limits_of version = record {
-  acts = of 1024 4096;
-  nesting = of 32 32;
+  acts = of 1024 most_acts;
+  nesting = of most_nesting most_nesting;
   strands = of 16 64;
   timers = of 32 128;
   slots = of 64 128;

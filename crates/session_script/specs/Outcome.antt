@@ -4,8 +4,8 @@ use Rattle.session_script.specs.declared.refusal.Refusal.{Refusal}
 use Rattle.session_script.specs.declared.refusal.Rule.TheVariants as rule
 use Rattle.session_script.specs.declared.refusal.ScriptFault.{ScriptFault}
 use Rattle.session_script.specs.declared.refusal.ScriptFault.TheVariants as fault
-use Rattle.session_script.specs.declared.parts.Entry.{Entry}
-use Rattle.session_script.specs.declared.parts.Parts.{Parts}
+use Rattle.session_script.specs.declared.parts.PlacedAct.{PlacedAct}
+use Rattle.session_script.specs.declared.parts.ScriptParts.{ScriptParts}
 use Rattle.session_script.specs.Script as script
 use Rattle.session_script.specs.declared.token.Token.{Token}
 use Rattle.session_script.specs.Tokens.{Tokens, end, token}
@@ -37,9 +37,9 @@ Leaves (Ok value) left rest read = read ≡ Ok (left, rest)
 Leaves (Err missing) left rest read = Fails missing read
 
 -- the answer for a whole text is what it says, unless memory ran out
-abbrev pub Answers : {X Y : Type 0} → (X → Y) → Result X ScriptFault → Result Y Refusal → Type 0
-Answers view (Ok value) read = read ≡ Ok (view value)
-Answers view (Err missing) read = Fails missing read
+abbrev pub Agrees : {X Y : Type 0} → (X → Y) → Result X ScriptFault → Result Y Refusal → Type 0
+Agrees view (Ok value) read = read ≡ Ok (view value)
+Agrees view (Err missing) read = Fails missing read
 
 -- a refusal names this fault
 abbrev pub Names : ScriptFault → Option Refusal → Type 0
@@ -47,12 +47,12 @@ Names fault.NoMemory first = Unit {0}
 Names (fault.Refused refusal) first = first ≡ Some refusal
 
 -- an act as the model has it
-abbrev pub entry_of : Entry → script.Entry
+abbrev pub entry_of : PlacedAct → script.Entry
 entry_of entry = record { act = entry.act; parent = entry.parent }
 
-abbrev pub entries_of : List Entry → List script.Entry
+abbrev pub entries_of : List PlacedAct → List script.Entry
 entries_of entries = map entry_of entries
 
 -- the model of what was read
-unfoldable pub model_of : Parts → script.ScriptModel
+unfoldable pub model_of : ScriptParts → script.ScriptModel
 model_of parts = record { version = parts.version; strands = parts.strands; timers = parts.timers; slots = parts.slots; guards = parts.guards; acts = entries_of parts.acts.items; world = parts.world; rounds = parts.rounds.items }

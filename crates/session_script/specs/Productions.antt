@@ -12,11 +12,11 @@ use Rattle.session_script.specs.declared.refusal.Rule.TheVariants as rule
 use Rattle.session_script.specs.declared.refusal.Refusal.{Refusal}
 use Rattle.session_script.specs.declared.round.Round.{Round}
 use Rattle.session_script.specs.declared.parts.Header.{Header}
-use Rattle.session_script.specs.declared.reader.line.LineWord.{LineWord}
-use Rattle.session_script.specs.declared.reader.line.LineWord.TheVariants as lines
+use Rattle.session_script.specs.declared.reader.world_line.WorldWord.{WorldWord}
+use Rattle.session_script.specs.declared.reader.world_line.WorldWord.TheVariants as world
 use Rattle.session_script.specs.Tokens.{Tokens, end, token, begins, token_count}
 use Rattle.session_script.specs.Limits.{limits_of}
-use Rattle.session_script.specs.Kinds.{misplaced, exactly, one_more, within, known, chosen, version, data_digits, decoded, pace_word}
+use Rattle.session_script.specs.Kinds.{misplaced, exactly, another_word, within, known, chosen, version, data_digits, decoded, pace_word}
 
 -- a refusal by a rule at a token
 abbrev pub refused : Rule → Position → Refusal
@@ -59,7 +59,7 @@ word text = one (exactly text)
 
 -- a quoted word, or a brace, with which one more of something begins
 unfoldable pub another : List ℕ → Bool → Tokens → Result (Unit × Tokens) Refusal
-another text full = one (one_more text full)
+another text full = one (another_word text full)
 
 -- N and TIME
 unfoldable pub bounded : ℕ → ℕ → Tokens → Result (ℕ × Tokens) Refusal
@@ -105,38 +105,38 @@ header = do
   done (record { version = number; limits = limits_of number; strands = strands; timers = timers; slots = slots; streams = streams; guards = guards })
 
 -- what happens in a line
-unfoldable pub line_word : List ℕ → Result LineWord Rule
-line_word bytes =
-    if bytes_eq bytes (codes "feed") then Ok lines.Feed
-    else (if bytes_eq bytes (codes "end") then Ok lines.End
-    else (if bytes_eq bytes (codes "reset") then Ok lines.Reset
-    else (if bytes_eq bytes (codes "room") then Ok lines.Room
+unfoldable pub world_word : List ℕ → Result WorldWord Rule
+world_word bytes =
+    if bytes_eq bytes (codes "feed") then Ok world.Feed
+    else (if bytes_eq bytes (codes "end") then Ok world.End
+    else (if bytes_eq bytes (codes "reset") then Ok world.Reset
+    else (if bytes_eq bytes (codes "room") then Ok world.Room
     else Err (misplaced bytes))))
 
 -- what a line has after its stream
-unfoldable pub what_happens : Header → LineWord → Tokens → Result (What × Tokens) Refusal
-what_happens header lines.Feed = bytes header.limits.size >>= λ fed. done (what.Feed fed)
-what_happens header lines.End = done what.End
-what_happens header lines.Reset = done what.Reset
-what_happens header lines.Room = bounded 1 header.limits.room >>= λ room. done (what.Room room)
+unfoldable pub what_happens : Header → WorldWord → Tokens → Result (What × Tokens) Refusal
+what_happens header world.Feed = bytes header.limits.size >>= λ fed. done (what.Feed fed)
+what_happens header world.End = done what.End
+what_happens header world.Reset = done what.Reset
+what_happens header world.Room = bounded 1 header.limits.room >>= λ room. done (what.Room room)
 
 -- "at" TIME ("feed" STREAM DATA | "end" STREAM | "reset" STREAM | "room" STREAM N)
-unfoldable pub line : Header → Bool → Tokens → Result (Line × Tokens) Refusal
-line header full = do
+unfoldable pub world_line : Header → Bool → Tokens → Result (Line × Tokens) Refusal
+world_line header full = do
   _ ← another (codes "at") full
   time ← bounded 0 header.limits.time
-  happens ← one line_word
+  happens ← one world_word
   stream ← declared_number header.streams
   what ← what_happens header happens
   done (record { time = time; stream = stream; what = what })
 
 -- one more line
-unfoldable pub next_line : Header → List Line → Tokens → Result (List Line × Tokens) Refusal
-next_line header so_far = line header (nat_le header.limits.lines (length so_far)) >>= λ next. done (so_far ++ next ∷ [])
+unfoldable pub next_world_line : Header → List Line → Tokens → Result (List Line × Tokens) Refusal
+next_world_line header so_far = world_line header (nat_le header.limits.lines (length so_far)) >>= λ next. done (so_far ++ next ∷ [])
 
 -- line*
 unfoldable pub world_lines : Header → Tokens → Result (List Line × Tokens) Refusal
-world_lines header = repeated (begins (codes "at")) (next_line header) []
+world_lines header = repeated (begins (codes "at")) (next_world_line header) []
 
 -- "restart"?
 unfoldable pub restart : Bool → Tokens → Result (Bool × Tokens) Refusal

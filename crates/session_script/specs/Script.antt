@@ -92,13 +92,18 @@ abbrev pub is_stop : Act → Bool
 is_stop act.Stop = true
 is_stop _ = false
 
+-- whether there is an act, and it passes a test
+abbrev holds : (Act → Bool) → Option Act → Bool
+holds test None = false
+holds test (Some act) = test act
+
 -- whether the act with a number has a handler
 abbrev pub is_op : ScriptModel → ℕ → Bool
-is_op script n = is_op_in (act_of script n)
-  where
-    is_op_in : Option Act → Bool
-    is_op_in None = false
-    is_op_in (Some act) = is_operation act
+is_op script n = holds is_operation (act_of script n)
+
+-- whether the act with a number stops the context
+abbrev pub stops : ScriptModel → ℕ → Bool
+stops script n = holds is_stop (act_of script n)
 
 -- where the act with a number stands
 abbrev pub parent_of : ScriptModel → ℕ → Place

@@ -10,8 +10,8 @@ use Rattle.asio_types.specs.declared.world.What.TheVariants as what
 use Rattle.session_script.specs.declared.act.Act.{Act}
 use Rattle.session_script.specs.declared.act.Act.TheVariants as act
 use Rattle.session_script.specs.declared.round.Round.{Round}
-use Rattle.session_script.specs.declared.reader.body.Bodies.{Bodies}
-use Rattle.session_script.specs.declared.reader.body.Bodies.TheVariants as bodies
+use Rattle.session_script.specs.declared.act.Bodies.{Bodies}
+use Rattle.session_script.specs.declared.act.Bodies.TheVariants as bodies
 use Rattle.session_script.specs.Script.{ScriptModel, act_of, opening_of, branch_of}
 use Rattle.session_script.specs.Limits.{limits_of}
 use Rattle.session_script.specs.Acts.{bodies_of}
@@ -56,25 +56,53 @@ line_words line = codes "at" ∷ decimal line.time ∷ what_words line.stream li
 abbrev pub plug_words : Option ℕ → ℕ → Words
 plug_words slot filter = if filter == 7 then number_or_dash slot ∷ [] else number_or_dash slot ∷ codes "only" ∷ decimal filter ∷ []
 
+-- what an act does: to which object, and how much
+abbrev pub object_words : Act → Words
+object_words (act.Post strand) = []
+object_words (act.Defer strand) = []
+object_words (act.Dispatch strand) = []
+object_words (act.Expires timer after) = decimal timer ∷ decimal after ∷ []
+object_words (act.ExpiresAt timer at) = decimal timer ∷ decimal at ∷ []
+object_words (act.Wait timer strand slot filter) = decimal timer ∷ []
+object_words (act.Cancel timer) = decimal timer ∷ []
+object_words (act.CancelOne timer) = decimal timer ∷ []
+object_words (act.Emit slot kinds) = decimal slot ∷ decimal kinds ∷ []
+object_words (act.ReadSome stream size strand slot filter) = decimal stream ∷ decimal size ∷ []
+object_words (act.ReadAll stream size strand slot filter) = decimal stream ∷ decimal size ∷ []
+object_words (act.Until stream delimiter max strand slot filter) = decimal stream ∷ data_text delimiter ∷ decimal max ∷ []
+object_words (act.WriteSome stream bytes strand slot filter) = decimal stream ∷ data_text bytes ∷ []
+object_words (act.WriteAll stream bytes strand slot filter) = decimal stream ∷ data_text bytes ∷ []
+object_words (act.Close stream) = decimal stream ∷ []
+object_words (act.Release guard) = decimal guard ∷ []
+object_words act.Stop = []
+
+-- a strand, a slot and the types that it lets through
+abbrev pub tail_words : Option ℕ → Option ℕ → ℕ → Words
+tail_words strand slot filter = number_or_dash strand ∷ plug_words slot filter
+
+-- where the handler of an act executes, and by what it is cancelled
+abbrev pub handler_words : Act → Words
+handler_words (act.Post strand) = number_or_dash strand ∷ []
+handler_words (act.Defer strand) = number_or_dash strand ∷ []
+handler_words (act.Dispatch strand) = number_or_dash strand ∷ []
+handler_words (act.Expires timer after) = []
+handler_words (act.ExpiresAt timer at) = []
+handler_words (act.Wait timer strand slot filter) = tail_words strand slot filter
+handler_words (act.Cancel timer) = []
+handler_words (act.CancelOne timer) = []
+handler_words (act.Emit slot kinds) = []
+handler_words (act.ReadSome stream size strand slot filter) = tail_words strand slot filter
+handler_words (act.ReadAll stream size strand slot filter) = tail_words strand slot filter
+handler_words (act.Until stream delimiter max strand slot filter) = tail_words strand slot filter
+handler_words (act.WriteSome stream bytes strand slot filter) = tail_words strand slot filter
+handler_words (act.WriteAll stream bytes strand slot filter) = tail_words strand slot filter
+handler_words (act.Close stream) = []
+handler_words (act.Release guard) = []
+handler_words act.Stop = []
+
 -- what an act has after its word, without its bodies
 abbrev pub field_words : Act → Words
-field_words (act.Post strand) = number_or_dash strand ∷ []
-field_words (act.Defer strand) = number_or_dash strand ∷ []
-field_words (act.Dispatch strand) = number_or_dash strand ∷ []
-field_words (act.Expires timer after) = decimal timer ∷ decimal after ∷ []
-field_words (act.ExpiresAt timer at) = decimal timer ∷ decimal at ∷ []
-field_words (act.Wait timer strand slot filter) = decimal timer ∷ number_or_dash strand ∷ plug_words slot filter
-field_words (act.Cancel timer) = decimal timer ∷ []
-field_words (act.CancelOne timer) = decimal timer ∷ []
-field_words (act.Emit slot kinds) = decimal slot ∷ decimal kinds ∷ []
-field_words (act.ReadSome stream size strand slot filter) = decimal stream ∷ decimal size ∷ number_or_dash strand ∷ plug_words slot filter
-field_words (act.ReadAll stream size strand slot filter) = decimal stream ∷ decimal size ∷ number_or_dash strand ∷ plug_words slot filter
-field_words (act.Until stream delimiter max strand slot filter) = decimal stream ∷ data_text delimiter ∷ decimal max ∷ number_or_dash strand ∷ plug_words slot filter
-field_words (act.WriteSome stream bytes strand slot filter) = decimal stream ∷ data_text bytes ∷ number_or_dash strand ∷ plug_words slot filter
-field_words (act.WriteAll stream bytes strand slot filter) = decimal stream ∷ data_text bytes ∷ number_or_dash strand ∷ plug_words slot filter
-field_words (act.Close stream) = decimal stream ∷ []
-field_words (act.Release guard) = decimal guard ∷ []
-field_words act.Stop = []
+field_words act = object_words act ++ handler_words act
 
 -- the words of a body with these acts
 abbrev pub BodyWords : Type 0

@@ -11,8 +11,8 @@ use Rattle.session_script.specs.declared.act.Act.TheVariants as act
 use Rattle.session_script.specs.declared.round.Round.{Round}
 use Rattle.session_script.specs.declared.round.Pace.{Pace}
 use Rattle.session_script.specs.declared.round.Pace.TheVariants as pace
-use Rattle.session_script.specs.declared.reader.body.Bodies.{Bodies}
-use Rattle.session_script.specs.declared.reader.body.Bodies.TheVariants as bodies
+use Rattle.session_script.specs.declared.act.Bodies.{Bodies}
+use Rattle.session_script.specs.declared.act.Bodies.TheVariants as bodies
 use Rattle.session_script.specs.Script.{Place, Entry, ScriptModel}
 use Rattle.session_script.specs.Tokens.{Tokens, end, token}
 use Rattle.session_script.specs.Kinds.{number, data_digits, decoded}
@@ -158,7 +158,7 @@ mutual
   -- (word body)?
   pub data IsBranchText (version : ℕ) : ℕ → List ℕ → Place → List Entry → List Entry → Words → Words → Type 0 where
     left_out : {levels : ℕ} {text : List ℕ} {place : Place} {acts : List Entry} {ws : Words} → IsBranchText version levels text place acts acts ws ws
-    written : {levels : ℕ} {text : List ℕ} {place : Place} {before after : List Entry} {ws rest : Words} (a : Words) → IsWord text ws a → IsBodyText version levels place before after a rest → IsBranchText version levels text place before after ws rest
+    spelled_out : {levels : ℕ} {text : List ℕ} {place : Place} {before after : List Entry} {ws rest : Words} (a : Words) → IsWord text ws a → IsBodyText version levels place before after a rest → IsBranchText version levels text place before after ws rest
 
 -- decls
 abbrev pub IsDeclsText : ScriptModel → Words → Words → Type 0

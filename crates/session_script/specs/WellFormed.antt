@@ -10,8 +10,8 @@ use Rattle.session_script.specs.declared.act.Act.{Act}
 use Rattle.session_script.specs.declared.act.Act.TheVariants as act
 use Rattle.session_script.specs.declared.round.Round.{Round}
 use Rattle.session_script.specs.declared.parts.Header.{Header}
-use Rattle.session_script.specs.declared.reader.body.Bodies.{Bodies}
-use Rattle.session_script.specs.declared.reader.body.Bodies.TheVariants as bodies
+use Rattle.session_script.specs.declared.act.Bodies.{Bodies}
+use Rattle.session_script.specs.declared.act.Bodies.TheVariants as bodies
 use Rattle.session_script.specs.Script.{Place, Entry, ScriptModel}
 use Rattle.session_script.specs.Limits.{limits_of}
 use Rattle.session_script.specs.Acts.{bodies_of}
@@ -88,7 +88,7 @@ pub data IsNested (acts : List Entry) : Place → ℕ → Type 0 where
 pub record IsPlaced (h : Header) (acts : List Entry) (n : ℕ) (entry : Entry) : Type 0 where
   pub fits : FitsAct h entry.act
   pub parent : HasParent acts n entry.parent
-  pub nested : (depth : ℕ) × (depth ≤ 32) × IsNested acts entry.parent depth
+  pub nested : (depth : ℕ) × (depth ≤ h.limits.nesting) × IsNested acts entry.parent depth
 
 -- all acts
 pub record IsForest (h : Header) (acts : List Entry) : Type 0 where

@@ -1,5 +1,6 @@
 ghost use Rattle.std.specs.Prelude.{◌≡◌};
 ghost use Rattle.session_script.specs.Script.{is_operation};
+ghost use Rattle.session_script.specs.Acts.{bodies_of};
 
 use asio_types::{Bytes, GuardNo, SlotNo, StrandNo, StreamNo, TimerNo, Types};
 
@@ -113,5 +114,30 @@ pub fn is_operation(act: &Act) -> bool
         Act::Expires { .. } | Act::ExpiresAt { .. } | Act::Cancel { .. } => false,
         Act::CancelOne { .. } | Act::Emit { .. } | Act::Close { .. } => false,
         Act::Release { .. } | Act::Stop => false,
+    }
+}
+
+/// Which bodies follow an act.
+#[derive(Clone, Copy)]
+pub(crate) enum Bodies {
+    /// None: the act has no handler.
+    Nothing,
+    /// The one of a posting, which never fails.
+    Posting,
+    /// One, and one for each other class of an asynchronous operation.
+    Operation,
+}
+
+/// Which bodies follow an act.
+pub(crate) fn bodies_of(act: &Act) -> Bodies
+    ensures { result ≡ bodies_of act.now }
+{
+    match act {
+        Act::Post { .. } | Act::Defer { .. } | Act::Dispatch { .. } => Bodies::Posting,
+        Act::Wait { .. } | Act::ReadSome { .. } | Act::ReadAll { .. } => Bodies::Operation,
+        Act::Until { .. } | Act::WriteSome { .. } | Act::WriteAll { .. } => Bodies::Operation,
+        Act::Expires { .. } | Act::ExpiresAt { .. } | Act::Cancel { .. } => Bodies::Nothing,
+        Act::CancelOne { .. } | Act::Emit { .. } | Act::Close { .. } => Bodies::Nothing,
+        Act::Release { .. } | Act::Stop => Bodies::Nothing,
     }
 }

@@ -1,7 +1,7 @@
 ghost use Rattle.std.specs.Prelude.{◌≡◌, IfOk};
 
 use crate::act::Act;
-use crate::parts::Entry;
+use crate::parts::PlacedAct;
 use asio_types::{Lines, NoMemory, World};
 use std::alloc::Global;
 
@@ -13,13 +13,13 @@ fn copy_act(act: &Act) -> Result<Act, NoMemory>
 }
 
 /// A copy of acts with their places.
-pub(crate) fn copy_entries(alloc: Global, entries: &[Entry]) -> Result<Vec<Entry>, NoMemory>
+pub(crate) fn copy_entries(alloc: Global, entries: &[PlacedAct]) -> Result<Vec<PlacedAct>, NoMemory>
     ensures { IfOk result (λ copy. copy.items ≡ entries.now) }
 {
     let mut copy = Vec::with_capacity(alloc, entries.len())?;
     for entry in entries {
         let act = copy_act(&entry.act)?;
-        copy.push(Entry {
+        copy.push(PlacedAct {
             act,
             parent: entry.parent,
         })?;

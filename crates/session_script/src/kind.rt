@@ -1,7 +1,7 @@
 ghost use Rattle.std.specs.Prelude.{◌≡◌, ◌≤◌, ◌<◌, ◌^◌, ◌*◌, ◌+◌, true, false, MatchOption, MatchResult, IfOk, OnOk};
 ghost use Rattle.std.specs.List.{list_all};
 ghost use Rattle.std.specs.Str.{bytes_eq};
-ghost use Rattle.session_script.specs.Kinds.{is_word, is_number, is_data, is_lowercase, is_digit, is_hexadecimal, misplaced, exactly, one_more, decimal_from, number, within, known, chosen, version, data_digits, hexadecimal};
+ghost use Rattle.session_script.specs.Kinds.{is_word, is_number, is_data, is_lowercase, is_digit, is_hexadecimal, misplaced, exactly, another_word, decimal_from, number, within, known, chosen, version, data_digits, hexadecimal};
 
 use crate::refusal::Rule;
 
@@ -87,9 +87,9 @@ pub(crate) fn exactly(word: &[u8], bytes: &[u8]) -> Result<(), Rule>
 }
 
 /// One word, or a brace, that begins one more of something, unless there are enough of them.
-#[tactic(auto, unfolding(crate::specs::Kinds::one_more))]
-pub(crate) fn one_more(word: &[u8], full: bool, bytes: &[u8]) -> Result<(), Rule>
-    ensures value { result ≡ one_more word.now full bytes.now }
+#[tactic(auto, unfolding(crate::specs::Kinds::another_word))]
+pub(crate) fn another_word(word: &[u8], full: bool, bytes: &[u8]) -> Result<(), Rule>
+    ensures value { result ≡ another_word word.now full bytes.now }
     ensures room { OnOk result (full ≡ false) }
 {
     exactly(word, bytes)?;

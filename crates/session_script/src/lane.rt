@@ -1,9 +1,10 @@
 ghost use Rattle.std.specs.Prelude.{◌≡◌, ◌≤◌, [], length, IfOk};
 ghost use Rattle.session_script.specs.Lanes.{strand_of, caller_lane, is_inside, lane_in, lanes_after};
 ghost use Rattle.session_script.specs.Outcome.{entries_of};
+ghost use Rattle.session_script.specs.Limits.{most_acts};
 
 use crate::act::{Act, is_operation};
-use crate::parts::Entry;
+use crate::parts::PlacedAct;
 use asio_types::{Class, Lane, NoMemory, OpNo, StrandNo};
 use std::alloc::Global;
 
@@ -69,8 +70,8 @@ fn lane_in(caller: Option<Lane>, number: u32, act: &Act) -> Lane
 }
 
 /// The lanes of all acts.
-pub(crate) fn lanes(alloc: Global, acts: &[Entry]) -> Result<Vec<Lane>, NoMemory>
-    requires { length acts.now ≤ 4096 }
+pub(crate) fn lanes(alloc: Global, acts: &[PlacedAct]) -> Result<Vec<Lane>, NoMemory>
+    requires { length acts.now ≤ most_acts }
     ensures { IfOk result (λ lanes. lanes.items ≡ lanes_after [] (entries_of acts.now)) }
 {
     let mut lanes = Vec::with_capacity(alloc, acts.len())?;

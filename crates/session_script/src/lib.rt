@@ -1,6 +1,8 @@
-//! The language of sessions, in its two versions. A script is accepted exactly by the grammar, and every refusal names the
-//! first fault. What is read is spelled by the grammar as it is written, lies within the limits of its version, and its
-//! acts stand under earlier operations. The history, the context and the program stand on it.
+//! The language of sessions, in its two versions. A text is read as a script exactly where the grammar as it is written
+//! spells that script and the script is within the limits of its version; every other text is refused, with its first
+//! fault. A script is written as one text, which reads back as that script and than which no text of it is shorter. Its
+//! readers can rely on its counts, its numbers, and its acts standing under earlier operations. The history, the context
+//! and the program stand on it.
 #![tactic(auto)]
 
 mod act;
@@ -22,9 +24,12 @@ mod writer;
 
 pub use act::{Act, is_operation};
 pub use law::{
+    acts_fit, parents_come_first, scripts_are_well_formed, scripts_are_writable,
     upgraded_scripts_are_read_back, upgraded_scripts_are_well_formed,
-    upgraded_scripts_of_version_2_are_the_same,
+    upgraded_scripts_of_version_2_are_the_same, writable_scripts_are_scripts,
 };
+pub use limits::{MOST_ACTS, MOST_BYTES, MOST_NESTING, MOST_READ};
+pub use parts::{PlacedAct, ScriptParts};
 pub use reader::scripts_are_spelled;
 pub use refusal::{Refusal, Rule, ScriptFault};
 pub use round::{Pace, Round};

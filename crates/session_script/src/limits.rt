@@ -1,14 +1,24 @@
 ghost use Rattle.std.specs.Prelude.{◌≡◌};
 ghost use Rattle.session_script.specs.Limits.{limits_of};
 
-/// The most bytes that a script has, in both versions.
-pub(crate) const TEXT: usize = 262_144;
+/// The most acts that a script has, in either version.
+pub const MOST_ACTS: u32 = 4_096;
+
+/// The most bytes that a text of a script has, in both versions.
+pub const MOST_BYTES: usize = 262_144;
+
+/// The most bytes of which a reader has any use: one more shows that a text is too long.
+pub const MOST_READ: usize = MOST_BYTES + 1;
+
+/// How deep bodies nest at most, in both versions, the body of `open` being 1.
+pub const MOST_NESTING: u32 = 32;
 
 /// The greatest values that a version allows. The least are 0, and 1 for rounds, workers, sizes, bytes and room.
-#[derive(Clone, Copy, Debug, PartialEq, Eq)]
+#[derive(Clone, Copy)]
 pub(crate) struct Limits {
+    /// How many acts there are; so for strands, timers, slots, streams, guards and rounds.
     pub(crate) acts: u32,
-    /// How deep bodies nest, the body of `open` being 1.
+    /// How deep bodies nest.
     pub(crate) nesting: u32,
     pub(crate) strands: u8,
     pub(crate) timers: u8,
@@ -38,7 +48,7 @@ pub(crate) fn limits_of(version: u8) -> Limits
     if version == 1 {
         Limits {
             acts: 1_024,
-            nesting: 32,
+            nesting: MOST_NESTING,
             strands: 16,
             timers: 32,
             slots: 64,
@@ -54,8 +64,8 @@ pub(crate) fn limits_of(version: u8) -> Limits
         }
     } else {
         Limits {
-            acts: 4_096,
-            nesting: 32,
+            acts: MOST_ACTS,
+            nesting: MOST_NESTING,
             strands: 64,
             timers: 128,
             slots: 128,

@@ -3,9 +3,10 @@ ghost use Rattle.session_script.specs.Script.{numbers_in};
 ghost use Rattle.session_script.specs.Groups.{class_number, place_number};
 ghost use Rattle.session_script.specs.Outcome.{entries_of};
 ghost use Rattle.session_script.specs.Layout.{HoldsPlaces};
+ghost use Rattle.session_script.specs.Limits.{most_acts};
 
 use crate::groups::Groups;
-use crate::parts::Entry;
+use crate::parts::PlacedAct;
 use asio_types::{Class, NoMemory, OpNo};
 use std::alloc::Global;
 
@@ -23,7 +24,7 @@ pub(crate) fn class_number(class: Class) -> usize
 
 /// A place as a number: `open`, three places for each of so many acts, and one for all others.
 fn place_number(acts: usize, place: Option<(OpNo, Class)>) -> u32
-    requires { acts ≤ 4096 }
+    requires { acts ≤ most_acts }
     ensures value { result ≡ place_number acts place }
     ensures below { result < 3 * acts + 2 }
 {
@@ -35,8 +36,8 @@ fn place_number(acts: usize, place: Option<(OpNo, Class)>) -> u32
 }
 
 /// The numbers of the places where acts stand.
-fn place_numbers(alloc: Global, acts: &[Entry]) -> Result<Vec<u32>, NoMemory>
-    requires { length acts.now ≤ 4096 }
+fn place_numbers(alloc: Global, acts: &[PlacedAct]) -> Result<Vec<u32>, NoMemory>
+    requires { length acts.now ≤ most_acts }
     ensures value { IfOk result (λ numbers. numbers.items ≡ map (λ entry. place_number (length acts.now) entry.parent) acts.now) }
 {
     let mut numbers = Vec::with_capacity(alloc, acts.len())?;
@@ -47,8 +48,8 @@ fn place_numbers(alloc: Global, acts: &[Entry]) -> Result<Vec<u32>, NoMemory>
 }
 
 /// The acts of each place.
-pub(crate) fn places(alloc: Global, acts: &[Entry]) -> Result<Groups, NoMemory>
-    requires { length acts.now ≤ 4096 }
+pub(crate) fn places(alloc: Global, acts: &[PlacedAct]) -> Result<Groups, NoMemory>
+    requires { length acts.now ≤ most_acts }
     ensures { IfOk result (λ places. HoldsPlaces (entries_of acts.now) places) }
 {
     let numbers = place_numbers(alloc, acts)?;

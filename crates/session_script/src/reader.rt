@@ -5,20 +5,19 @@ ghost use Rattle.session_script.specs.Tokens.{tokens_of, end_of};
 ghost use Rattle.session_script.specs.Productions.{refused};
 ghost use Rattle.session_script.specs.Grammar.{is_text, reading, IsScript, first_fault};
 ghost use Rattle.session_script.specs.Spelled.{SpellsScript};
-ghost use Rattle.session_script.specs.WellFormed.{IsWellFormed};
-ghost use Rattle.session_script.specs.Outcome.{Answers, Names, model_of};
+ghost use Rattle.session_script.specs.Outcome.{Agrees, Names, model_of};
 
 mod act;
 mod act_word;
 mod body;
 mod field;
 mod header;
-mod line;
 mod round;
 mod script;
+mod world_line;
 
-use crate::limits::TEXT;
-use crate::parts::Parts;
+use crate::limits::MOST_BYTES;
+use crate::parts::ScriptParts;
 use crate::reader::script::script;
 use crate::refusal::{Refusal, Rule, ScriptFault};
 use crate::scan::{is_printable, tokens};
@@ -55,10 +54,10 @@ fn not_text(front: &[u8]) -> ScriptFault
 
 /// What the bytes say.
 #[tactic(auto, unfolding(crate::specs::Grammar::reading))]
-fn read_text(alloc: Global, bytes: &[u8]) -> Result<Parts, ScriptFault>
-    ensures { Answers model_of result (reading bytes.now) }
+fn read_text(alloc: Global, bytes: &[u8]) -> Result<ScriptParts, ScriptFault>
+    ensures { Agrees model_of result (reading bytes.now) }
 {
-    if bytes.len() > TEXT {
+    if bytes.len() > MOST_BYTES {
         return Err(ScriptFault::Refused(Refusal {
             rule: Rule::TooLong,
             line: 0,
@@ -73,15 +72,11 @@ fn read_text(alloc: Global, bytes: &[u8]) -> Result<Parts, ScriptFault>
 }
 
 /// The script that the bytes spell, or their first fault.
-pub(crate) fn read_parts(alloc: Global, bytes: &[u8]) -> Result<Parts, ScriptFault>
+pub(crate) fn read_parts(alloc: Global, bytes: &[u8]) -> Result<ScriptParts, ScriptFault>
     // What is read is a script of this text.
     ensures script { IfOk result (λ parts. IsScript bytes.now (model_of parts)) }
-    // So all that it has is within the limits, and its acts stand under acts.
-    ensures well_formed { IfOk result (λ parts. IsWellFormed (model_of parts)) }
     // What is refused has this fault.
     ensures refused { IfErr result (λ fault. Names fault (first_fault bytes.now)) }
-    // A text of a script is read as that script, unless memory runs out.
-    ensures only { (model : ScriptModel) → IsScript bytes.now model → Answers model_of result (Ok model) }
 {
     read_text(alloc, bytes)
 }

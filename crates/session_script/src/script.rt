@@ -1,15 +1,16 @@
 ghost use Rattle.std.specs.Prelude.{◌≡◌, ◌<◌, ◌≤◌, length, true, Some, Ok, IfOk, IfErr};
-ghost use Rattle.session_script.specs.Script.{ScriptModel, act_of, opening_of, branch_of, parent_of, is_op};
+ghost use Rattle.session_script.specs.Limits.{most_acts};
+ghost use Rattle.session_script.specs.Script.{act_of, opening_of, branch_of, parent_of, is_op, stops};
 ghost use Rattle.session_script.specs.Lanes.{lane_of, is_inline};
 ghost use Rattle.session_script.specs.Spelling.{spelling_of, upgraded};
 ghost use Rattle.session_script.specs.Grammar.{IsScript, first_fault};
-ghost use Rattle.session_script.specs.Outcome.{Answers, Names, model_of};
+ghost use Rattle.session_script.specs.Outcome.{Names, model_of};
 
 use crate::act::{Act, is_operation};
 use crate::copy::{copy_entries, copy_world};
 use crate::groups::Groups;
 use crate::lane::{caller_lane, is_inside, lanes};
-use crate::parts::Parts;
+use crate::parts::ScriptParts;
 use crate::place::{class_number, places};
 use crate::reader::read_parts;
 use crate::refusal::ScriptFault;
@@ -22,7 +23,8 @@ use std::marker::Model;
 /// rounds, apart from how the text spelled them.
 #[derive(Debug, Drop)]
 pub struct Script {
-    parts: Parts,
+    /// What it says.
+    parts: ScriptParts,
     /// The lane of each act.
     lanes: Vec<Lane>,
     /// The acts of each place, by the place's number.
@@ -34,6 +36,7 @@ impl Model for Script {
     ghost use Rattle.session_script.specs.Script.{ScriptModel};
     ghost use Rattle.session_script.specs.Outcome.{model_of};
     ghost use Rattle.session_script.specs.Layout.{HoldsPlaces};
+    ghost use Rattle.session_script.specs.Limits.{most_acts};
     ghost use Rattle.session_script.specs.Lanes.{lanes_of};
     ghost use Rattle.session_script.specs.Grammar.{IsScript};
     ghost use Rattle.session_script.specs.Spelling.{spelling_of};
@@ -42,15 +45,20 @@ impl Model for Script {
 
     ghost view = { λ s. model_of s.parts };
 
-    ghost invariant = { λ s. (length (model_of s.parts).acts ≤ 4096) × (s.lanes.items ≡ lanes_of (model_of s.parts)) × HoldsPlaces (model_of s.parts).acts s.places × IsScript (spelling_of (model_of s.parts)) (model_of s.parts) };
+    ghost invariant = { λ s. record {
+      few : length (model_of s.parts).acts ≤ most_acts;
+      lanes : s.lanes.items ≡ lanes_of (model_of s.parts);
+      places : HoldsPlaces (model_of s.parts).acts s.places;
+      reads_back : IsScript (spelling_of (model_of s.parts)) (model_of s.parts);
+    } };
 }
 
 impl Script {
-    /// The script that these parts say. Takes memory in proportion to the number of acts.
+    /// The script that these parts say. Parts that are well formed and stand in text order are those of a script, by
+    /// `writable_scripts_are_scripts`. Takes memory in proportion to the number of acts.
     #[tactic(auto, unfolding(crate::specs::Outcome::model_of))]
-    pub(crate) fn of(alloc: Global, parts: Parts) -> Result<Script, NoMemory>
-        requires limit { length (model_of parts).acts ≤ 4096 }
-        requires reads_back { IsScript (spelling_of (model_of parts)) (model_of parts) }
+    pub fn make(alloc: Global, parts: ScriptParts) -> Result<Script, NoMemory>
+        requires { IsScript (spelling_of (model_of parts)) (model_of parts) }
         ensures { IfOk result (λ script. script ≡ model_of parts) }
     {
         let lanes = lanes(alloc, parts.acts.as_slice())?;
@@ -74,7 +82,7 @@ impl Script {
     #[tactic(auto, unfolding(crate::specs::Outcome::model_of))]
     pub fn acts(&self) -> u32
         ensures count { result ≡ length self.now.acts }
-        ensures limit { result ≤ 4096 }
+        ensures limit { result ≤ most_acts }
     {
         self.parts.acts.len() as u32
     }
@@ -103,6 +111,14 @@ impl Script {
         ensures { result ≡ is_op self.now a }
     {
         is_operation(self.act(a))
+    }
+
+    /// Whether an act stops the context.
+    pub fn is_stop(&self, a: ActNo) -> bool
+        requires { a < length self.now.acts }
+        ensures { result ≡ stops self.now a }
+    {
+        matches!(self.act(a), Act::Stop)
     }
 
     /// Whether an act is a dispatch that executes inside its call.
@@ -134,8 +150,7 @@ impl Script {
     /// The acts of the branch of an operation for a class, in text order. A posting has only the branch of class Ok.
     #[tactic(auto, unfolding(crate::specs::Outcome::model_of))]
     pub fn branch(&self, o: OpNo, class: Class) -> &[ActNo]
-        requires in_range { o < length self.now.acts }
-        requires operation { is_op self.now o ≡ true }
+        requires { o < length self.now.acts }
         ensures { result.now ≡ branch_of self.now o class }
     {
         self.places.get(1 + 3 * o as usize + class_number(class))
@@ -167,7 +182,7 @@ impl Script {
 
     /// How many strands there are; their numbers are below it.
     #[tactic(auto, unfolding(crate::specs::Outcome::model_of))]
-    pub(crate) fn strands(&self) -> u8
+    pub fn strands(&self) -> u8
         ensures { result ≡ self.now.strands }
     {
         self.parts.strands
@@ -175,7 +190,7 @@ impl Script {
 
     /// How many timers there are; their numbers are below it.
     #[tactic(auto, unfolding(crate::specs::Outcome::model_of))]
-    pub(crate) fn timers(&self) -> u8
+    pub fn timers(&self) -> u8
         ensures { result ≡ self.now.timers }
     {
         self.parts.timers
@@ -183,7 +198,7 @@ impl Script {
 
     /// How many cancellation slots there are; their numbers are below it.
     #[tactic(auto, unfolding(crate::specs::Outcome::model_of))]
-    pub(crate) fn slots(&self) -> u8
+    pub fn slots(&self) -> u8
         ensures { result ≡ self.now.slots }
     {
         self.parts.slots
@@ -202,13 +217,11 @@ impl Script {
 pub fn read_script(alloc: Global, bytes: &[u8]) -> Result<Script, ScriptFault>
     // What is read is a script of this text.
     ensures script { IfOk result (λ script. IsScript bytes.now script) }
-    // What is refused has this fault.
+    // What is refused has this fault, which a text of a script hasn't.
     ensures refused { IfErr result (λ fault. Names fault (first_fault bytes.now)) }
-    // A text of a script is read as that script and no other, unless memory runs out.
-    ensures only { (script : ScriptModel) → IsScript bytes.now script → Answers (λ read. read) result (Ok script) }
 {
     let parts = read_parts(alloc, bytes)?;
-    match Script::of(alloc, parts) {
+    match Script::make(alloc, parts) {
         Ok(script) => Ok(script),
         Err(NoMemory) => Err(ScriptFault::NoMemory),
     }
@@ -223,7 +236,7 @@ pub fn upgrade(alloc: Global, script: &Script) -> Result<Script, NoMemory>
     let acts = copy_entries(alloc, parts.acts.as_slice())?;
     let world = copy_world(alloc, &parts.world)?;
     let rounds = Vec::from_slice(alloc, parts.rounds.as_slice())?;
-    let upgraded = Parts {
+    let upgraded = ScriptParts {
         version: 2,
         strands: parts.strands,
         timers: parts.timers,
@@ -233,5 +246,5 @@ pub fn upgrade(alloc: Global, script: &Script) -> Result<Script, NoMemory>
         world,
         rounds,
     };
-    Script::of(alloc, upgraded)
+    Script::make(alloc, upgraded)
 }

@@ -1,4 +1,4 @@
-ghost use Rattle.std.specs.Prelude.{◌≡◌, ◌+◌, ◌<◌, ◌^◌, length};
+ghost use Rattle.std.specs.Prelude.{◌≡◌, ◌+◌, ◌<◌, ◌^◌, length, IfOk};
 
 use crate::kind::is;
 use crate::refusal::{Refusal, Rule, ScriptFault};
@@ -12,7 +12,9 @@ pub(crate) struct Position {
 }
 
 impl Position {
-    ghost use Rattle.session_script.specs.Productions.{refused};
+    ghost use Rattle.session_script.specs.Tokens.{Tokens};
+    ghost use Rattle.session_script.specs.Productions.{judged, refused};
+    ghost use Rattle.session_script.specs.Outcome.{Gives};
 
     /// The refusal by a rule at this position.
     pub(crate) fn refused(self, rule: Rule) -> ScriptFault
@@ -23,6 +25,17 @@ impl Position {
             line: self.line,
             token: self.token,
         })
+    }
+
+    /// What a test of the token at this position gave.
+    pub(crate) fn judged<T>(self, tested: Result<T, Rule>) -> Result<T, ScriptFault>
+        ensures gives { (rest : Tokens) → Gives (λ x. x) result rest (judged tested self rest) }
+        ensures passed { IfOk result (λ value. tested ≡ Ok value) }
+    {
+        match tested {
+            Ok(value) => Ok(value),
+            Err(rule) => Err(self.refused(rule)),
+        }
     }
 }
 
@@ -38,6 +51,7 @@ pub(crate) struct Token<'a> {
 pub(crate) struct Cursor<'a> {
     /// The next token; none at the end of the text.
     pub(crate) next: Option<Token<'a>>,
+    /// The text behind the next token.
     pub(crate) rest: &'a [u8],
     /// The line where the rest begins, and how many tokens stand before it.
     pub(crate) before: Position,

@@ -1,3 +1,4 @@
 pub mod Entry
 pub mod Heap
+pub mod Places
 pub mod Queue

@@ -18,7 +18,7 @@ pub struct Entry {
 
 impl Entry {
     /// Whether this entry comes before another: by expiry, and at one expiry by acceptance. It is the only comparison of
-    /// entries, and one step.
+    /// entries, and counted as one step.
     pub(crate) fn precedes<L: Ledger>(&self, other: &Entry, steps: &mut Steps<L>) -> bool
         ensures value { result ≡ is_before self.now other.now }
         ensures counted { steps.new ≡ steps.old + 1 }

@@ -4,10 +4,12 @@ use std::marker::Model;
 use std::sync::ledger::{Blank, Book, Ledger, Share};
 
 /// How many steps were taken, for contracts alone: it takes no bytes and its calls do nothing at run time. A step of
-/// this crate is one comparison of two entries. Contracts see the number of steps.
+/// this crate is one counted comparison of two entries. Contracts see the number of steps.
 #[derive(Drop)]
 pub struct Steps<L: Ledger> {
+    // what was counted
     book: Book<L>,
+    // the right to count in it
     share: Share<L>,
 }
 

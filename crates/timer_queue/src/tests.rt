@@ -1,5 +1,5 @@
-ghost use Rattle.std.specs.Prelude.{◌≡◌, ◌+◌, ◌*◌, ◌<◌, ◌≤◌, All};
-ghost use Rattle.timer_queue.specs.declared.tests.TheConstants.{ROOM};
+ghost use Rattle.std.specs.Prelude.{◌≡◌, ◌+◌, ◌<◌, ◌≤◌, All};
+ghost use Rattle.timer_queue.specs.declared.tests.TheConstants.{ROOM, FIRST};
 
 use crate::queue::TimerQueue;
 use crate::steps::Steps;
@@ -11,33 +11,35 @@ use std::sync::ledger::{Blank, Ledger};
 use std::test::Fail;
 
 // room for so many waits
-const ROOM: u32 = 32;
+const ROOM: u32 = 8;
+
+// the operation of the first wait
+const FIRST: OpNo = 12;
 
 #[derive(Clone, Copy)]
 enum Step {
     Insert(u64),
-    Remove(OpNo),
-    Pop(u64),
+    Remove(OpNo, bool),
+    Pop(u64, Option<OpNo>),
+    Next(Option<u64>),
 }
 
-// A queue whose operations fall while serials rise, and are in few classes modulo its room.
+// A queue whose operations fall while serials rise; the first ones are not below its room.
 #[derive(Drop)]
 struct Numbered {
     queue: TimerQueue,
     next: u32,
-    ghost kept: { All (λ wait. (wait.serial < next) × (wait.op + 8 * wait.serial ≡ 1000)) queue.waits },
+    ghost kept: { All (λ wait. (wait.serial < next) × (wait.op + wait.serial ≡ FIRST)) queue.waits },
     ghost room: { ROOM ≤ queue.spare + next },
     ghost few: { next ≤ ROOM },
 }
 
 impl Numbered {
-    fn insert(&mut self, rt: &impl Abort, expiry: u64) -> (u64, u32, OpNo) {
+    fn insert(&mut self, rt: &impl Abort, expiry: u64) {
         let serial = self.next;
         assert!(rt; serial < ROOM);
-        let op = 1000 - 8 * serial;
-        self.queue.insert_reserved(expiry, serial, op);
+        self.queue.insert_reserved(expiry, serial, FIRST - serial);
         self.next = serial + 1;
-        (expiry, serial, op)
     }
 
     fn remove(&mut self, op: OpNo) -> bool {
@@ -49,7 +51,22 @@ impl Numbered {
     }
 }
 
-fn play<L: Ledger, R: Abort>(
+fn play<L: Ledger, R: Abort>(rt: &R, waits: &mut Numbered, step: Step, steps: &mut Steps<L>) {
+    match step {
+        Step::Insert(expiry) => waits.insert(rt, expiry),
+        Step::Remove(op, there) => {
+            assert_eq!(rt; waits.remove(op), there, "remove {op}");
+        }
+        Step::Pop(now, op) => {
+            assert_eq!(rt; waits.pop_due(now, steps), op, "pop at {now}");
+        }
+        Step::Next(expiry) => {
+            assert_eq!(rt; waits.queue.next_expiry(), expiry);
+        }
+    }
+}
+
+fn play_all<L: Ledger, R: Abort>(
     rt: &R,
     alloc: Global,
     table: &[Step],
@@ -62,104 +79,39 @@ fn play<L: Ledger, R: Abort>(
     let mut steps = Steps::<L>::start(blank);
     let queue = TimerQueue::with_room(alloc, ROOM).ok().ok_or("no memory")?;
     let mut waits = Numbered { queue, next: 0 };
-    // the same as (expiry, serial, operation) in a sorted list
-    let mut plain: Vec<(u64, u32, OpNo)> = Vec::new(alloc);
     for step in table {
-        match *step {
-            Step::Insert(expiry) => {
-                plain.push(waits.insert(rt, expiry))?;
-                plain.sort()?;
-            }
-            Step::Remove(op) => {
-                let place = plain.iter().position(|wait| wait.2 == op);
-                assert_eq!(rt; waits.remove(op), place.is_some(), "remove {op}");
-                plain.retain(|wait| wait.2 != op);
-            }
-            Step::Pop(now) => {
-                let due = plain.first().copied().filter(|wait| wait.0 <= now);
-                assert_eq!(rt;
-                    waits.pop_due(now, &mut steps),
-                    due.map(|wait| wait.2),
-                    "pop at {now}"
-                );
-                if due.is_some() && plain.len() > 0 {
-                    plain.remove(0);
-                }
-            }
-        }
-        assert_eq!(rt; waits.queue.next_expiry(), plain.first().map(|wait| wait.0));
+        play(rt, &mut waits, *step, &mut steps);
     }
-    assert!(rt; plain.is_empty());
     Ok(())
 }
 
 #[test]
 fn waits_leave_by_expiry_and_then_by_acceptance(rt: HostRuntime) -> Result<(), Fail> {
     let table = [
-        Step::Pop(9),
-        Step::Remove(1000),
+        Step::Pop(9, None),
         Step::Insert(50),
         Step::Insert(20),
         Step::Insert(20),
-        Step::Pop(19),
-        Step::Insert(20),
+        Step::Pop(19, None),
         Step::Insert(10),
-        Step::Insert(90),
-        Step::Pop(20),
-        Step::Pop(20),
-        Step::Remove(976),
-        Step::Remove(976),
-        Step::Pop(20),
-        Step::Pop(20),
-        Step::Insert(40),
-        Step::Insert(30),
-        Step::Insert(30),
-        Step::Insert(30),
-        Step::Remove(1000),
-        Step::Pop(30),
-        Step::Pop(30),
-        Step::Pop(30),
-        Step::Pop(30),
-        Step::Insert(5),
-        Step::Remove(960),
-        Step::Pop(100),
-        Step::Pop(100),
-        Step::Pop(100),
+        Step::Next(Some(10)),
+        Step::Pop(20, Some(9)),
+        Step::Pop(20, Some(11)),
+        Step::Remove(10, true),
+        Step::Remove(10, false),
+        Step::Pop(49, None),
         Step::Insert(70),
         Step::Insert(30),
-        Step::Insert(80),
         Step::Insert(30),
-        Step::Insert(60),
-        Step::Insert(90),
         Step::Insert(30),
-        Step::Insert(75),
-        Step::Insert(10),
-        Step::Insert(85),
-        Step::Insert(60),
-        Step::Insert(95),
-        Step::Insert(20),
-        Step::Insert(30),
-        Step::Insert(65),
-        Step::Remove(904),
-        Step::Remove(872),
-        Step::Remove(912),
-        Step::Remove(1000),
-        Step::Pop(9),
-        Step::Pop(10),
-        Step::Pop(30),
-        Step::Pop(30),
-        Step::Pop(30),
-        Step::Pop(30),
-        Step::Pop(30),
-        Step::Pop(64),
-        Step::Pop(64),
-        Step::Pop(64),
-        Step::Pop(95),
-        Step::Pop(95),
-        Step::Pop(95),
-        Step::Pop(95),
-        Step::Pop(95),
-        Step::Pop(95),
+        Step::Remove(6, true),
+        Step::Remove(6, false),
+        Step::Next(Some(30)),
+        Step::Pop(30, Some(7)),
+        Step::Pop(50, Some(5)),
+        Step::Pop(50, Some(12)),
+        Step::Pop(99, Some(8)),
+        Step::Next(None),
     ];
-    play::<Brand, _>(&rt, rt.alloc(), &table, Blank::new(1))
+    play_all::<Brand, _>(&rt, rt.alloc(), &table, Blank::new(1))
 }

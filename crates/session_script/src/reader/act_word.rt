@@ -1,11 +1,11 @@
 ghost use Rattle.std.specs.Prelude.{◌≡◌, false, OnOk};
-ghost use Rattle.session_script.specs.Acts.{context_word, timer_word, stream_word, act_of, act_word};
+ghost use Rattle.session_script.specs.Acts.{context_word, timer_word, stream_word, act_word_of, act_word};
 
 use crate::kind::{is, misplaced};
 use crate::refusal::Rule;
 
 /// The words that begin an act.
-#[derive(Clone, Copy, Debug, PartialEq, Eq)]
+#[derive(Clone, Copy)]
 pub(crate) enum ActWord {
     Post,
     Defer,
@@ -91,9 +91,9 @@ fn stream_word(bytes: &[u8]) -> Option<ActWord>
 }
 
 /// The act that a token begins in a script of this version, if it is an act word.
-#[tactic(auto, unfolding(crate::specs::Acts::act_of))]
-fn act_of(version: u8, bytes: &[u8]) -> Option<ActWord>
-    ensures { result ≡ act_of version bytes.now }
+#[tactic(auto, unfolding(crate::specs::Acts::act_word_of))]
+fn act_word_of(version: u8, bytes: &[u8]) -> Option<ActWord>
+    ensures { result ≡ act_word_of version bytes.now }
 {
     if let Some(word) = context_word(bytes) {
         Some(word)
@@ -110,7 +110,7 @@ pub(crate) fn act_word(version: u8, full: bool, bytes: &[u8]) -> Result<ActWord,
     ensures value { result ≡ act_word version full bytes.now }
     ensures room { OnOk result (full ≡ false) }
 {
-    match act_of(version, bytes) {
+    match act_word_of(version, bytes) {
         Some(word) => { if full { Err(Rule::Limit) } else { Ok(word) } }
         None => Err(misplaced(bytes)),
     }

@@ -1,12 +1,12 @@
-ghost use Rattle.std.specs.Prelude.{◌≡◌, ◌<◌, ◌-◌, ◌^◌, nat_le, Some, OnOk};
+ghost use Rattle.std.specs.Prelude.{◌<◌, ◌-◌, ◌^◌, nat_le, Some, OnOk};
 ghost use lib.Chars.{codes};
 ghost use Rattle.session_script.specs.Tokens.{tokens_at, goes_on};
 ghost use Rattle.session_script.specs.Productions.{one, repeated};
-ghost use Rattle.session_script.specs.Acts.{act_word, bodies_of, branch, branches, body, braced, entry};
+ghost use Rattle.session_script.specs.Acts.{act_word, branch, branches, body, braced, entry};
 ghost use Rattle.session_script.specs.Outcome.{Gives, Leaves, entries_of};
 
-use crate::act::Act;
-use crate::parts::{Entry, Header};
+use crate::act::{Bodies, bodies_of};
+use crate::parts::{Header, PlacedAct};
 use crate::reader::act::act;
 use crate::reader::act_word::{ActWord, act_word};
 use crate::reader::field::{another, word};
@@ -14,31 +14,6 @@ use crate::refusal::ScriptFault;
 use crate::token::Cursor;
 use asio_types::{Class, OpNo};
 use std::alloc::Global;
-
-/// Which bodies follow an act.
-#[derive(Clone, Copy)]
-enum Bodies {
-    /// None: the act has no handler.
-    Nothing,
-    /// The one of a posting, which never fails.
-    Posting,
-    /// One, and one for each other class of an asynchronous operation.
-    Operation,
-}
-
-/// Which bodies follow an act.
-fn bodies_of(act: &Act) -> Bodies
-    ensures { result ≡ bodies_of act.now }
-{
-    match act {
-        Act::Post { .. } | Act::Defer { .. } | Act::Dispatch { .. } => Bodies::Posting,
-        Act::Wait { .. } | Act::ReadSome { .. } | Act::ReadAll { .. } => Bodies::Operation,
-        Act::Until { .. } | Act::WriteSome { .. } | Act::WriteAll { .. } => Bodies::Operation,
-        Act::Expires { .. } | Act::ExpiresAt { .. } | Act::Cancel { .. } => Bodies::Nothing,
-        Act::CancelOne { .. } | Act::Emit { .. } | Act::Close { .. } => Bodies::Nothing,
-        Act::Release { .. } | Act::Stop => Bodies::Nothing,
-    }
-}
 
 /// The word that begins an act, after so many acts.
 fn first_word(
@@ -51,10 +26,7 @@ fn first_word(
 {
     let token = cursor.take()?;
     let full = header.limits.acts as usize <= count;
-    match act_word(header.version, full, token.bytes) {
-        Ok(word) => Ok(word),
-        Err(rule) => Err(token.at.refused(rule)),
-    }
+    token.at.judged(act_word(header.version, full, token.bytes))
 }
 
 /// A body in braces: its acts are appended. So many levels are left, this one among them.
@@ -65,7 +37,7 @@ pub(crate) fn body(
     header: &Header,
     levels: u32,
     parent: Option<(OpNo, Class)>,
-    entries: &mut Vec<Entry>,
+    entries: &mut Vec<PlacedAct>,
     cursor: &mut Cursor<'_>,
 ) -> Result<(), ScriptFault>
     ensures { Leaves result (entries_of entries.new.items) (tokens_at cursor.new) (body header.now levels parent (entries_of entries.old.items) (tokens_at cursor.old)) }
@@ -83,7 +55,7 @@ fn acts(
     header: &Header,
     levels: u32,
     parent: Option<(OpNo, Class)>,
-    entries: &mut Vec<Entry>,
+    entries: &mut Vec<PlacedAct>,
     cursor: &mut Cursor<'_>,
 ) -> Result<(), ScriptFault>
     requires { 0 < levels }
@@ -103,7 +75,7 @@ fn entry(
     header: &Header,
     levels: u32,
     parent: Option<(OpNo, Class)>,
-    entries: &mut Vec<Entry>,
+    entries: &mut Vec<PlacedAct>,
     cursor: &mut Cursor<'_>,
 ) -> Result<(), ScriptFault>
     requires { 0 < levels }
@@ -113,7 +85,7 @@ fn entry(
     let word = first_word(header, op, cursor)?;
     let act = act(alloc, header, word, cursor)?;
     let bodies = bodies_of(&act);
-    entries.push(Entry { act, parent })?;
+    entries.push(PlacedAct { act, parent })?;
     match bodies {
         Bodies::Nothing => Ok(()),
         Bodies::Posting => body(
@@ -136,7 +108,7 @@ fn branches(
     header: &Header,
     levels: u32,
     op: OpNo,
-    entries: &mut Vec<Entry>,
+    entries: &mut Vec<PlacedAct>,
     cursor: &mut Cursor<'_>,
 ) -> Result<(), ScriptFault>
     requires { 0 < levels }
@@ -180,7 +152,7 @@ fn branch(
     levels: u32,
     text: &[u8],
     parent: (OpNo, Class),
-    entries: &mut Vec<Entry>,
+    entries: &mut Vec<PlacedAct>,
     cursor: &mut Cursor<'_>,
 ) -> Result<(), ScriptFault>
     requires { 0 < levels }

@@ -5,7 +5,7 @@ ghost use Rattle.session_script.specs.Kinds.{is_hexadecimal, decoded};
 ghost use Rattle.session_script.specs.Productions.{word, another, bounded, declared_number, optional, types, plug, bytes};
 ghost use Rattle.session_script.specs.Outcome.{Gives};
 
-use crate::kind::{byte_of, chosen, data, exactly, known, one_more, within};
+use crate::kind::{another_word, byte_of, chosen, data, exactly, known, within};
 use crate::parts::Header;
 use crate::refusal::ScriptFault;
 use crate::token::Cursor;
@@ -18,10 +18,7 @@ pub(crate) fn word(text: &[u8], cursor: &mut Cursor<'_>) -> Result<(), ScriptFau
     ensures { Gives (λ x. x) result (tokens_at cursor.new) (word text.now (tokens_at cursor.old)) }
 {
     let token = cursor.take()?;
-    match exactly(text, token.bytes) {
-        Ok(()) => Ok(()),
-        Err(rule) => Err(token.at.refused(rule)),
-    }
+    token.at.judged(exactly(text, token.bytes))
 }
 
 /// One word, or a brace, that begins one more of something, unless there are enough of them.
@@ -31,10 +28,7 @@ pub(crate) fn another(text: &[u8], full: bool, cursor: &mut Cursor<'_>) -> Resul
     ensures room { OnOk result (full ≡ false) }
 {
     let token = cursor.take()?;
-    match one_more(text, full, token.bytes) {
-        Ok(()) => Ok(()),
-        Err(rule) => Err(token.at.refused(rule)),
-    }
+    token.at.judged(another_word(text, full, token.bytes))
 }
 
 /// A number within limits.
@@ -44,10 +38,7 @@ pub(crate) fn bounded(least: u64, most: u64, cursor: &mut Cursor<'_>) -> Result<
     ensures in_range { IfOk result (λ value. value ≤ most) }
 {
     let token = cursor.take()?;
-    match within(least, most, token.bytes) {
-        Ok(value) => Ok(value),
-        Err(rule) => Err(token.at.refused(rule)),
-    }
+    token.at.judged(within(least, most, token.bytes))
 }
 
 /// A size from 1 on.
@@ -64,10 +55,7 @@ pub(crate) fn declared(count: u8, cursor: &mut Cursor<'_>) -> Result<u8, ScriptF
     ensures { Gives (λ x. x) result (tokens_at cursor.new) (declared_number count (tokens_at cursor.old)) }
 {
     let token = cursor.take()?;
-    match known(count, token.bytes) {
-        Ok(value) => Ok(value),
-        Err(rule) => Err(token.at.refused(rule)),
-    }
+    token.at.judged(known(count, token.bytes))
 }
 
 /// `-`, or the number of a strand or slot.
@@ -76,10 +64,7 @@ pub(crate) fn optional(count: u8, cursor: &mut Cursor<'_>) -> Result<Option<u8>,
     ensures { Gives (λ x. x) result (tokens_at cursor.new) (optional count (tokens_at cursor.old)) }
 {
     let token = cursor.take()?;
-    match chosen(count, token.bytes) {
-        Ok(value) => Ok(value),
-        Err(rule) => Err(token.at.refused(rule)),
-    }
+    token.at.judged(chosen(count, token.bytes))
 }
 
 /// A set of cancellation types.

@@ -15,10 +15,7 @@ fn version_at(cursor: &mut Cursor<'_>) -> Result<u8, ScriptFault>
     ensures { Gives (λ x. x) result (tokens_at cursor.new) (one version (tokens_at cursor.old)) }
 {
     let token = cursor.take()?;
-    match version(token.bytes) {
-        Ok(version) => Ok(version),
-        Err(rule) => Err(token.at.refused(rule)),
-    }
+    token.at.judged(version(token.bytes))
 }
 
 /// How many of something there are: none where its word is missing.

@@ -39,10 +39,7 @@ fn pace(full: bool, cursor: &mut Cursor<'_>) -> Result<Pace, ScriptFault>
     ensures { Gives (λ x. x) result (tokens_at cursor.new) (one (pace_word full) (tokens_at cursor.old)) }
 {
     let token = cursor.take()?;
-    match pace_word(full, token.bytes) {
-        Ok(pace) => Ok(pace),
-        Err(rule) => Err(token.at.refused(rule)),
-    }
+    token.at.judged(pace_word(full, token.bytes))
 }
 
 /// Whether the context is restarted, while there is room for one more round.

@@ -6,12 +6,12 @@ ghost use Rattle.session_script.specs.Outcome.{Gives, entries_of, model_of};
 
 use crate::act::Act;
 use crate::kind::misplaced;
-use crate::parts::{Entry, Parts};
+use crate::parts::{PlacedAct, ScriptParts};
 use crate::reader::body::body;
 use crate::reader::field::word;
 use crate::reader::header::header;
-use crate::reader::line::lines;
 use crate::reader::round::rounds;
+use crate::reader::world_line::world_lines;
 use crate::refusal::{Rule, ScriptFault};
 use crate::token::Cursor;
 use asio_types::{GuardNo, Lines, World};
@@ -28,14 +28,14 @@ fn releases(guard: GuardNo, act: &Act) -> bool
 }
 
 /// Whether some act releases a guard.
-fn is_released(guard: GuardNo, entries: &[Entry]) -> bool
+fn is_released(guard: GuardNo, entries: &[PlacedAct]) -> bool
     ensures { result ≡ list_any (λ entry. releases guard entry.act) entries.now }
 {
     entries.iter().any(|entry| releases(guard, &entry.act))
 }
 
 /// Whether each of the guards is released by some act.
-fn are_released(guards: u8, entries: &[Entry]) -> bool
+fn are_released(guards: u8, entries: &[PlacedAct]) -> bool
     ensures { result ≡ are_released guards (entries_of entries.now) }
 {
     for guard in 0..guards {
@@ -48,7 +48,7 @@ fn are_released(guards: u8, entries: &[Entry]) -> bool
 
 /// The end of the text, where all guards are released.
 #[tactic(auto, unfolding(crate::specs::Tokens::tokens_at))]
-fn end(guards: u8, entries: &[Entry], cursor: &Cursor<'_>) -> Result<(), ScriptFault>
+fn end(guards: u8, entries: &[PlacedAct], cursor: &Cursor<'_>) -> Result<(), ScriptFault>
     ensures { Gives (λ x. x) result (tokens_at cursor.now) (ends guards (entries_of entries.now) (tokens_at cursor.now)) }
 {
     match cursor.next {
@@ -65,11 +65,11 @@ fn end(guards: u8, entries: &[Entry], cursor: &Cursor<'_>) -> Result<(), ScriptF
 
 /// A whole script.
 #[tactic(auto, unfolding(crate::specs::Grammar::script, crate::specs::Outcome::model_of))]
-pub(crate) fn script(alloc: Global, cursor: &mut Cursor<'_>) -> Result<Parts, ScriptFault>
+pub(crate) fn script(alloc: Global, cursor: &mut Cursor<'_>) -> Result<ScriptParts, ScriptFault>
     ensures { Gives model_of result (tokens_at cursor.new) (script (tokens_at cursor.old)) }
 {
     let header = header(cursor)?;
-    let lines = lines(alloc, &header, cursor)?;
+    let lines = world_lines(alloc, &header, cursor)?;
     word(b"open", cursor)?;
     let mut acts = Vec::new(alloc);
     body(
@@ -82,7 +82,7 @@ pub(crate) fn script(alloc: Global, cursor: &mut Cursor<'_>) -> Result<Parts, Sc
     )?;
     let rounds = rounds(alloc, &header, cursor)?;
     end(header.guards, acts.as_slice(), cursor)?;
-    Ok(Parts {
+    Ok(ScriptParts {
         version: header.version,
         strands: header.strands,
         timers: header.timers,

@@ -1,8 +1,8 @@
 //! Each place of the grammar with each rule that a token may break there. A front leads to a place: the fault is at the
 //! token behind it, marked with `@`, or at the end of the text.
 
-use crate::tests::{refuses_all, repeated, verdict};
-use std::alloc::Global;
+use crate::tests::verdict;
+use std::alloc::{AllocError, Global};
 use std::process::Abort;
 use std::test::Fail;
 
@@ -153,87 +153,88 @@ const SIZES: Places = (
 );
 
 /// Where bytes are wanted.
-const BYTES: Places = (OPEN, &["until 0 ", "writesome 0 ", "write 0 "]);
+const BYTES: Places = (
+    "session 1 streams 1 ",
+    &[
+        "open { until 0 ",
+        "open { writesome 0 ",
+        "open { write 0 ",
+        "at 5 feed 0 ",
+    ],
+);
 
-const FED: Places = ("session 1 streams 1 at 5 ", &["feed 0 "]);
+/// The text without its mark `@`, and the line and the number of the token behind the mark, or else of the end.
+fn unmarked(alloc: Global, front: &str, marked: &str) -> Result<(Vec<u8>, u32, u32), AllocError> {
+    let mut text = Vec::new(alloc);
+    let mut line: u32 = 1;
+    let mut token: u32 = 1;
+    let mut found = false;
+    let mut inside = false;
+    for byte in front.as_bytes().iter().chain(marked.as_bytes().iter()) {
+        if *byte == b'@' {
+            found = true;
+            continue;
+        }
+        text.push(*byte)?;
+        if !found {
+            token = token.saturating_add((inside && *byte <= b' ') as u32);
+            line = line.saturating_add((*byte == b'\n') as u32);
+            inside = *byte > b' ';
+        }
+    }
+    Ok((text, line, token.saturating_add((inside && !found) as u32)))
+}
 
-/// At each place each token breaks this rule.
-fn refuses_at(
+/// Each text behind the front is refused by this rule, at its mark or at its end.
+fn refuses_all(
     rt: &impl Abort,
     alloc: Global,
     rule: u8,
-    kinds: &[Places],
-    tokens: &[&str],
+    front: &str,
+    texts: &[&str],
 ) -> Result<(), Fail> {
-    for (before, places) in kinds {
-        for place in *places {
-            let front = format!(in alloc; "{before}{place}")?;
-            refuses_all(rt, alloc, rule, front.as_str(), tokens)?;
-        }
+    for marked in texts {
+        let (text, line, token) = unmarked(alloc, front, marked)?;
+        assert_eq!(rt;
+            verdict(alloc, text.as_slice()),
+            (rule, line, token),
+            "{marked}"
+        );
     }
     Ok(())
 }
 
-#[test]
-fn the_text_ends_early(rt: HostRuntime) -> Result<(), Fail> {
-    let kinds = [
-        WORDS, BODIES, STREAMS, OBJECTS, OPTIONS, NUMBERS, SIZES, BYTES, FED,
-    ];
-    refuses_at(&rt, rt.alloc(), 4, &kinds, &["", "\n"])
-}
+/// Each token breaks this rule at each of these places.
+type Broken = (u8, &'static [Places], &'static [&'static str]);
 
-#[test]
-fn a_token_of_no_kind(rt: HostRuntime) -> Result<(), Fail> {
-    let kinds = [
-        WORDS, BODIES, STREAMS, OBJECTS, OPTIONS, NUMBERS, SIZES, BYTES, FED,
-    ];
-    refuses_at(
-        &rt,
-        rt.alloc(),
-        3,
-        &kinds,
-        &["@run1", "@x0A", "@{}", "@1,000", "@01x", "@--"],
-    )
-}
-
-#[test]
-fn another_word_or_brace(rt: HostRuntime) -> Result<(), Fail> {
-    refuses_at(
-        &rt,
-        rt.alloc(),
+const BROKEN: &[Broken] = &[
+    // The text ends early.
+    (
         4,
-        &[WORDS, BODIES],
-        &["@jump", "@5", "@-", "@x00"],
-    )
-}
-
-#[test]
-fn no_number_of_an_object(rt: HostRuntime) -> Result<(), Fail> {
-    refuses_at(
-        &rt,
-        rt.alloc(),
+        &[
+            WORDS, BODIES, STREAMS, OBJECTS, OPTIONS, NUMBERS, SIZES, BYTES,
+        ],
+        &["", "\n"],
+    ),
+    // Tokens of no kind.
+    (
+        3,
+        &[
+            WORDS, BODIES, STREAMS, OBJECTS, OPTIONS, NUMBERS, SIZES, BYTES,
+        ],
+        &["@run1", "@x0A", "@{}", "@1,000", "@01x", "@--"],
+    ),
+    // Another word, or no word.
+    (4, &[WORDS, BODIES], &["@jump", "@5", "@-", "@x00"]),
+    // No number.
+    (
         4,
         &[STREAMS, OBJECTS, OPTIONS, NUMBERS, SIZES],
         &["@open", "@{", "@}", "@x00"],
-    )
-}
-
-#[test]
-fn no_bytes(rt: HostRuntime) -> Result<(), Fail> {
-    refuses_at(
-        &rt,
-        rt.alloc(),
-        4,
-        &[BYTES, FED],
-        &["@open", "@-", "@5", "@xabc", "@x"],
-    )
-}
-
-#[test]
-fn a_number_that_is_none(rt: HostRuntime) -> Result<(), Fail> {
-    refuses_at(
-        &rt,
-        rt.alloc(),
+    ),
+    // No bytes.
+    (4, &[BYTES], &["@open", "@-", "@5", "@xabc", "@x"]),
+    (
         5,
         &[STREAMS, OBJECTS, OPTIONS, NUMBERS, SIZES],
         &[
@@ -242,184 +243,142 @@ fn a_number_that_is_none(rt: HostRuntime) -> Result<(), Fail> {
             "@18446744073709551616",
             "@99999999999999999999",
         ],
-    )
-}
-
-#[test]
-fn an_object_that_is_not_declared(rt: HostRuntime) -> Result<(), Fail> {
-    refuses_at(
-        &rt,
-        rt.alloc(),
+    ),
+    // None of these is declared.
+    (
         6,
         &[STREAMS, OBJECTS, OPTIONS],
         &["@1", "@2", "@256", "@18446744073709551615"],
-    )?;
-    let texts = [
-        "session 1 at 1 end @0",
-        "session 2 streams 3 at 1 feed @3 x00",
-        "session 1 open { post @0 { }",
-        "session 1 strands 2 open { dispatch @2",
-        "session 1 open { cancel @0",
-        "session 1 open { release @0",
-    ];
-    refuses_all(&rt, rt.alloc(), 6, "", &texts)
-}
+    ),
+];
 
 #[test]
-fn what_belongs_to_version_2_alone(rt: HostRuntime) -> Result<(), Fail> {
-    let texts = [
-        "session 1 timers 1 open { @expiresat 0 5",
-        "session 1 timers 1 open { @expiresat",
-        "session 1 timers 1 slots 1 open { wait 0 - 0 @only 4 { }",
-        "session 1 timers 1 slots 1 open { wait 0 - 0 @only",
-        "session 2 timers 1 slots 1 open { wait 0 - - @only 4 { }",
-        "session 2 slots 1 streams 1 open { read 0 1 - - @only",
-    ];
-    refuses_all(&rt, rt.alloc(), 4, "", &texts)
-}
-
-#[test]
-fn what_stands_elsewhere(rt: HostRuntime) -> Result<(), Fail> {
-    let texts = [
-        "session 1 timers 1 @strands",
-        "session 1 timers 1 @timers",
-        "session 1 open { stop @run",
-        "session 1 open { post - { } @abort",
-        "session 2 timers 1 open { wait 0 - - { } other { } @abort",
-        "session 2 timers 1 open { wait 0 - - { } other { } @other",
-        "session 1 open { } restart @restart",
-        "session 1 open { } run 1 @2",
-        "session 1 open { } run 1 @open",
-        "session 1 guards 1 open { } run 1 @}",
-        "session 1 guards 1 open { } run 1 @stop",
-    ];
-    refuses_all(&rt, rt.alloc(), 4, "", &texts)?;
-    let behind = ["@run1", "@x6", "@{}", "@--"];
-    refuses_all(&rt, rt.alloc(), 3, "session 1 open { } run 1 ", &behind)
-}
-
-#[test]
-fn a_version_that_is_none(rt: HostRuntime) -> Result<(), Fail> {
-    let texts = [
-        "session @0 open { } run 1",
-        "session @3 open { } run 1",
-        "session\n@18446744073709551615",
-    ];
-    refuses_all(&rt, rt.alloc(), 9, "", &texts)?;
-    Ok(())
-}
-
-#[test]
-fn a_number_outside_its_limits(rt: HostRuntime) -> Result<(), Fail> {
-    for (front, tokens) in [
-        ("session 1 strands ", &["@17", "@300"]),
-        ("session 2 strands ", &["@65", "@300"]),
-        ("session 1 timers ", &["@33", "@300"]),
-        ("session 2 timers ", &["@129", "@300"]),
-        ("session 1 slots ", &["@65", "@300"]),
-        ("session 2 slots ", &["@129", "@300"]),
-        ("session 1 streams ", &["@17", "@300"]),
-        ("session 2 streams ", &["@65", "@300"]),
-        ("session 1 guards ", &["@17", "@300"]),
-        ("session 2 guards ", &["@65", "@300"]),
-        (
-            "session 1 at ",
-            &["@1099511627776", "@18446744073709551615"],
-        ),
-        (
-            "session 2 at ",
-            &["@1099511627776", "@18446744073709551615"],
-        ),
-        ("session 1 streams 1 at 1 room 0 ", &["@0", "@65537"]),
-        ("session 2 streams 1 at 1 room 0 ", &["@0", "@262145"]),
-        ("session 1 streams 1 open { readsome 0 ", &["@0", "@4097"]),
-        ("session 1 streams 1 open { read 0 ", &["@0", "@4097"]),
-        ("session 1 streams 1 open { until 0 x00 ", &["@0", "@4097"]),
-        ("session 1 open { } run ", &["@0", "@17"]),
-        ("session 2 open { } poll ", &["@0", "@17"]),
-        (
-            "session 2 open { } run 1 restart run ",
-            &["@0", "@18446744073709551615"],
-        ),
-    ] {
-        refuses_all(&rt, rt.alloc(), 7, front, tokens)?;
-    }
-    Ok(())
-}
-
-#[test]
-fn a_number_of_an_act_outside_its_limits(rt: HostRuntime) -> Result<(), Fail> {
+fn each_token_is_refused_where_it_breaks_a_rule(rt: HostRuntime) -> Result<(), Fail> {
     let alloc = rt.alloc();
-    for (place, tokens) in [
-        ("expires 0 ", &["@1099511627776", "@18446744073709551615"]),
-        ("expiresat 0 ", &["@1099511627776", "@18446744073709551615"]),
-        ("emit 0 ", &["@8", "@256"]),
-        ("readsome 0 ", &["@0", "@16385"]),
-        ("read 0 ", &["@0", "@16385"]),
-        ("until 0 x00 ", &["@0", "@16385"]),
-        ("wait 0 - 0 only ", &["@8", "@9"]),
-        ("readsome 0 1 - 0 only ", &["@8", "@9"]),
-        ("read 0 1 - 0 only ", &["@8", "@9"]),
-        ("until 0 x00 1 - 0 only ", &["@8", "@9"]),
-        ("writesome 0 x00 - 0 only ", &["@8", "@9"]),
-        ("write 0 x00 - 0 only ", &["@8", "@9"]),
-    ] {
-        let front = format!(in alloc; "{OPEN}{place}")?;
-        refuses_all(&rt, alloc, 7, front.as_str(), tokens)?;
-    }
-    Ok(())
-}
-
-#[test]
-fn more_bytes_than_allowed(rt: HostRuntime) -> Result<(), Fail> {
-    let alloc = rt.alloc();
-    for (front, most) in [
-        ("session 1 streams 1 at 1 feed 0 x", 4096),
-        ("session 2 streams 1 at 1 feed 0 x", 16384),
-        ("session 1 streams 1 open { write 0 x", 4096),
-        ("session 2 streams 1 open { write 0 x", 16384),
-        ("session 1 streams 1 open { writesome 0 x", 4096),
-        ("session 2 streams 1 open { writesome 0 x", 16384),
-        ("session 1 streams 1 open { until 0 x", 16),
-        ("session 2 streams 1 open { until 0 x", 16),
-    ] {
-        // The text ends behind as many bytes as are allowed, and one more is the fault itself.
-        let allowed = repeated(alloc, front, "0f", most, "")?;
-        assert_eq!(rt; verdict(alloc, allowed.as_slice()), (4, 1, 10), "{front}");
-        for more in [1, 7] {
-            let text = repeated(alloc, front, "0f", most + more, "")?;
-            assert_eq!(rt; verdict(alloc, text.as_slice()), (7, 1, 9), "{front}");
+    for (rule, kinds, tokens) in BROKEN {
+        for (before, places) in *kinds {
+            for place in *places {
+                let front = format!(in alloc; "{before}{place}")?;
+                refuses_all(&rt, alloc, *rule, front.as_str(), tokens)?;
+            }
         }
     }
     Ok(())
 }
 
-#[test]
-fn a_guard_that_is_never_released(rt: HostRuntime) -> Result<(), Fail> {
-    let texts = [
-        "session 1 guards 1 open { } run 1",
-        "session 2 guards 2 open { release 0 } run 1",
-        "session 1 guards 2 open { post - { release 1 } }\nrun 1\n",
-        "session 1 guards 1 open { } run 1 restart poll 2",
-    ];
-    refuses_all(&rt, rt.alloc(), 8, "", &texts)?;
-    Ok(())
-}
+/// Behind this front each of these texts breaks this rule.
+type Refused = (u8, &'static str, &'static [&'static str]);
+
+const REFUSED: &[Refused] = &[
+    (
+        6,
+        "session ",
+        &[
+            "1 at 1 end @0",
+            "2 streams 3 at 1 feed @3 x00",
+            "1 open { post @0 { }",
+            "1 strands 2 open { dispatch @2",
+            "1 open { cancel @0",
+            "1 open { release @0",
+        ],
+    ),
+    // What belongs to version 2 alone.
+    (
+        4,
+        "session ",
+        &[
+            "1 timers 1 open { @expiresat 0 5",
+            "1 timers 1 slots 1 open { wait 0 - 0 @only 4 { }",
+            "2 timers 1 slots 1 open { wait 0 - - @only 4 { }",
+            "2 slots 1 streams 1 open { read 0 1 - - @only",
+        ],
+    ),
+    // What stands elsewhere.
+    (
+        4,
+        "session 1 timers 1 ",
+        &[
+            "@strands",
+            "@timers",
+            "open { stop @run",
+            "open { post - { } @abort",
+            "open { wait 0 - - { } other { } @abort",
+            "open { wait 0 - - { } other { } @other",
+            "open { } restart @restart",
+            "open { } run 1 @2",
+            "open { } run 1 @open",
+            "guards 1 open { } run 1 @}",
+            "guards 1 open { } run 1 @stop",
+        ],
+    ),
+    (
+        3,
+        "session 1 open { } run 1 ",
+        &["@run1", "@x6", "@{}", "@--"],
+    ),
+    (
+        9,
+        "session ",
+        &[
+            "@0 open { } run 1",
+            "@3 open { } run 1",
+            "\n@18446744073709551615",
+        ],
+    ),
+    (
+        7,
+        "session 1 ",
+        &[
+            "strands @17",
+            "timers @33",
+            "slots @65",
+            "streams @17",
+            "guards @300",
+            "at @1099511627776",
+            "streams 1 at 1 room 0 @0",
+            "streams 1 at 1 room 0 @65537",
+            "streams 1 open { readsome 0 @0",
+            "streams 1 open { readsome 0 @4097",
+            "streams 1 open { read 0 @4097",
+            "streams 1 open { until 0 x00 @4097",
+            "open { } run @0",
+            "open { } poll @17",
+        ],
+    ),
+    (
+        7,
+        "session 2 ",
+        &[
+            "strands @65",
+            "timers @129",
+            "slots @129",
+            "streams @65",
+            "guards @65",
+            "at @18446744073709551615",
+            "streams 1 at 1 room 0 @262145",
+            "streams 1 open { read 0 @16385",
+            "timers 1 open { expiresat 0 @1099511627776",
+            "slots 1 open { emit 0 @8",
+            "timers 1 slots 1 open { wait 0 - 0 only @8",
+            "open { } run 1 restart run @18446744073709551615",
+        ],
+    ),
+    (
+        8,
+        "session ",
+        &[
+            "1 guards 1 open { } run 1",
+            "2 guards 2 open { release 0 } run 1",
+            "1 guards 2 open { post - { release 1 } }\nrun 1\n",
+            "1 guards 1 open { } run 1 restart poll 2",
+        ],
+    ),
+];
 
 #[test]
-fn accepts_what_is_within_all_limits(rt: HostRuntime) {
-    let texts = [
-        "session 1 open { } run 1",
-        "session 2 strands 64 timers 128 slots 128 streams 64 guards 0 open { } run 16",
-        "session 1 strands 16 timers 32 slots 64 streams 16 open { } poll 16",
-        "session 1 streams 1 at 1099511627775 room 0 65536 at 0 reset 0 open { } run 1",
-        "session 2 streams 1 at 0 room 0 262144 open { read 0 16384 - - { } until 0 x00000000000000000000000000000000 16384 - - { } } run 1",
-        "session 1 streams 1 open { read 0 4096 - - { } readsome 0 1 - - { } abort { } other { } } run 1",
-        "session 2 timers 1 slots 1 open { expiresat 0 1099511627775 wait 0 - 0 only 0 { } abort { stop } other { } emit 0 7 } restart run 1 restart poll 2",
-        "session 1\tguards 1\r\nopen {\npost - { release 0 release 0 } } run 1\n",
-        "session 1 strands 0 open { } run 1",
-    ];
-    for text in texts {
-        assert_eq!(rt; verdict(rt.alloc(), text.as_bytes()), (0, 0, 0), "{text}");
+fn these_texts_are_refused(rt: HostRuntime) -> Result<(), Fail> {
+    for (rule, front, texts) in REFUSED {
+        refuses_all(&rt, rt.alloc(), *rule, front, texts)?;
     }
+    Ok(())
 }

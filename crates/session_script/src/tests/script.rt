@@ -1,39 +1,30 @@
 //! The questions of a script, its text and its upgrade.
 
+use crate::act::Act;
 use crate::script::{Script, read_script, upgrade};
 use crate::writer::write_script;
 use asio_types::{Class, Lane};
+use std::alloc::Global;
 use std::test::Fail;
 
-/// What a script says of an act.
-#[derive(Clone, Copy, Debug, PartialEq, Eq)]
-struct Row {
-    parent: Option<(u32, Class)>,
-    is_op: bool,
-    is_inline: bool,
-    lane: Lane,
-}
-
-fn at(parent: Option<(u32, Class)>, is_op: bool, is_inline: bool, lane: Lane) -> Row {
-    Row {
-        parent,
-        is_op,
-        is_inline,
-        lane,
-    }
-}
+/// The parent of an act, whether it is an operation and executes inside its call, and its lane.
+type Row = (Option<(u32, Class)>, bool, bool, Lane);
 
 fn seen(script: &Script, a: u32) -> Option<Row> {
     if a < script.acts() {
-        Some(Row {
-            parent: script.parent_of(a),
-            is_op: script.is_op(a),
-            is_inline: script.is_inline(a),
-            lane: script.lane_of(a),
-        })
+        Some((
+            script.parent_of(a),
+            script.is_op(a),
+            script.is_inline(a),
+            script.lane_of(a),
+        ))
     } else {
         None
     }
+}
+
+fn is_stop(script: &Script, a: u32) -> bool {
+    a < script.acts() && script.is_stop(a) && matches!(script.act(a), Act::Stop)
 }
 
 fn has_branch(script: &Script, o: u32, class: Class, acts: &[u32]) -> bool {
@@ -49,21 +40,21 @@ fn lanes_follow_callers_and_strands(rt: HostRuntime) -> Result<(), Fail> {
         dispatch - { } } dispatch 0 { } stop wait 0 1 0 { post - { dispatch 1 { } dispatch - { } } } abort { stop } \
         other { dispatch 1 { } } cancel 0 } run 1";
     let rows = [
-        at(None, true, false, Lane::Strand(0)),
-        at(Some((0, OK)), true, true, Lane::Strand(0)),
-        at(Some((1, OK)), false, false, Lane::Strand(0)),
-        at(Some((0, OK)), true, false, Lane::Strand(1)),
-        at(Some((3, OK)), true, true, Lane::Strand(1)),
-        at(Some((0, OK)), true, true, Lane::Strand(0)),
-        at(None, true, false, Lane::Strand(0)),
-        at(None, false, false, Lane::Reactor),
-        at(None, true, false, Lane::Strand(1)),
-        at(Some((8, OK)), true, false, Lane::Own(9)),
-        at(Some((9, OK)), true, false, Lane::Strand(1)),
-        at(Some((9, OK)), true, true, Lane::Own(9)),
-        at(Some((8, Class::Abort)), false, false, Lane::Strand(1)),
-        at(Some((8, Class::Other)), true, true, Lane::Strand(1)),
-        at(None, false, false, Lane::Reactor),
+        (None, true, false, Lane::Strand(0)),
+        (Some((0, OK)), true, true, Lane::Strand(0)),
+        (Some((1, OK)), false, false, Lane::Strand(0)),
+        (Some((0, OK)), true, false, Lane::Strand(1)),
+        (Some((3, OK)), true, true, Lane::Strand(1)),
+        (Some((0, OK)), true, true, Lane::Strand(0)),
+        (None, true, false, Lane::Strand(0)),
+        (None, false, false, Lane::Reactor),
+        (None, true, false, Lane::Strand(1)),
+        (Some((8, OK)), true, false, Lane::Own(9)),
+        (Some((9, OK)), true, false, Lane::Strand(1)),
+        (Some((9, OK)), true, true, Lane::Own(9)),
+        (Some((8, Class::Abort)), false, false, Lane::Strand(1)),
+        (Some((8, Class::Other)), true, true, Lane::Strand(1)),
+        (None, false, false, Lane::Reactor),
     ];
     let script = read_script(rt.alloc(), text)?;
     assert_eq!(rt; script.acts(), 15);
@@ -87,97 +78,105 @@ fn branches_list_their_acts_in_text_order(rt: HostRuntime) -> Result<(), Fail> {
     assert!(rt; has_branch(&script, 3, Class::Abort, &[6]));
     assert!(rt; has_branch(&script, 3, Class::Other, &[7]));
     assert!(rt; !has_branch(&script, 8, OK, &[]));
-    assert_eq!(rt; script.version(), 1);
-    assert_eq!(rt; script.guards(), 1);
-    assert_eq!(rt; script.rounds().len(), 2);
-    assert_eq!(rt; script.world().streams, 0);
+    assert!(rt; is_stop(&script, 2) && is_stop(&script, 8) && !is_stop(&script, 1));
+    let counts = (
+        script.strands(),
+        script.timers(),
+        script.slots(),
+        script.guards(),
+    );
+    assert_eq!(rt; counts, (0, 1, 0, 1));
+    assert_eq!(rt;
+        (
+            script.version(),
+            script.world().streams,
+            script.rounds().len()
+        ),
+        (1, 0, 2)
+    );
     Ok(())
 }
 
+/// Texts in their one spelling.
+const CANONICAL: &[&str] = &[
+    "session 1 open { post - { } } run 1",
+    "session 1 open { } run 4 restart run 1",
+    "session 1 strands 1 open { post 0 { } post 0 { } } run 4",
+    "session 1 strands 2 open { post 0 { dispatch 1 { } } } run 2",
+    "session 1 timers 1 slots 1 open { expires 0 5 wait 0 - 0 { } post - { emit 0 1 } } run 1",
+    "session 1 slots 1 streams 1 at 4 feed 0 x6162 open { emit 0 1 read 0 2 - 0 { } emit 0 4 } run 1",
+    "session 1 strands 1 timers 2 open { expires 0 3 expires 1 3 wait 1 0 - { } wait 0 0 - { } } run 1",
+    "session 1 strands 1 streams 1 at 1 feed 0 x61620d at 2 feed 0 x0a63640d0a open { until 0 x0d0a 64 0 - { } } run 1",
+    "session 1 streams 1 at 1 feed 0 x61626364 at 1 end 0 open { read 0 10 - - { } } run 1",
+    "session 1 strands 1 streams 1 open { read 0 4 0 - { } close 0 read 0 4 0 - { } } run 1",
+    "session 1 strands 1 open { post 0 { stop } post 0 { } post 0 { } } run 1 restart run 1",
+    "session 1 guards 1 open { post - { release 0 } } run 1",
+    "session 1 timers 1 open { expires 0 5 wait 0 - - { } } poll 1 run 1",
+    "session 1 streams 1 at 1 room 0 2 at 3 reset 0 open { write 0 x61626364 - - { } } run 1",
+    "session 1 strands 1 timers 1 slots 1 streams 1 at 0 room 0 64 at 2 feed 0 x68690a open { expires 0 10 wait 0 0 - { emit 0 1 } until 0 x0a 64 0 0 { write 0 x68690a 0 - { cancel 0 } } } run 4",
+    "session 2 timers 1 slots 1 open { expiresat 0 7 wait 0 - 0 only 4 { stop } abort { stop } other { stop } } run 1",
+    "session 2 timers 1 streams 1 open { cancelone 0 readsome 0 16384 - - { } other { defer - { } } writesome 0 xff - - { } } run 16",
+];
+
+/// Other spellings, and the one spelling of each.
+const RESPELLED: &[(&str, &str)] = &[
+    (
+        "session 1 strands 0 open { } run 1",
+        "session 1 open { } run 1",
+    ),
+    (
+        "\tsession\r\n2 timers 0 slots 1\nguards 0 open { } run 1 ",
+        "session 2 slots 1 open { } run 1",
+    ),
+    (
+        " session 2\ntimers 1 slots 1 open { wait 0 - 0 only 7 { } abort { } other { stop } } run 1\n",
+        "session 2 timers 1 slots 1 open { wait 0 - 0 { } other { stop } } run 1",
+    ),
+    (
+        "session 2 timers 1 slots 1 open { wait 0 - 0 only 0 { } abort { stop } other { } } run 1",
+        "session 2 timers 1 slots 1 open { wait 0 - 0 only 0 { } abort { stop } } run 1",
+    ),
+];
+
+fn respelled(alloc: Global, text: &str) -> Result<Vec<u8>, Fail> {
+    let script = read_script(alloc, text.as_bytes())?;
+    Ok(write_script(alloc, &script)?)
+}
+
 #[test]
-fn a_text_in_one_spelling_is_written_as_it_was_read(rt: HostRuntime) -> Result<(), Fail> {
+fn a_script_is_written_in_one_spelling(rt: HostRuntime) -> Result<(), Fail> {
     let alloc = rt.alloc();
-    let texts = [
-        "session 1 open { post - { } } run 1",
-        "session 1 open { } run 4 restart run 1",
-        "session 1 strands 1 open { post 0 { } post 0 { } } run 4",
-        "session 1 strands 2 open { post 0 { dispatch 1 { } } } run 2",
-        "session 1 timers 1 slots 1 open { expires 0 5 wait 0 - 0 { } post - { emit 0 1 } } run 1",
-        "session 1 slots 1 streams 1 at 4 feed 0 x6162 open { emit 0 1 read 0 2 - 0 { } emit 0 4 } run 1",
-        "session 1 strands 1 timers 2 open { expires 0 3 expires 1 3 wait 1 0 - { } wait 0 0 - { } } run 1",
-        "session 1 strands 1 streams 1 at 1 feed 0 x61620d at 2 feed 0 x0a63640d0a open { until 0 x0d0a 64 0 - { } } run 1",
-        "session 1 streams 1 at 1 feed 0 x61626364 at 1 end 0 open { read 0 10 - - { } } run 1",
-        "session 1 strands 1 streams 1 open { read 0 4 0 - { } close 0 read 0 4 0 - { } } run 1",
-        "session 1 strands 1 open { post 0 { stop } post 0 { } post 0 { } } run 1 restart run 1",
-        "session 1 guards 1 open { post - { release 0 } } run 1",
-        "session 1 timers 1 open { expires 0 5 wait 0 - - { } } poll 1 run 1",
-        "session 1 streams 1 at 1 room 0 2 at 3 reset 0 open { write 0 x61626364 - - { } } run 1",
-        "session 1 strands 1 timers 1 slots 1 streams 1 at 0 room 0 64 at 2 feed 0 x68690a open { expires 0 10 wait 0 0 - { emit 0 1 } until 0 x0a 64 0 0 { write 0 x68690a 0 - { cancel 0 } } } run 4",
-        "session 2 timers 1 slots 1 open { expiresat 0 7 wait 0 - 0 only 4 { stop } abort { stop } other { stop } } run 1",
-        "session 2 timers 1 streams 1 open { cancelone 0 readsome 0 16384 - - { } other { defer - { } } writesome 0 xff - - { } } run 16",
-    ];
-    for text in texts {
-        let script = read_script(alloc, text.as_bytes())?;
-        let written = write_script(alloc, &script)?;
-        assert_eq!(rt; written.as_slice(), text.as_bytes(), "at {text}");
+    for text in CANONICAL {
+        assert_eq!(rt;
+            respelled(alloc, text)?.as_slice(),
+            text.as_bytes(),
+            "{text}"
+        );
+    }
+    for (text, canonical) in RESPELLED {
+        assert_eq!(rt;
+            respelled(alloc, text)?.as_slice(),
+            canonical.as_bytes(),
+            "{text}"
+        );
     }
     Ok(())
 }
 
-#[test]
-fn what_means_nothing_is_left_out(rt: HostRuntime) -> Result<(), Fail> {
-    let alloc = rt.alloc();
-    let rows = [
-        (
-            "session 1 strands 0 open { } run 1",
-            "session 1 open { } run 1",
-        ),
-        (
-            "\tsession\r\n2 timers 0 slots 1\nguards 0 open { } run 1 ",
-            "session 2 slots 1 open { } run 1",
-        ),
-        (
-            " session 2\ntimers 1 slots 1 open { wait 0 - 0 only 7 { } abort { } other { stop } } run 1\n",
-            "session 2 timers 1 slots 1 open { wait 0 - 0 { } other { stop } } run 1",
-        ),
-        (
-            "session 2 timers 1 slots 1 open { wait 0 - 0 only 0 { } abort { stop } other { } } run 1",
-            "session 2 timers 1 slots 1 open { wait 0 - 0 only 0 { } abort { stop } } run 1",
-        ),
-    ];
-    for (text, canonical) in rows {
-        let script = read_script(alloc, text.as_bytes())?;
-        let written = write_script(alloc, &script)?;
-        assert_eq!(rt; written.as_slice(), canonical.as_bytes());
-    }
-    Ok(())
-}
+/// A script in version 1, and its upgrade.
+const UPGRADED: (&str, &str) = (
+    "session 1 strands 3 timers 1 slots 2 streams 1 guards 1 at 5 feed 0 xab at 6 room 0 9 open { wait 0 2 1 { release 0 } abort { stop } until 0 x0a 9 - - { } } restart poll 3 run 2",
+    "session 2 strands 3 timers 1 slots 2 streams 1 guards 1 at 5 feed 0 xab at 6 room 0 9 open { wait 0 2 1 { release 0 } abort { stop } until 0 x0a 9 - - { } } restart poll 3 run 2",
+);
 
 #[test]
 fn an_upgrade_changes_the_version_alone(rt: HostRuntime) -> Result<(), Fail> {
     let alloc = rt.alloc();
-    let rows = [
-        (
-            "session 1 open { post - { } } run 1",
-            "session 2 open { post - { } } run 1",
-        ),
-        (
-            "session 1 strands 3 timers 1 slots 2 streams 1 guards 1 at 5 feed 0 xab at 6 room 0 9 open { wait 0 2 1 { release 0 } abort { stop } until 0 x0a 9 - - { } } restart poll 3 run 2",
-            "session 2 strands 3 timers 1 slots 2 streams 1 guards 1 at 5 feed 0 xab at 6 room 0 9 open { wait 0 2 1 { release 0 } abort { stop } until 0 x0a 9 - - { } } restart poll 3 run 2",
-        ),
-    ];
-    for (text, upgraded) in rows {
-        let script = upgrade(alloc, &read_script(alloc, text.as_bytes())?)?;
-        assert_eq!(rt; script.version(), 2);
-        assert_eq!(rt;
-            write_script(alloc, &script)?.as_slice(),
-            upgraded.as_bytes()
-        );
-        let again = upgrade(alloc, &script)?;
-        assert_eq!(rt;
-            write_script(alloc, &again)?.as_slice(),
-            upgraded.as_bytes()
-        );
-    }
+    let (text, upgraded) = UPGRADED;
+    let script = upgrade(alloc, &read_script(alloc, text.as_bytes())?)?;
+    assert_eq!(rt;
+        write_script(alloc, &script)?.as_slice(),
+        upgraded.as_bytes()
+    );
     Ok(())
 }

@@ -1,7 +1,7 @@
 ghost use Rattle.std.specs.Prelude.{◌≡◌, ◌∷◌, [], OnOk};
 ghost use Rattle.std.specs.Fmt.{decimal};
 ghost use Rattle.session_script.specs.Text.{act_text};
-ghost use Rattle.session_script.specs.Spelling.{written, number_or_dash, plug_words, field_words};
+ghost use Rattle.session_script.specs.Spelling.{written, object_words, tail_words, handler_words, field_words};
 
 use crate::act::Act;
 use crate::writer::word::{data, number, number_or_dash, word};
@@ -47,7 +47,7 @@ fn tail(
     filter: Types,
     out: &mut Vec<u8>,
 ) -> Result<(), NoMemory>
-    ensures { OnOk result (out.new.items ≡ written out.old.items (number_or_dash strand ∷ plug_words slot filter)) }
+    ensures { OnOk result (out.new.items ≡ written out.old.items (tail_words strand slot filter)) }
 {
     number_or_dash(strand, out)?;
     number_or_dash(slot, out)?;
@@ -58,78 +58,100 @@ fn tail(
     number(filter.bits() as u64, out)
 }
 
-/// What an act has after its word, without its bodies.
-pub(crate) fn fields(act: &Act, out: &mut Vec<u8>) -> Result<(), NoMemory>
-    ensures { OnOk result (out.new.items ≡ written out.old.items (field_words act.now)) }
+/// What an act does: to which object, and how much.
+fn object(act: &Act, out: &mut Vec<u8>) -> Result<(), NoMemory>
+    ensures { OnOk result (out.new.items ≡ written out.old.items (object_words act.now)) }
 {
     match act {
-        Act::Post { strand } => number_or_dash(*strand, out),
-        Act::Defer { strand } => number_or_dash(*strand, out),
-        Act::Dispatch { strand } => number_or_dash(*strand, out),
-        Act::Expires { timer, after } => two(*timer, *after, out),
-        Act::ExpiresAt { timer, at } => two(*timer, *at, out),
-        Act::Wait {
-            timer,
-            strand,
-            slot,
-            filter,
-        } => {
-            number(*timer as u64, out)?;
-            tail(*strand, *slot, *filter, out)
-        }
-        Act::Cancel { timer } => number(*timer as u64, out),
-        Act::CancelOne { timer } => number(*timer as u64, out),
+        Act::Post { .. } | Act::Defer { .. } | Act::Dispatch { .. } | Act::Stop => Ok(()),
+        Act::Expires { timer, after: time } | Act::ExpiresAt { timer, at: time } => two(
+            *timer, *time, out,
+        ),
+        Act::Wait { timer, .. } | Act::Cancel { timer } | Act::CancelOne { timer } => number(
+            *timer as u64,
+            out,
+        ),
         Act::Emit { slot, types } => two(*slot, types.bits() as u64, out),
-        Act::ReadSome {
-            stream,
-            size,
-            strand,
-            slot,
-            filter,
-        }
-        | Act::ReadAll {
-            stream,
-            size,
-            strand,
-            slot,
-            filter,
-        } => {
-            two(*stream, *size as u64, out)?;
-            tail(*strand, *slot, *filter, out)
-        }
+        Act::ReadSome { stream, size, .. } | Act::ReadAll { stream, size, .. } => two(
+            *stream,
+            *size as u64,
+            out,
+        ),
         Act::Until {
             stream,
             delimiter,
             max,
-            strand,
-            slot,
-            filter,
+            ..
         } => {
             number(*stream as u64, out)?;
             data(delimiter.as_slice(), out)?;
-            number(*max as u64, out)?;
-            tail(*strand, *slot, *filter, out)
+            number(*max as u64, out)
         }
-        Act::WriteSome {
-            stream,
-            bytes,
+        Act::WriteSome { stream, bytes, .. } | Act::WriteAll { stream, bytes, .. } => {
+            number(*stream as u64, out)?;
+            data(bytes.as_slice(), out)
+        }
+        Act::Close { stream: number_of } | Act::Release { guard: number_of } => number(
+            *number_of as u64,
+            out,
+        ),
+    }
+}
+
+/// Where the handler of an act executes, and by what it is cancelled.
+fn handler(act: &Act, out: &mut Vec<u8>) -> Result<(), NoMemory>
+    ensures { OnOk result (out.new.items ≡ written out.old.items (handler_words act.now)) }
+{
+    match act {
+        Act::Post { strand } | Act::Defer { strand } | Act::Dispatch { strand } => number_or_dash(
+            *strand, out,
+        ),
+        Act::Wait {
             strand,
             slot,
             filter,
+            ..
+        }
+        | Act::ReadSome {
+            strand,
+            slot,
+            filter,
+            ..
+        }
+        | Act::ReadAll {
+            strand,
+            slot,
+            filter,
+            ..
+        }
+        | Act::Until {
+            strand,
+            slot,
+            filter,
+            ..
+        }
+        | Act::WriteSome {
+            strand,
+            slot,
+            filter,
+            ..
         }
         | Act::WriteAll {
-            stream,
-            bytes,
             strand,
             slot,
             filter,
-        } => {
-            number(*stream as u64, out)?;
-            data(bytes.as_slice(), out)?;
-            tail(*strand, *slot, *filter, out)
-        }
-        Act::Close { stream } => number(*stream as u64, out),
-        Act::Release { guard } => number(*guard as u64, out),
-        Act::Stop => Ok(()),
+            ..
+        } => tail(*strand, *slot, *filter, out),
+        Act::Expires { .. } | Act::ExpiresAt { .. } | Act::Cancel { .. } => Ok(()),
+        Act::CancelOne { .. } | Act::Emit { .. } | Act::Close { .. } => Ok(()),
+        Act::Release { .. } | Act::Stop => Ok(()),
     }
+}
+
+/// What an act has after its word, without its bodies.
+pub(crate) fn fields(act: &Act, out: &mut Vec<u8>) -> Result<(), NoMemory>
+    ensures { OnOk result (out.new.items ≡ written out.old.items (field_words act.now)) }
+{
+    object(act, out)?;
+    handler(act, out)
 }

@@ -1,10 +1,10 @@
 ghost use Rattle.std.specs.Prelude.{◌≡◌, ◌<◌, ◌-◌, ◌++◌, ◌∷◌, [], true, length, slice_index, EachIndex, OnOk};
 ghost use Rattle.std.specs.List.{flat_map};
 ghost use Rattle.session_script.specs.Script.{act_of, is_op};
-ghost use Rattle.session_script.specs.declared.reader.body.Bodies.TheVariants as bodies;
+ghost use Rattle.session_script.specs.declared.act.Bodies.TheVariants as bodies;
 ghost use Rattle.session_script.specs.Spelling.{written, body_words, entry_words, branch_words, bodies_words};
 
-use crate::act::Act;
+use crate::act::{Bodies, bodies_of};
 use crate::script::Script;
 use crate::writer::act::{act_text, fields};
 use crate::writer::word::word;
@@ -50,19 +50,10 @@ fn entry(script: &Script, levels: u32, a: ActNo, out: &mut Vec<u8>) -> Result<()
     let act = script.act(a);
     word(act_text(act), out)?;
     fields(act, out)?;
-    match act {
-        Act::Post { .. } | Act::Defer { .. } | Act::Dispatch { .. } => {
-            body(script, levels, script.branch(a, Class::Ok), out)
-        }
-        Act::Wait { .. } | Act::ReadSome { .. } | Act::ReadAll { .. } => branches(
-            script, levels, a, out,
-        ),
-        Act::Until { .. } | Act::WriteSome { .. } | Act::WriteAll { .. } => branches(
-            script, levels, a, out,
-        ),
-        Act::Expires { .. } | Act::ExpiresAt { .. } | Act::Cancel { .. } => Ok(()),
-        Act::CancelOne { .. } | Act::Emit { .. } | Act::Close { .. } => Ok(()),
-        Act::Release { .. } | Act::Stop => Ok(()),
+    match bodies_of(act) {
+        Bodies::Nothing => Ok(()),
+        Bodies::Posting => body(script, levels, script.branch(a, Class::Ok), out),
+        Bodies::Operation => branches(script, levels, a, out),
     }
 }
 

@@ -1,5 +1,5 @@
 use Rattle.asio_types.proofs.SinkLemmas.{extends_by_next, extends_by_first}
-use Rattle.std.proofs.Common.{arith, ap, length, Ok, Err, OnErr}
+use Rattle.std.proofs.Common.{arith, ap, length, ◌∙◌, Ok, Err, OnErr}
 use Rattle.asio_types.specs.Sink.{ExtendsByPart}
 use Rattle.asio_types.proofs.whole_write.write_all.Goals as goal
 
@@ -13,5 +13,5 @@ loop-done-preserved g c = record {
   within = omega (arith, c.in_ok-done.ensures.bound);
   taken = extends_by_next _ _ _ _ _ _ c.loop-done.invariant.taken c.in_ok-done.ensures.appended;
   unasked = λ empty. absurd (omega (arith, ap length empty, c.loop-done-test.true));
-  later = omega arith;
+  uncounted = c.in_ok-done.ensures.counts ∙ c.loop-done.invariant.uncounted;
 }

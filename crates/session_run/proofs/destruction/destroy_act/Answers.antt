@@ -1,13 +1,13 @@
-use Rattle.std.proofs.Common.{true, ap, ◌∙◌}
+use Rattle.std.proofs.Common.{ap, ◌∙◌, false}
 use Rattle.history_book.specs.Legal.{state_of}
 use Rattle.session_run.specs.RackMarks.{mark_by}
 use Rattle.session_run.proofs.ExecutionLemmas.{passed_over}
 use Rattle.session_run.proofs.RackLemmas.{handler_at-other}
 use Rattle.session_run.proofs.destruction.destroy_act.Goals as goal
 
-pub returns-then-not-operates-clause-one_more : goal.returns-then-not-operates-clause-one_more
-returns-then-not-operates-clause-one_more g c =
-    passed_over c.args.script.now (state_of c.args.script.now true c.args.history.now.events) c.args.o c.requires.spent c.requires.act (cc)
+pub returns-then-not-is_op-clause-one_more : goal.returns-then-not-is_op-clause-one_more
+returns-then-not-is_op-clause-one_more g c =
+    passed_over c.args.script.now (state_of c.args.script.now false c.args.history.now.events) c.args.o c.requires.spent c.requires.act (cc)
 
 pub returns-clause-marks : goal.returns-clause-marks
 returns-clause-marks g c run drop marks mark =

@@ -1,4 +1,4 @@
-use Rattle.std.proofs.Common.{arith}
+use Rattle.std.proofs.Common.{arith, ◌∙◌}
 use Rattle.session_run.proofs.TextLemmas.{filled_more, full, at_end}
 use Rattle.session_run.proofs.text.fill.Goals as goal
 
@@ -7,7 +7,7 @@ loop-len-preserved g c =
     record {
       bound = omega (arith, c.in_ok-n.ensures.bound);
       told = filled_more (g.S.Source.left c.args.source.now) c.loop-len.len c.in_ok-n.n c.loop-len.buf c.read.new.buf (g.S.Source.left c.loop-len.source) (g.S.Source.left c.read.new.self) c.loop-len.invariant.told c.in_ok-n.ensures.next c.in_ok-n.ensures.rest (omega arith) (omega arith) (omega (arith, c.in_ok-n.ensures.bound));
-      later = omega (arith, c.in_ok-n.ensures.later);
+      counted = c.in_ok-n.ensures.counts ∙ c.loop-len.invariant.counted;
     }
 
 pub returns-after-loop-len-clause-text : goal.returns-after-loop-len-clause-text

@@ -1,5 +1,5 @@
-use Rattle.std.proofs.Common.{◌≤◌, ◌-◌, length}
-use Rattle.session_run.specs.Text.{most_read}
+use Rattle.std.proofs.Common.{◌≡◌, ◌≤◌, ◌-◌, length}
+use Rattle.session_script.specs.Limits.{most_read}
 use Rattle.session_run.proofs.TextLemmas.{IsFilled}
 use Rattle.session_run.proofs.text.fill.Given as goal
 
@@ -8,7 +8,7 @@ invariant-loop-len g l =
     record {
       bound : l.len ≤ most_read;
       told : IsFilled (g.S.Source.left l.fn.source) l.len l.buf (g.S.Source.left l.source);
-      later : g.S.Source.faults l.fn.source ≤ g.S.Source.faults l.source;
+      counted : g.S.Source.faults l.source ≡ g.S.Source.faults l.fn.source;
     }
 
 abbrev pub decreases-loop-len : goal.decreases-loop-len

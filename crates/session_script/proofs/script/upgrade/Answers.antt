@@ -6,9 +6,9 @@ use Rattle.session_script.specs.Outcome.{model_of}
 use Rattle.session_script.proofs.ReadingBack.{upgrade_is_read}
 use Rattle.session_script.proofs.script.upgrade.Goals as goal
 
-pub of-requires-clause-reads_back : goal.of-requires-clause-reads_back
+pub make-requires : goal.make-requires
 unfolding model_of
-of-requires-clause-reads_back c =
+make-requires c =
     let old = model_of c.script.inside.parts in
     let same : upgraded old ≡ model_of (record {
       version = 2;
@@ -20,4 +20,4 @@ of-requires-clause-reads_back c =
       world = c.in_ok-world.world;
       rounds = c.in_ok-rounds.rounds;
     }) = search rules in
-    subst (λ (script : ScriptModel). IsScript (spelling_of script) script) same (upgrade_is_read (spelling_of old) old c.script.invariant.3).0
+    subst (λ (script : ScriptModel). IsScript (spelling_of script) script) same (upgrade_is_read (spelling_of old) old c.script.invariant.reads_back).0

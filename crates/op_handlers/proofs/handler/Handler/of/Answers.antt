@@ -1,5 +1,5 @@
-use Rattle.op_handlers.proofs.Spent.{marks-HasMarks}
+use Rattle.op_handlers.proofs.Spent.{marks-AnswersMarks}
 use Rattle.op_handlers.proofs.handler.Handler.of.Goals as goal
 
 pub returns : goal.returns
-returns g c m a = search marks-HasMarks
+returns g c m a = search marks-AnswersMarks

@@ -1,6 +1,7 @@
 use Rattle.std.proofs.Common.{◌≡◌, ◌<◌, ◌++◌, length, take, drop, arith}
 use Rattle.reactor_trait.proofs.ReactorLemmas.{state_at-moved}
-use Rattle.reactor_script.proofs.PlayingLemmas.{within-at, HasRoom-due, written, IsPlaying-moved, outside-moved, moves-forward}
+use Rattle.stream_rules.proofs.PlayingLemmas.{within-at, HasRoom-due, written, IsPlaying-moved, moves-forward}
+use Rattle.reactor_script.proofs.OutsideLemmas.{outside-moved}
 use Rattle.reactor_script.proofs.stage.Stage.advance.Goals as goal
 use Rattle.reactor_script.proofs.stage.Stage.advance.Goals.{In-Time, After-perform_due}
 

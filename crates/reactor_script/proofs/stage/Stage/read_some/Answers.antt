@@ -1,5 +1,8 @@
 use Rattle.std.proofs.Common.{length, arith}
-use Rattle.reactor_script.proofs.PlayingLemmas.{read-at_last}
+use Rattle.stream_rules.specs.Moving.{moved_count}
+use Rattle.stream_rules.specs.Serving.{after_reading}
+use Rattle.stream_rules.proofs.PlayingLemmas.{read-marked}
+use Rattle.reactor_script.proofs.OutsideLemmas.{outside-changed}
 use Rattle.reactor_script.proofs.stage.Stage.read_some.Goals as goal
 
 pub returns-clause-after_last : goal.returns-clause-after_last
@@ -7,5 +10,11 @@ returns-clause-after_last c = λ last.
     let s = c.self.inside in
     let known = rw (← c.self.view_is) at c.requires.known in
     let marked = c.self.invariant.marked (rw (← c.self.view_is) at last) in
-    let answer = rw c.as_mut_slice.ensures.value at c.read.ensures.answer in
-    rw answer (read-at_last (length c.args.buf.now) c.args.stream s.pipes.items marked (omega (arith, c.self.invariant.counted)))
+    let here = marked c.args.stream c.index_mut-pipe.result.now (omega (arith, c.self.invariant.counted)) in
+    rw c.read.ensures.answer (read-marked (length c.args.buf.now) c.index_mut-pipe.result.now (rw c.index_mut-pipe.ensures.value here))
+
+pub returns-clause-outside : goal.returns-clause-outside
+returns-clause-outside c =
+    let s = c.self.inside in
+    let known = rw (← c.self.view_is) at c.requires.known in
+    rw (← c.self.view_is) (outside-changed (after_reading (moved_count c.read.result)) s.schedule s.pipes.items c.args.stream c.index_mut-pipe.result.now c.read.new.self (omega (arith, c.self.invariant.counted)) (rw (← c.index_mut-pipe.ensures.value) c.read.ensures.stream))

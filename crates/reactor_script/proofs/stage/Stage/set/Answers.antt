@@ -1,5 +1,6 @@
 use Rattle.std.proofs.Common.{◌∙◌, arith}
-use Rattle.reactor_script.proofs.PlayingLemmas.{within-first, HasRoom-at, written, IsPlaying-first}
+use Rattle.stream_rules.proofs.PipeLemmas.{HasRoom-at}
+use Rattle.stream_rules.proofs.PlayingLemmas.{within-first, written, IsPlaying-first}
 use Rattle.reactor_script.proofs.stage.Stage.set.Goals as goal
 
 pub perform_due-requires-clause-within : goal.perform_due-requires-clause-within

@@ -1,8 +1,0 @@
-use Rattle.reactor_trait.proofs.ReactorLemmas.{state_at-moved}
-use Rattle.reactor_trait.proofs.tests.SilenceReactor.advance.Goals as goal
-
-pub returns-in-Time-clause-moves : goal.returns-in-Time-clause-moves
-returns-in-Time-clause-moves c =
-    let s = c.args.self.now in
-    let to = c.advance-point in
-    state_at-moved s.up s.last s.closed.items c.args.limit c.in-Time.field-0 s.schedule to.new.self to.result c.requires.ahead c.in-Time.is to.ensures.answer to.ensures.time to.ensures.lines

@@ -1,0 +1,48 @@
+-- What is said of the run of a script.
+use Rattle.std.specs.Prelude.{◌≡◌, ℕ, ◌↔◌, false, List, [], ◌∷◌, None, Contains, MatchOption, ⊤}
+use Rattle.asio_types.specs.Faults.{Rose}
+use Rattle.asio_types.specs.declared.event.Event.{Event}
+use Rattle.asio_types.specs.declared.event.Event.TheVariants as event
+use Rattle.session_script.specs.Script.{ScriptModel}
+use Rattle.history_book.specs.Legal.{IsLegal, state_of}
+use Rattle.history_book.specs.Marks.{HasMarks}
+use Rattle.history_book.specs.State.{State}
+use Rattle.op_handlers.specs.Marks.{Marks}
+use Rattle.op_handlers.specs.Rack.{AllTaken}
+use Rattle.op_handlers.specs.declared.rack.Rack.{Rack}
+use Rattle.session_run.specs.Given.{SeenReactor, tells}
+use Rattle.session_run.specs.RackMarks.{drop_mark, run_mark}
+
+-- the events show a failure of the reactor
+abbrev pub ShowsFault : List Event → Type 0
+ShowsFault events = Contains events event.Fault
+
+abbrev pub ShowsNoFault : List Event → Type 0
+ShowsNoFault events = ShowsFault events → ⊥
+
+-- the time of a state: 0, since no history has a tick yet
+abbrev pub now_of : State → ℕ
+now_of s = 0
+
+-- the bytes that were sent on each stream: no script with streams is run yet
+abbrev pub sent_of : State → List (List ℕ)
+sent_of s = []
+
+-- a run of the script with these events
+pub record IsRunOf {H : Type 0} (marks : H → Marks) (script : ScriptModel) (reactor : SeenReactor) (old new : Rack H) (events : List Event) : Type 0 where
+  -- each event may come where it comes, and none is missing
+  pub legal : IsLegal script (tells reactor) events
+  -- the events show the marks that the handlers had
+  pub marked : HasMarks (run_mark marks old) (drop_mark marks old) events
+  -- every handler was spent
+  pub spent : AllTaken old new
+  -- nobody stopped the context from outside
+  pub unstopped : Contains events (event.Stop None) → ⊥
+  -- a fault stands only where the reactor failed
+  pub faults : ShowsFault events → Rose reactor.sent.faults_before reactor.sent.faults_after
+  -- a fault stands alone exactly where the reactor couldn't be set up
+  pub set_up : (events ≡ event.Fault ∷ []) ↔ (reactor.up ≡ false)
+  -- the reactor's time is that of the last state
+  pub now : reactor.now ≡ now_of (state_of script (tells reactor) events)
+  -- without a fault the bytes that were sent are those of the last state, where the reactor tells them
+  pub sent : ShowsNoFault events → MatchOption reactor.sent.told_after ⊤ (λ sent. sent ≡ sent_of (state_of script (tells reactor) events))

@@ -1,0 +1,20 @@
+use Rattle.std.proofs.Common.{◌≡◌, refl, ◌∙◌, map, arith}
+use Rattle.stream_rules.specs.Pipes.{stream_of}
+use Rattle.stream_rules.specs.Queue.{asked, reading_side, served_queue}
+use Rattle.stream_rules.proofs.QueueLemmas.{served-goes_on, there, All-behind}
+use Rattle.stream_rules.proofs.queue.serve_reads.Goals as goal
+
+pub loop-head-preserved : goal.loop-head-preserved
+loop-head-preserved g c =
+    let asks = g.A.Asks.reads c.args.asks.now in
+    let before = c.loop-head.invariant in
+    let head = c.in-Some.head in
+    let queue = c.pop_front.new.self.items in
+    let popped = c.in-Some.ensures.items in
+    let after = c.if-stays.ensures in
+    let step = c.serve_read-served in
+    let is = rw c.reading.ensures at step.ensures.served in
+    let left = step.ensures.stream in
+    let some = after.stays.1 in
+    let gone = there step.result.outcome (c.stays.new.queue.items ≡ queue) some after.gone in
+    (served-goes_on reading_side asks (served_queue reading_side (map (asked asks) c.args.queue.now.items) (stream_of c.args.pipe.now)) c.args.completed.now.items c.loop-head.completed.items c.stays.new.completed.items head queue c.stays.new.queue.items (stream_of c.loop-head.pipe) (stream_of step.new.self) step.result step.result.outcome refl some is left after.listed after.gone (rw popped at before.0), All-behind (g.A.Asks.IsReading c.args.asks.now) head c.loop-head.queue.items queue c.stays.new.queue.items popped gone before.1, omega (arith, c.in-Some.ensures.len, after.lengths, before.2), step.ensures.bytes_left ∙ before.3, step.ensures.room_left ∙ before.4, after.kept_list_room ∙ before.5, after.kept_queue_room ∙ c.in-Some.ensures.capacity ∙ before.6)

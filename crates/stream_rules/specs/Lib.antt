@@ -1,0 +1,11 @@
+pub mod Asked
+pub mod Cutting
+pub mod Delimiter
+pub mod Moving
+pub mod Pipes
+pub mod Queue
+pub mod Serving
+pub mod Sides
+pub mod Stream
+pub mod Timetable
+pub mod World

@@ -1,0 +1,303 @@
+//! Operations on streams whose bytes and room come at once or in two pieces; what each gives is written by hand.
+
+ghost use Rattle.std.specs.Prelude.{◌≡◌, ◌≤◌, IfOk, length};
+ghost use Rattle.std.specs.VecDeque.{deque_len};
+ghost use Rattle.stream_rules.specs.Asked.{writing_of, IsCountable};
+
+use super::*;
+use asio_types::{Code, NoMemory, OpNo, ReadMark, WriteMark};
+use std::alloc::Global;
+use std::collections::VecDeque;
+
+/// A reading operation, the bytes that come, the mark behind them, how it completes, and how many bytes it leaves.
+#[derive(Clone, Copy)]
+struct ReadCase {
+    reading: Reading<'static>,
+    bytes: &'static [u8],
+    mark: Option<ReadMark>,
+    outcome: Option<(Code, u32)>,
+    left: usize,
+}
+
+/// How a reading operation completes where the first bytes are there at first, and the others and the mark come later;
+/// and how many bytes it leaves.
+fn read_cut(
+    alloc: Global,
+    reading: Reading,
+    bytes: &[u8],
+    cut: usize,
+    mark: Option<ReadMark>,
+) -> Result<(Option<(Code, u32)>, usize), NoMemory>
+    requires { cut ≤ length bytes.now }
+{
+    let Ok(count) = u32::try_from(bytes.len()) else {
+        return Err(NoMemory);
+    };
+    let mut pipe = Pipe::make(alloc, count, 0)?;
+    pipe.inbound.feed(&bytes[..cut]);
+    let first = pipe.serve_read(reading, 0);
+    pipe.inbound.feed(&bytes[cut..]);
+    if let Some(mark) = mark {
+        pipe.inbound.set_mark(mark);
+    }
+    let outcome = match first.outcome {
+        Some(outcome) => Some(outcome),
+        None => pipe.serve_read(reading, first.used).outcome,
+    };
+    Ok((outcome, pipe.inbound.there().len()))
+}
+
+/// How a writing operation completes where so much room is there at first, and the rest and the mark come later; and how
+/// many bytes are sent.
+fn write_cut(
+    alloc: Global,
+    writing: Writing,
+    room: u32,
+    cut: u32,
+    mark: Option<WriteMark>,
+) -> Result<(Option<(Code, u32)>, usize), NoMemory>
+    requires cut { cut ≤ room }
+    requires countable { IsCountable (writing_of writing) }
+{
+    let mut pipe = Pipe::make(alloc, 0, room)?;
+    pipe.outbound.add_room(cut);
+    let first = pipe.serve_write(writing, 0);
+    pipe.outbound.add_room(room - cut);
+    if let Some(mark) = mark {
+        pipe.outbound.set_mark(mark);
+    }
+    let outcome = match first.outcome {
+        Some(outcome) => Some(outcome),
+        None => pipe.serve_write(writing, first.used).outcome,
+    };
+    Ok((outcome, pipe.outbound.sent().len()))
+}
+
+fn read_case(
+    reading: Reading<'static>,
+    bytes: &'static [u8],
+    mark: Option<ReadMark>,
+    outcome: Option<(Code, u32)>,
+    left: usize,
+) -> ReadCase {
+    ReadCase {
+        reading,
+        bytes,
+        mark,
+        outcome,
+        left,
+    }
+}
+
+/// Each stays, or completes, alike however its bytes are cut.
+#[test]
+fn composed_reads_give_the_same_for_every_cut(rt: HostRuntime) -> Result<(), NoMemory> {
+    let all = |size| Reading::All { size };
+    let line = Reading::Until {
+        delimiter: b"\r\n",
+        max: 64,
+    };
+    let short = Reading::Until {
+        delimiter: b"\n",
+        max: 4,
+    };
+    let cases = [
+        read_case(all(2), b"ab", None, Some((Code::Ok, 2)), 0),
+        read_case(all(10), b"abcdefghij", None, Some((Code::Ok, 10)), 0),
+        read_case(
+            all(10),
+            b"abcd",
+            Some(ReadMark::Eof),
+            Some((Code::Eof, 4)),
+            0,
+        ),
+        read_case(all(4), b"", None, None, 0),
+        read_case(line, b"ab\r\ncd\r\n", None, Some((Code::Ok, 4)), 4),
+        read_case(line, b"ab\rcd\n", None, None, 6),
+        read_case(short, b"abcd", None, Some((Code::NotFound, 0)), 4),
+        read_case(short, b"abc\n", None, Some((Code::Ok, 4)), 0),
+        read_case(
+            short,
+            b"hi\n",
+            Some(ReadMark::Reset),
+            Some((Code::Ok, 3)),
+            0,
+        ),
+        read_case(
+            short,
+            b"hi",
+            Some(ReadMark::Reset),
+            Some((Code::Reset, 0)),
+            2,
+        ),
+    ];
+    for case in &cases {
+        for cut in 0..=case.bytes.len() {
+            assert_eq!(rt;
+                read_cut(rt.alloc(), case.reading, case.bytes, cut, case.mark)?,
+                (case.outcome, case.left)
+            );
+        }
+    }
+    Ok(())
+}
+
+/// Each is whole however its room is cut.
+#[test]
+fn composed_writes_give_the_same_for_every_cut(rt: HostRuntime) -> Result<(), NoMemory> {
+    let cases: [(&[u8], u32, Option<WriteMark>, Option<(Code, u32)>, usize); 5] = [
+        (b"abcd", 11, None, Some((Code::Ok, 4)), 4),
+        (
+            b"abcd",
+            2,
+            Some(WriteMark::Broken),
+            Some((Code::Broken, 2)),
+            2,
+        ),
+        (
+            b"abcd",
+            3,
+            Some(WriteMark::Reset),
+            Some((Code::Reset, 3)),
+            3,
+        ),
+        (b"hi\n", 64, None, Some((Code::Ok, 3)), 3),
+        (b"hi\n", 2, None, None, 2),
+    ];
+    for (bytes, room, mark, outcome, sent) in cases {
+        let writing = Writing::All { bytes };
+        for cut in 0..=room {
+            if bytes.len() < 8 {
+                assert_eq!(rt;
+                    write_cut(rt.alloc(), writing, room, cut, mark)?,
+                    (outcome, sent)
+                );
+            }
+        }
+    }
+    Ok(())
+}
+
+/// A read or a write of some bytes completes with what is there at first.
+#[test]
+fn what_is_there_is_enough_for_some(rt: HostRuntime) -> Result<(), NoMemory> {
+    let alloc = rt.alloc();
+    let some = |size| Reading::Some { size };
+    let eof = Some(ReadMark::Eof);
+    let reset = Some(ReadMark::Reset);
+    assert_eq!(rt;
+        read_cut(alloc, some(2), b"abc", 3, None)?,
+        (Some((Code::Ok, 2)), 1)
+    );
+    assert_eq!(rt;
+        read_cut(alloc, some(2), b"abc", 1, None)?,
+        (Some((Code::Ok, 1)), 2)
+    );
+    assert_eq!(rt;
+        read_cut(alloc, some(4), b"", 0, eof)?,
+        (Some((Code::Eof, 0)), 0)
+    );
+    assert_eq!(rt;
+        read_cut(alloc, some(4), b"", 0, reset)?,
+        (Some((Code::Reset, 0)), 0)
+    );
+    let writing = Writing::Some { bytes: b"abc" };
+    assert_eq!(rt;
+        write_cut(alloc, writing, 2, 2, None)?,
+        (Some((Code::Ok, 2)), 2)
+    );
+    Ok(())
+}
+
+/// What every operation here asks for: a line, or two bytes to write.
+struct Asked;
+
+impl Asks for Asked {
+    ghost use Rattle.std.specs.Prelude.{[], ◌∷◌, ⊤};
+    ghost use Rattle.stream_rules.specs.Serving.{Until, All_of};
+
+    ghost IsReading = { λ _ _. ⊤ };
+
+    ghost IsWriting = { λ _ _. ⊤ };
+
+    ghost reads = { λ _ _. Until (13 ∷ 10 ∷ []) 64 };
+
+    ghost writes = { λ _ _. All_of (97 ∷ 98 ∷ []) };
+
+    fn reading(&self, _op: OpNo) -> Reading<'_> {
+        Reading::Until {
+            delimiter: b"\r\n",
+            max: 64,
+        }
+    }
+
+    fn writing(&self, _op: OpNo) -> Writing<'_> {
+        Writing::All { bytes: b"ab" }
+    }
+}
+
+fn queued(op: OpNo) -> Queued {
+    Queued {
+        op,
+        accepted: op,
+        moved: 0,
+    }
+}
+
+fn two_queued(alloc: Global) -> Result<VecDeque<Queued>, NoMemory>
+    ensures { IfOk result (λ queue. deque_len queue ≡ 2) }
+{
+    let mut queue = VecDeque::with_capacity(alloc, 2)?;
+    queue.push_back_reserved(queued(0));
+    queue.push_back_reserved(queued(1));
+    Ok(queue)
+}
+
+/// The second of two lines begins where the first one ended, and both are whole at once.
+#[test]
+fn two_lines_are_read_in_order(rt: HostRuntime) -> Result<(), NoMemory> {
+    let mut queue = two_queued(rt.alloc())?;
+    let mut completed = Vec::with_capacity(rt.alloc(), 2)?;
+    let mut pipe = Pipe::make(rt.alloc(), 8, 0)?;
+    pipe.inbound.feed(b"ab\r");
+    serve_reads(&Asked, &mut queue, &mut pipe, &mut completed);
+    assert_eq!(rt; completed.len(), 0);
+    pipe.inbound.feed(b"\ncd\r\n");
+    serve_reads(&Asked, &mut queue, &mut pipe, &mut completed);
+    let outcome = (Code::Ok, 4);
+    let lines = [Completion { op: 0, outcome }, Completion { op: 1, outcome }];
+    assert_eq!(rt; completed.as_slice(), lines.as_slice());
+    Ok(())
+}
+
+/// A write that stays has its bytes so far sent, and the next one waits behind it.
+#[test]
+fn a_write_that_stays_keeps_what_it_sent(rt: HostRuntime) -> Result<(), NoMemory> {
+    let mut queue = two_queued(rt.alloc())?;
+    let mut completed = Vec::with_capacity(rt.alloc(), 2)?;
+    let mut pipe = Pipe::make(rt.alloc(), 0, 3)?;
+    pipe.outbound.add_room(1);
+    serve_writes(&Asked, &mut queue, &mut pipe, &mut completed);
+    assert_eq!(rt; queue.front().map(|head| head.moved), Some(1));
+    pipe.outbound.add_room(2);
+    serve_writes(&Asked, &mut queue, &mut pipe, &mut completed);
+    let outcome = (Code::Ok, 2);
+    assert_eq!(rt;
+        completed.as_slice(),
+        [Completion { op: 0, outcome }].as_slice()
+    );
+    assert_eq!(rt;
+        queue.front().map(|head| (head.op, head.moved)),
+        Some((1, 1))
+    );
+    assert_eq!(rt; pipe.outbound.sent(), b"aba".as_slice());
+    Ok(())
+}
+
+/// The search goes on behind what was seen, and finds a delimiter that begins there.
+#[test]
+fn a_delimiter_may_begin_in_what_was_seen(rt: HostRuntime) -> Result<(), NoMemory> {
+    assert_eq!(rt; first_end(b"\r\n", b"a\rb\r", 0), None);
+    assert_eq!(rt; first_end(b"\r\n", b"a\rb\r\nc\r\n", 4), Some(5));
+    Ok(())
+}
