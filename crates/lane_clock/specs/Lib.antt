@@ -1,0 +1,12 @@
+pub mod ClockWord
+pub mod NoteWord
+pub mod Layout
+pub mod Rows
+pub mod Knowledge
+pub mod Seats
+pub mod Steps
+pub mod Rule
+pub mod History
+pub mod Plays
+pub mod Changes
+pub mod Laws

@@ -1,0 +1,91 @@
+//! The fact that each step on the table keeps, and what each tells its caller.
+use crate::plan::Plan;
+use crate::step::View;
+use atomic_table::{Join, Play, Seat, Split, Table, TableRule};
+use std::alloc::Global;
+
+/// The table's words and all that seats know are parts of one history.
+pub(crate) struct Chronicle;
+
+impl TableRule<(), View, Plan> for Chronicle {
+    ghost use Rattle.lane_clock.specs.History.{IsKept, giver};
+
+    ghost holds = { λ plan s. IsKept plan s };
+
+    ghost first = { giver };
+}
+
+pub(crate) type WordTable = Table<(), View, Plan, Chronicle, Global>;
+
+pub(crate) type TableSeat = Seat<(), View>;
+
+pub(crate) struct Draws;
+
+impl Play<(), View> for Draws {
+    ghost use Rattle.lane_clock.specs.Plays.{draws};
+
+    ghost then = { draws };
+}
+
+pub(crate) struct Loads;
+
+impl Play<(), View> for Loads {
+    ghost use Rattle.lane_clock.specs.Plays.{loads};
+
+    ghost then = { loads };
+}
+
+pub(crate) struct Places;
+
+impl Play<(), View> for Places {
+    ghost use Rattle.lane_clock.specs.Plays.{places};
+
+    ghost then = { places };
+}
+
+pub(crate) struct Puts;
+
+impl Play<(), View> for Puts {
+    ghost use Rattle.lane_clock.specs.Plays.{puts};
+
+    ghost then = { puts };
+}
+
+pub(crate) struct Looks;
+
+impl Play<(), View> for Looks {
+    ghost use Rattle.lane_clock.specs.Plays.{looks};
+
+    ghost then = { looks };
+}
+
+// A number of the giver's goes to a new seat.
+pub(crate) struct Gives;
+
+impl Split<View> for Gives {
+    ghost use Rattle.lane_clock.specs.Plays.{giver_after, given};
+
+    ghost left = { giver_after };
+
+    ghost right = { given };
+}
+
+pub(crate) struct Copies;
+
+impl Split<View> for Copies {
+    ghost use Rattle.lane_clock.specs.Plays.{copy_view};
+
+    ghost left = { λ v. v };
+
+    ghost right = { copy_view };
+}
+
+pub(crate) struct TakesIn;
+
+impl Join<View> for TakesIn {
+    ghost use Rattle.lane_clock.specs.Plays.{join_view, spent};
+
+    ghost both = { λ v w. join_view v w.known };
+
+    ghost spent = { spent };
+}

@@ -1,0 +1,37 @@
+use crate::found::{Change, Found};
+use crate::note::Note;
+use crate::plan::Plan;
+use std::collections::LinkedList;
+
+/// One step of a seat, with what it found. No value of it is made: contracts list what a seat did.
+pub enum Step {
+    /// A position was drawn, which is the clock found.
+    Draw(Change, Found),
+    /// The clock word was read.
+    Load(Found),
+    /// A place of this lane was drawn.
+    Place(u32, u64),
+    /// A note was put into the cell at this place of this lane.
+    Put(u32, u32, Note),
+    /// The cell at this place of this lane was looked at, and what it held.
+    Look(u32, u32, Option<Note>),
+    /// Another seat's steps were taken in: of each number so many as were known there.
+    Join(LinkedList<u64>),
+}
+
+/// What is known of the steps under one number. No value of it is made.
+pub struct Known {
+    /// Whether they are all there are, and only who knows this goes on with them.
+    pub mine: bool,
+    /// The steps, the oldest first.
+    pub steps: LinkedList<Step>,
+}
+
+/// What a seat of the table knows. No value of it is made.
+pub struct View {
+    pub plan: Plan,
+    /// The number under which the seat steps.
+    pub number: u64,
+    /// What is known of each number.
+    pub known: LinkedList<Known>,
+}
