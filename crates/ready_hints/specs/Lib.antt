@@ -1,0 +1,2 @@
+pub mod HintRule
+pub mod Hints
