@@ -51,3 +51,4 @@ pub mod BuildingLemmas
 pub mod WritingLemmas
 pub mod TextOrderLemmas
 pub mod SpokenLemmas
+pub mod FaultLemmas

@@ -1,0 +1,4 @@
+pub mod CountLemmas
+pub mod NoteLemmas
+pub mod TextLemmas
+pub mod WordLemmas

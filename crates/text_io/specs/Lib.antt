@@ -1,0 +1,4 @@
+pub mod Counts
+pub mod Note
+pub mod Seen
+pub mod Text
