@@ -6,7 +6,8 @@ ghost use Rattle.op_handlers.specs.Job.{answer};
 
 use asio_types::{Class, NoMemory, Sink, StdSink, StdSource, class_of, write_all};
 use op_handlers::{Handler, Rack, Ran, Spend};
-use session_run::{HANDLERS, Status, asio_session};
+use session_run::{Status, asio_session};
+use session_script::MOST_ACTS;
 use std::env;
 use std::process::ExitCode;
 use std::rt::Env;
@@ -40,7 +41,9 @@ fn words_of<R: Env + AllocGlobal>(rt: &R) -> Result<Vec<String>, NoMemory> {
 }
 
 /// Says that memory ran out before the session began.
-fn want_of_memory<N: Sink>(notes: &mut N) -> Status {
+fn want_of_memory<N: Sink>(notes: &mut N) -> Status
+    ensures { result ≡ Status.NoMemory }
+{
     let _ = write_all(notes, Status::NoMemory.note());
     Status::NoMemory
 }
@@ -50,10 +53,10 @@ fn main(rt: HostRuntime) -> ExitCode {
     let mut source = StdSource::of(rt.stdin());
     let mut out = StdSink::of(rt.stdout());
     let mut notes = StdSink::of(rt.stderr());
-    let Ok(mut handlers) = Vec::<Option<Handler>>::with_capacity(alloc, HANDLERS as usize) else {
+    let Ok(mut handlers) = Vec::<Option<Handler>>::with_capacity(alloc, MOST_ACTS as usize) else {
         return ExitCode::from(want_of_memory(&mut notes).number());
     };
-    for n in 0..HANDLERS as u64 {
+    for n in 0..MOST_ACTS as u64 {
         let mark = 1000 + n;
         let boxed = Box::new(
             alloc,

@@ -1,3 +1,14 @@
 pub mod Decimals
+pub mod LaneLemmas
+pub mod LimitLemmas
+pub mod PerformingLemmas
 pub mod Pieces
+pub mod PlayedLemmas
+pub mod QueueRoomLemmas
+pub mod QueuesLemmas
 pub mod Reading
+pub mod RoomLemmas
+pub mod SettledLemmas
+pub mod SettlingLemmas
+pub mod TimeLemmas
+pub mod VersionLemmas

@@ -1,34 +1,64 @@
-ghost use Rattle.std.specs.Prelude.{◌≡◌};
-ghost use Rattle.history_book.specs.State.{is_open, is_uncalled, is_running, is_outstanding};
-
 use asio_types::{Class, Code};
 
-/// How far the initiating call of an act has come.
+/// How far the initiating call of an act has come. Places of events are counted without stops from outside.
 #[derive(Clone, Copy, Debug, PartialEq, Eq)]
 pub enum CallPhase {
     /// It wasn't made.
     Uncalled,
-    /// It was made and hasn't returned.
-    Open,
+    /// It was made at this place and hasn't returned.
+    Open { called: u64 },
     /// It is a stop that has stopped the context, and hasn't returned.
-    Stopping,
+    Stopping { called: u64 },
     /// It has returned.
+    Back { called: u64, back: u64 },
+}
+
+/// What made an operation ready.
+#[derive(Clone, Copy, Debug, PartialEq, Eq)]
+pub enum Cause {
+    /// It was posted.
+    Posted,
+    /// It completed at this place, in a turn of the reactor that began at that one.
+    Completed { done: u64, turn: u64 },
+}
+
+/// How many calls of a body were made, and how many have returned.
+#[derive(Clone, Copy, Debug, PartialEq, Eq)]
+pub struct Progress {
+    /// The calls made.
+    pub made: u64,
+    /// Those that have returned.
+    pub back: u64,
+}
+
+/// How a body comes further.
+#[derive(Clone, Copy, Debug, PartialEq, Eq)]
+pub enum Step {
+    /// One more call was made.
+    Made,
+    /// One more call is back.
     Back,
 }
 
-/// How far an operation has come.
+/// What has become of an act beyond its call.
 #[derive(Clone, Copy, Debug, PartialEq, Eq)]
-pub enum OpPhase {
-    /// It wasn't accepted, or its act is no operation.
+pub enum ActPhase {
+    /// Nothing: it wasn't called, or it is a stop.
     Absent,
+    /// A dispatch that executes inside its call, and hasn't begun.
+    Inside,
+    /// An asynchronous operation that hasn't completed.
+    Requested,
     /// Its handler is ready with this code and size.
-    Ready { code: Code, size: u32 },
+    Ready { code: Code, size: u32, cause: Cause },
     /// Its handler runs the branch of this class.
-    Running { class: Class },
+    Running { class: Class, progress: Progress },
     /// Its handler has returned.
     Ended,
     /// Its handler was destroyed without a call.
     Dropped,
+    /// A control act, which asks the reactor for a change.
+    Asked,
 }
 
 /// What has become of one act.
@@ -36,34 +66,17 @@ pub enum OpPhase {
 pub struct ActState {
     /// Its initiating call.
     pub call: CallPhase,
-    /// Its operation.
-    pub op: OpPhase,
+    /// All else.
+    pub phase: ActPhase,
 }
 
-/// Whether the call was made and hasn't returned.
-pub(crate) fn is_open(call: CallPhase) -> bool
-    ensures { result ≡ is_open call }
-{
-    matches!(call, CallPhase::Open | CallPhase::Stopping)
-}
-
-/// Whether the call wasn't made.
-pub(crate) fn is_uncalled(call: CallPhase) -> bool
-    ensures { result ≡ is_uncalled call }
-{
-    call == CallPhase::Uncalled
-}
-
-/// Whether the handler runs.
-pub(crate) fn is_running(op: OpPhase) -> bool
-    ensures { result ≡ is_running op }
-{
-    matches!(op, OpPhase::Running { .. })
-}
-
-/// Whether the operation was accepted and its handler wasn't spent.
-pub(crate) fn is_outstanding(op: OpPhase) -> bool
-    ensures { result ≡ is_outstanding op }
-{
-    matches!(op, OpPhase::Ready { .. } | OpPhase::Running { .. })
+/// How many more executions a lane may begin after a stop.
+#[derive(Clone, Copy, Debug, PartialEq, Eq)]
+pub enum Allowance {
+    /// Any number.
+    Free,
+    /// One more.
+    One,
+    /// No more.
+    Nothing,
 }

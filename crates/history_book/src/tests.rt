@@ -1,52 +1,129 @@
-use super::*;
-use asio_types::{Code, Event};
-use session_script::read_script;
-use std::test::Fail;
+//! Worked sessions: each trace is legal and whole, told and untold, and no other order of two neighbouring lines is legal but where
+//! the session allows it.
 
-const STOPPED: &[u8] = b"session 1 open { post - { } stop } run 1";
+mod rows;
 
-const CODE: Code = Code::Ok;
+use crate::Replay;
+use asio_types::{Code, Event, NoMemory};
+use rows::{SESSIONS, Session};
+use session_script::{Script, read_script};
+use std::alloc::Global;
+
+fn code_of(word: &str) -> Code {
+    match word {
+        "ok" => Code::Ok,
+        "aborted" => Code::Aborted,
+        "eof" => Code::Eof,
+        "not_found" => Code::NotFound,
+        "bad" => Code::Bad,
+        "broken" => Code::Broken,
+        _ => Code::Reset,
+    }
+}
+
+fn number(word: Option<&str>) -> u32 {
+    match word {
+        Some(word) => word.parse().unwrap_or(u32::MAX),
+        None => u32::MAX,
+    }
+}
+
+/// The event of a line; numbers that can't be read are the greatest.
+fn event_of(line: &str) -> Event {
+    let mut words = line.split(' ');
+    let kind = words.next().unwrap_or("");
+    let first = words.next();
+    let second = words.next();
+    let third = words.next();
+    let (act, op) = (number(first), number(first));
+    match kind {
+        "call" => Event::Call { act },
+        "back" => Event::Back { act },
+        "stop" => Event::Stop { act: Some(act) },
+        "begin" => Event::Begin {
+            op,
+            code: code_of(second.unwrap_or("")),
+            size: number(third),
+        },
+        "end" => Event::End {
+            op,
+            mark: number(second) as u64,
+        },
+        "take" => Event::Take { act },
+        "done" => Event::Done {
+            op,
+            code: code_of(second.unwrap_or("")),
+            size: number(third),
+        },
+        "tick" => Event::Tick {
+            now: number(first) as u64,
+        },
+        "last" => Event::Last,
+        "fault" => Event::Fault,
+        "ended" => Event::Ended,
+        "stopped" => Event::Stopped,
+        "polled" => Event::Polled,
+        "restart" => Event::Restart,
+        _ => Event::Dropped {
+            op,
+            mark: number(second) as u64,
+        },
+    }
+}
+
+fn events_of(alloc: Global, trace: &str) -> Result<Vec<Event>, NoMemory> {
+    let mut events = Vec::new(alloc);
+    for line in trace.split(" / ") {
+        events.push(event_of(line))?;
+    }
+    Ok(events)
+}
+
+/// Whether the events are a legal, whole history of the script.
+fn is_legal(
+    alloc: Global,
+    script: &Script,
+    told: bool,
+    events: &[Event],
+) -> Result<bool, NoMemory> {
+    let mut replay = Replay::make(alloc, script, told)?;
+    for event in events {
+        if !replay.step(*event) {
+            return Ok(false);
+        }
+    }
+    Ok(replay.whole())
+}
+
+/// Whether the session is legal, and its neighbouring lines may be exchanged exactly where it says so.
+fn is_as_said(alloc: Global, session: &Session, told: bool) -> Result<bool, NoMemory> {
+    let Ok(script) = read_script(alloc, session.script.as_bytes()) else {
+        return Ok(false);
+    };
+    let mut events = events_of(alloc, session.trace)?;
+    if !is_legal(alloc, &script, told, events.as_slice())? {
+        return Ok(false);
+    }
+    for place in 1..events.len() {
+        events.swap(place - 1, place);
+        let legal = is_legal(alloc, &script, told, events.as_slice())?;
+        events.swap(place - 1, place);
+        if legal != session.exchanges.contains(&place) {
+            return Ok(false);
+        }
+    }
+    Ok(true)
+}
 
 #[test]
-fn a_replay_takes_the_legal_events_alone(rt: HostRuntime) -> Result<(), Fail> {
-    let script = read_script(rt.alloc(), STOPPED)?;
-    let mut replay = Replay::make(rt.alloc(), &script, true)?;
-    for (event, legal, left) in [
-        (Event::Call { act: 1 }, false, 0),
-        (Event::Call { act: 0 }, true, 1),
-        (Event::Call { act: 1 }, false, 1),
-        (Event::Back { act: 0 }, true, 1),
-        (
-            Event::Begin {
-                op: 0,
-                code: CODE,
-                size: 0,
-            },
-            false,
-            1,
-        ),
-        (Event::Call { act: 1 }, true, 1),
-        (Event::Back { act: 1 }, false, 1),
-        (Event::Stop { act: Some(1) }, true, 1),
-        (Event::Back { act: 1 }, true, 1),
-        (
-            Event::Begin {
-                op: 0,
-                code: CODE,
-                size: 0,
-            },
-            false,
-            1,
-        ),
-        (Event::Ended, false, 1),
-        (Event::Dropped { op: 0, mark: 5 }, false, 1),
-        (Event::Stopped, true, 1),
-        (Event::Dropped { op: 1, mark: 5 }, false, 1),
-        (Event::Dropped { op: 0, mark: 5 }, true, 0),
-        (Event::Dropped { op: 0, mark: 5 }, false, 0),
-    ] {
-        assert_eq!(rt; replay.step(event), legal, "{event:?}");
-        assert_eq!(rt; replay.outstanding(), left, "{event:?}");
+fn worked_sessions_are_legal_in_their_orders_alone(rt: HostRuntime) -> Result<(), NoMemory> {
+    for session in &SESSIONS {
+        assert!(rt; is_as_said(rt.alloc(), session, true)?, "{}", session.shows);
+        assert!(rt;
+            is_as_said(rt.alloc(), session, false)?,
+            "{}",
+            session.shows
+        );
     }
     Ok(())
 }

@@ -1,44 +1,24 @@
 -- A session whose reading and writing don't fail ends well.
-use Rattle.std.proofs.Common.{◌≡◌, ◌≤◌, ℕ, List, take, length, refl, ap, arith, ◌∙◌, ◌⊎◌, inl, inr, subst}
-use Rattle.std.specs.Prelude.{Option, Some, None, ⊤}
-use Rattle.std.proofs.lemmas.List.{take_all}
+use Rattle.std.proofs.Common.{◌≡◌, ℕ, List, refl, arith, ◌⊎◌, inl, inr, subst}
+use Rattle.std.specs.Prelude.{Some, ⊤}
 use Rattle.session_script.specs.Script.{ScriptModel}
-use Rattle.session_script.specs.Limits.{most_bytes, most_read}
-use Rattle.session_script.specs.Grammar.{IsScript, fault_of, first_fault}
-use Rattle.session_script.proofs.ReadingBack.{spells}
-use Rattle.session_script.specs.declared.refusal.Refusal.{Refusal}
+use Rattle.session_script.specs.Limits.{most_read}
+use Rattle.session_script.specs.Grammar.{IsScript}
+use Rattle.session_script.proofs.FaultLemmas.{no_fault, one_script, script_size}
 use Rattle.session_run.specs.Built.{IsBuilt}
 use Rattle.op_handlers.specs.Marks.{Marks}
-use Rattle.session_run.specs.Answer.{Does, HasFault, Says, Stood, Writes, WritesPart}
+use Rattle.session_run.specs.Answer.{Does, HasFault, Says}
 use Rattle.session_run.specs.Given.{Given}
 use Rattle.session_run.specs.Run.{ShowsFault}
-use Rattle.asio_types.specs.Faults.{Rose}
 use Rattle.session_run.specs.Form.{HasForm, IsForm, IsRun, IsUpgrade}
-use Rattle.session_run.specs.Text.{ReadsText}
 use Rattle.session_run.specs.declared.form.Form.{Form}
 use Rattle.session_run.specs.declared.form.Form.TheVariants as forms
 use Rattle.session_run.specs.declared.status.Status.{Status}
 use Rattle.session_run.specs.declared.status.Status.TheVariants as status
-
--- the text of a source that has a script's bytes
-text_of : (told : Option (List ℕ)) (text : List ℕ) (after : Option (List ℕ)) (bytes : List ℕ) → told ≡ Some bytes → length bytes ≤ most_bytes → ReadsText told text after → text ≡ bytes
-text_of None text after bytes same few read = cc same
-text_of (Some before) text after bytes same few read =
-    let e : before ≡ bytes = cc in read.0 ∙ ap (take most_read) e ∙ take_all most_read bytes (omega (arith, few))
-
--- a script is no longer than its limit
-script_size : (bytes : List ℕ) (script : ScriptModel) → IsScript bytes script → length bytes ≤ most_bytes
-script_size bytes script is = (spells bytes script is).size
-
--- a text of a script has no fault
-no_fault : (bytes : List ℕ) (script : ScriptModel) (refusal : Refusal) → IsScript bytes script → first_fault bytes ≡ Some refusal → ⊥
-unfolding IsScript first_fault
-no_fault bytes script refusal is fault = cc (ap fault_of is, fault)
-
--- a text has one script
-one_script : (bytes : List ℕ) (first second : ScriptModel) → IsScript bytes first → IsScript bytes second → first ≡ second
-unfolding IsScript
-one_script bytes first second one other = cc (one, other)
+use Rattle.text_io.specs.Counts.{Stood}
+use Rattle.text_io.specs.Seen.{Writes, WritesPart}
+use Rattle.text_io.proofs.CountLemmas.{stood}
+use Rattle.text_io.proofs.TextLemmas.{text_of}
 
 -- a text of a script isn't refused, where the script is built if it is to be run
 not_refused : (bytes : List ℕ) (script : ScriptModel) (form : Form) (rule line token : ℕ) → IsScript bytes script → (form ≡ forms.Run → IsBuilt script) → HasFault form bytes rule line token → ⊥
@@ -60,10 +40,6 @@ pub record Undisturbed {H : Type 0} (given : Given H) (bytes : List ℕ) (script
 other_form : (words : List (List ℕ)) → IsRun words → IsUpgrade words → ⊥
 other_form words run upgrade = cc (run, upgrade)
 
--- a count that stood didn't rise
-stood : (before after : ℕ) → Stood before after → Rose before after → ⊥
-stood before after still rose = absurd (omega (arith, rose (omega (arith, still.0)), still.1))
-
 -- where nothing fails, a script is run to its end or its upgrade is written
 pub complete : {H : Type 0} (marks : H → Marks) (given : Given H) (answer : Status) (note : List ℕ) → Says marks given answer note → (bytes : List ℕ) (script : ScriptModel) → Undisturbed given bytes script → (answer ≡ status.Done) ⊎ (answer ≡ status.NoMemory)
 complete marks given status.Done note said bytes script calm = inl refl
@@ -71,7 +47,7 @@ complete marks given status.NoMemory note said bytes script calm = inr refl
 complete marks given status.Usage note said bytes script calm = absurd (said.0 calm.form)
 complete marks given status.Refused note (form, rule, line, token, words, why, same) bytes script calm =
     absurd (not_refused bytes script form rule line token calm.is (λ run. calm.built (subst (IsForm given.words) run words))
-    (subst (λ text. HasFault form text rule line token) (text_of given.source.told_before why.text given.source.told_after bytes calm.told (script_size bytes script calm.is) why.read) why.fault))
+    (subst (λ text. HasFault form text rule line token) (text_of most_read given.source.told_before why.text given.source.told_after bytes calm.told (omega (arith, script_size bytes script calm.is)) why.read) why.fault))
 complete marks given status.ReadFault note said bytes script calm = absurd (stood given.source.faults_before given.source.faults_after calm.read said.1)
 complete marks given status.WriteFault note said bytes script calm = absurd (wrote said.0.form said.0.work)
   where

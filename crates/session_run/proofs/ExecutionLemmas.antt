@@ -1,138 +1,89 @@
 -- Executions of ready postings, one after another.
-use Rattle.std.proofs.Common.{◌≡◌, ◌≢◌, ℕ, ◌+◌, ◌<◌, true, false, length, refl, arith, ap, subst, sym, ◌⊎◌, inl, inr, ◌∙◌}
-use Rattle.std.proofs.lemmas.Bool.Decides.{eqb_tells}
-use Rattle.asio_types.specs.declared.code.Class.TheVariants as class
+use Rattle.std.proofs.Common.{◌≡◌, ◌≢◌, ℕ, ◌+◌, ◌<◌, ◌≤◌, Bool, true, false, length, refl, arith, ap, subst, sym, ◌⊎◌, inl, inr, ◌∙◌}
+use Rattle.std.specs.Prelude.{Some, List, [], ◌∷◌, map, nat_lt, ◌==◌, ◌&&◌, if◌then◌else◌}
 use Rattle.std.proofs.Math.Nat.{eq-or-lt_of_le}
 use Rattle.std.proofs.Math.ListN.{length-set}
-use Rattle.asio_types.specs.declared.code.Code.TheVariants as code
-use Rattle.session_script.specs.Script.{ScriptModel, branch_of, is_op, numbers_in}
-use Rattle.std.specs.Prelude.{All, None, Some, List, [], ◌∷◌, map}
-use Rattle.session_script.specs.declared.act.Act.{Act}
+use Rattle.std.proofs.lemmas.Bool.Decides.{eqb_tells}
 use Rattle.asio_types.specs.declared.code.Class.{Class}
-use Rattle.history_book.specs.State.{State, act_at, call_at, op_at, is_outstanding, with_op}
+use Rattle.asio_types.specs.declared.code.Class.TheVariants as class
+use Rattle.asio_types.specs.declared.code.Code.TheVariants as code
+use Rattle.asio_types.specs.declared.number.Lane.{Lane}
+use Rattle.asio_types.specs.declared.number.Lane.TheVariants as lane
+use Rattle.session_script.specs.declared.act.Act.{Act}
+use Rattle.session_script.specs.Lanes.{lane_of}
+use Rattle.session_script.specs.Script.{ScriptModel, branch_of, is_op, numbers_in}
 use Rattle.history_book.specs.Calls.{accepted}
-use Rattle.history_book.specs.Executions.{MayBegin, after_begin, after_end}
-use Rattle.history_book.specs.Rounds.{RoundIsOpen, MayDrop, after_drop}
+use Rattle.history_book.specs.Executions.{after_begin, after_end, begun, has_finished}
+use Rattle.history_book.specs.Legal.{MayHappen, after_event}
+use Rattle.history_book.specs.Order.{IsFirstOfLane, goes_before}
+use Rattle.history_book.specs.Rounds.{after_drop, is_outstanding, is_running, is_unspent}
+use Rattle.history_book.specs.State.{ContextState, State, act_at, counted, no_progress, phase_at, with_phase}
+use Rattle.history_book.specs.Stopping.{MayStart, allowance_of, spend}
+use Rattle.history_book.specs.declared.phase.ActPhase.{ActPhase}
+use Rattle.history_book.specs.declared.phase.ActPhase.TheVariants as phase
+use Rattle.history_book.specs.declared.phase.ActState.{ActState}
+use Rattle.history_book.specs.declared.phase.Allowance.TheVariants as allowance
 use Rattle.history_book.specs.declared.phase.CallPhase.TheVariants as call
-use Rattle.history_book.specs.declared.phase.OpPhase.{OpPhase}
-use Rattle.history_book.specs.declared.phase.OpPhase.TheVariants as op
-use Rattle.std.proofs.lemmas.List.{length-map}
-use Rattle.session_run.specs.Progress.{RanTo, SpentTo, IsPostings, in_open}
-use Rattle.session_run.proofs.OpeningLemmas.{All-numbers, act_at-same, act_at-other}
-
--- the round of postings is open once all calls are back
-pub round_open : (script : ScriptModel) (s : State) → IsPostings script → ((i : ℕ) → i < length script.acts → call_at s i ≡ call.Back) → s.closings ≡ 0 → RoundIsOpen script s
-round_open script s postings back closings =
-    record {
-      opened = subst (λ entries. All (λ n. call_at s n ≡ call.Back) (numbers_in None 0 entries)) (sym postings.listed)
-          (All-numbers (λ n. call_at s n ≡ call.Back) 0 postings.acts (λ j from below. back j (omega (arith, below, ap length postings.listed, length-map postings.acts in_open))));
-      left = omega (arith, closings, postings.once);
-    }
+use Rattle.history_book.specs.declared.phase.Cause.TheVariants as cause
+use Rattle.asio_types.specs.declared.event.Event.TheVariants as event
+use Rattle.session_run.specs.Progress.{IsBackIn, RanTo, SpentTo, IsPostings, in_open}
+use Rattle.session_run.proofs.OpeningLemmas.{act_at-same, act_at-other}
+use Rattle.session_run.proofs.OwnLaneLemmas.{own_alone, own_lane}
+use Rattle.session_run.proofs.PlainLemmas.{accepted_post, accepted_stop, inline_open, no_op_is_stop, op_is_post}
 
 -- an operation is ready once it was accepted
-pub accepted_ready : (script : ScriptModel) (o : ℕ) → is_op script o ≡ true → accepted script o ≡ op.Ready code.Ok 0
-accepted_ready script o is = rw is refl
+pub accepted_ready : (script : ScriptModel) (o : ℕ) → IsPostings script → o < length script.acts → is_op script o ≡ true → accepted script o ≡ phase.Ready code.Ok 0 cause.Posted
+accepted_ready script o postings below is = accepted_post script o postings (op_is_post script o postings below is)
 
--- one operation was changed, and the others stay
-pub op_at-same : (s : State) (n : ℕ) (new : OpPhase) → n < length s.acts → op_at (with_op s n new) n ≡ new
-op_at-same s n new below = ap (λ act. act.op) (act_at-same s n (record (act_at s n) { op = new }) below)
+-- an act that is no operation was not accepted
+pub not_accepted : (script : ScriptModel) (o : ℕ) → IsPostings script → o < length script.acts → is_op script o ≡ false → accepted script o ≡ phase.Absent
+not_accepted script o postings below isnt = accepted_stop script o postings (no_op_is_stop script o postings below isnt)
 
-pub op_at-other : (s : State) (n : ℕ) (new : OpPhase) (j : ℕ) → j ≢ n → op_at (with_op s n new) j ≡ op_at s j
-op_at-other s n new j other = ap (λ act. act.op) (act_at-other s n (record (act_at s n) { op = new }) j other)
+-- one act came to this, and the others stay
+pub phase_at-same : (s : ContextState) (n : ℕ) (new : ActPhase) → n < length s.acts → phase_at (with_phase s n new) n ≡ new
+phase_at-same s n new below = ap (λ (act : ActState). act.phase) (act_at-same s n (record (act_at s n) { phase = new }) below)
+
+pub with_phase-other : (s : ContextState) (n : ℕ) (new : ActPhase) (j : ℕ) → j ≢ n → act_at (with_phase s n new) j ≡ act_at s j
+with_phase-other s n new j other = act_at-other s n (record (act_at s n) { phase = new }) j other
 
 -- a number is this one, or another
 pub same_or_other : (j n : ℕ) → (j ≡ n) ⊎ (j ≢ n)
 same_or_other j n = elim (eqb_tells j n) [ inl same ↦ inl same.1 | inr other ↦ inr other.1 ]
 
--- no call changes
-pub call_at-with_op : (s : State) (n : ℕ) (new : OpPhase) (j : ℕ) → n < length s.acts → call_at (with_op s n new) j ≡ call_at s j
-call_at-with_op s n new j below = by_place (same_or_other j n)
-  where
-    by_place : (j ≡ n) ⊎ (j ≢ n) → call_at (with_op s n new) j ≡ call_at s j
-    by_place (inl same) = rw same (ap (λ act. act.call) (act_at-same s n (record (act_at s n) { op = new }) below))
-    by_place (inr other) = ap (λ act. act.call) (act_at-other s n (record (act_at s n) { op = new }) j other)
+-- an act that is back and was posted isn't before itself
+not_before_itself : (called back : ℕ) → called ≤ back → nat_lt back called ≡ false
+not_before_itself called back order = grind (arith, order)
 
 -- the next ready posting may begin
-pub may_begin_next : (script : ScriptModel) (s : State) (o : ℕ) → IsPostings script → RanTo script s o → o < length script.acts → is_op script o ≡ true → MayBegin script s o code.Ok 0
+pub may_begin_next : (script : ScriptModel) (s : State) (o : ℕ) → IsPostings script → RanTo script s o → o < length script.acts → is_op script o ≡ true → MayHappen script false s (event.Begin o code.Ok 0)
 may_begin_next script s o postings ran below is =
-    record { round = round_open script s postings ran.back ran.closings; ready = ran.ready o (omega arith) below ∙ accepted_ready script o is; allowed = ran.allowed }
-
--- the operations so far have run, and this one
-pub executed : (script : ScriptModel) (s : State) (o : ℕ) → RanTo script s o → o < length script.acts → RanTo script (after_end (after_begin s o code.Ok) o) (o + 1)
-executed script s o ran below =
-    record {
-      size = simp length-set ran.size;
-      back = λ i inside. call_at-with_op t o op.Ended i (simp length-set within) ∙ (call_at-with_op s o running i within ∙ ran.back i inside);
-      ended = λ i before. ended_at i (eq-or-lt_of_le (omega arith));
-      ready = λ i after inside. others i (λ same. absurd (omega (arith, after, same))) ∙ ran.ready i (omega arith) inside;
-      going = ran.going;
-      allowed = ran.allowed;
-      closings = ran.closings;
-    }
+    inl (record { round = ran.round; ready = (cause.Posted, ap (λ (act : ActState). act.phase) here); alone = λ other same. ran.resting other; first = first; allowed = allowed })
   where
-    running : OpPhase
-    running = op.Running class.Ok
+    own : lane_of script o ≡ lane.Own o
+    own = own_lane script o postings (op_is_post script o postings below is)
 
-    t : State
-    t = after_begin s o code.Ok
+    at : IsBackIn (act_at s.context o) (accepted script o)
+    at = ran.ready o (omega arith) below
 
-    within : o < length s.acts
-    within = omega (arith, below, ran.size)
+    here : act_at s.context o ≡ record { call = call.Back at.called at.back; phase = phase.Ready code.Ok 0 cause.Posted }
+    here = at.same ∙ ap (λ (accepts : ActPhase). record { call = call.Back at.called at.back; phase = accepts }) (accepted_ready script o postings below is)
 
-    others : (i : ℕ) → i ≢ o → op_at (after_end t o) i ≡ op_at s i
-    others i other = op_at-other t o op.Ended i other ∙ op_at-other s o running i other
+    itself : goes_before (act_at s.context o) (act_at s.context o) ≡ false
+    itself = ap (λ (act : ActState). goes_before act act) here ∙ not_before_itself at.called at.back at.order
 
-    ended_at : (i : ℕ) → (i ≡ o) ⊎ (i < o) → is_outstanding (op_at (after_end t o) i) ≡ false
-    ended_at i (inl same) = rw same (ap is_outstanding (op_at-same t o op.Ended (simp length-set within)))
-    ended_at i (inr before) = ap is_outstanding (others i (λ same. absurd (omega (arith, before, same)))) ∙ ran.ended i before
+    first : IsFirstOfLane script s.context o
+    first other same =
+        subst (λ n. goes_before (act_at s.context n) (act_at s.context o) ≡ false) (sym (own_alone script other o postings (same ∙ own))) itself
 
--- an act that is no operation was not accepted
-not_accepted : (script : ScriptModel) (o : ℕ) → is_op script o ≡ false → accepted script o ≡ op.Absent
-not_accepted script o isnt = rw isnt refl
+    allowed : MayStart s.context (lane_of script o)
+    allowed none =
+        let e : allowance.Free ≡ allowance.Nothing = sym ran.allowed ∙ (sym (ap (allowance_of s.context.allowances) own) ∙ none) in cc e
 
--- an act without a handler is passed
-pub passed : (script : ScriptModel) (s : State) (o : ℕ) → RanTo script s o → o < length script.acts → is_op script o ≡ false → RanTo script s (o + 1)
-passed script s o ran below isnt =
-    record {
-      size = ran.size;
-      back = ran.back;
-      ended = λ i before. ended_at i (eq-or-lt_of_le (omega arith));
-      ready = λ i after. ran.ready i (omega arith);
-      going = ran.going;
-      allowed = ran.allowed;
-      closings = ran.closings;
-    }
-  where
-    ended_at : (i : ℕ) → (i ≡ o) ⊎ (i < o) → is_outstanding (op_at s i) ≡ false
-    ended_at i (inl same) = rw same (ap is_outstanding (ran.ready o (omega arith) below ∙ not_accepted script o isnt))
-    ended_at i (inr before) = ran.ended i before
-
--- the next operation that never ran may be destroyed
-pub may_drop_next : (script : ScriptModel) (s : State) (o : ℕ) → SpentTo script s o → o < length script.acts → is_op script o ≡ true → MayDrop script s o
-may_drop_next script s o spent below is =
-    record { over = spent.over; left = ap is_outstanding (spent.left o (omega arith) below ∙ accepted_ready script o is); least = spent.spent }
-
--- the operations so far were spent, and this one
-pub destroyed : (script : ScriptModel) (s : State) (o : ℕ) → SpentTo script s o → o < length script.acts → SpentTo script (after_drop s o) (o + 1)
-destroyed script s o spent below =
-    record {
-      size = simp length-set spent.size;
-      over = spent.over;
-      spent = λ i before. spent_at i (eq-or-lt_of_le (omega arith));
-      left = λ i after inside. op_at-other s o op.Dropped i (λ same. absurd (omega (arith, after, same))) ∙ spent.left i (omega arith) inside;
-    }
-  where
-    spent_at : (i : ℕ) → (i ≡ o) ⊎ (i < o) → is_outstanding (op_at (after_drop s o) i) ≡ false
-    spent_at i (inl same) = rw same (ap is_outstanding (op_at-same s o op.Dropped (omega (arith, below, spent.size))))
-    spent_at i (inr before) = ap is_outstanding (op_at-other s o op.Dropped i (λ same. absurd (omega (arith, before, same)))) ∙ spent.spent i before
-
-pub passed_over : (script : ScriptModel) (s : State) (o : ℕ) → SpentTo script s o → o < length script.acts → is_op script o ≡ false → SpentTo script s (o + 1)
-passed_over script s o spent below isnt =
-    record { size = spent.size; over = spent.over; spent = λ i before. spent_at i (eq-or-lt_of_le (omega arith)); left = λ i after. spent.left i (omega arith) }
-  where
-    spent_at : (i : ℕ) → (i ≡ o) ⊎ (i < o) → is_outstanding (op_at s i) ≡ false
-    spent_at i (inl same) = rw same (ap is_outstanding (spent.left o (omega arith) below ∙ not_accepted script o isnt))
-    spent_at i (inr before) = spent.spent i before
+-- a posting that has begun
+begun_own : (script : ScriptModel) (s : ContextState) (o : ℕ) → IsPostings script → lane_of script o ≡ lane.Own o → after_begin script s o code.Ok ≡ counted (begun s o code.Ok)
+begun_own script s o postings own =
+    ap (λ inside. counted (if inside then begun s o code.Ok else spend (lane_of script o) (begun s o code.Ok))) (inline_open script o postings)
+    ∙ ap (λ (on : Lane). counted (spend on (begun s o code.Ok))) own
 
 -- an act of `open` stands in no branch
 none_inside : (o n : ℕ) (class : Class) (acts : List Act) → numbers_in (Some (o, class)) n (map in_open acts) ≡ []
@@ -142,3 +93,107 @@ none_inside o n class (act ∷ acts) = none_inside o (n + 1) class acts
 -- no act stands in a branch
 pub branch_of-postings : (script : ScriptModel) (o : ℕ) (class : Class) → IsPostings script → branch_of script o class ≡ []
 branch_of-postings script o class postings = ap (numbers_in (Some (o, class)) 0) postings.listed ∙ none_inside o 0 class postings.acts
+
+-- its handler makes no call, so it may end at once
+pub may_end_next : (script : ScriptModel) (s : State) (o mark : ℕ) → IsPostings script → RanTo script s o → o < length script.acts → is_op script o ≡ true → MayHappen script false (after_event script false s (event.Begin o code.Ok 0)) (event.End o mark)
+may_end_next script s o mark postings ran below is =
+    ap (λ (t : ContextState). has_finished script o (phase_at t o)) (begun_own script s.context o postings (own_lane script o postings (op_is_post script o postings below is)))
+    ∙ (ap (has_finished script o) (phase_at-same s.context o (phase.Running class.Ok no_progress) (omega (arith, below, ran.size)))
+    ∙ ap (λ branch. nothing_left (length branch)) (branch_of-postings script o class.Ok postings))
+  where
+    nothing_left : ℕ → Bool
+    nothing_left n = (0 == n) && (0 == n)
+
+-- the operations so far have run, and this one
+pub executed : (script : ScriptModel) (s : State) (o mark : ℕ) → IsPostings script → RanTo script s o → o < length script.acts → is_op script o ≡ true → RanTo script (after_event script false (after_event script false s (event.Begin o code.Ok 0)) (event.End o mark)) (o + 1)
+executed script s o mark postings ran below is =
+    subst (λ (t : ContextState). RanTo script (record { context = after_end t o; reactor = s.reactor }) (o + 1))
+    (sym (begun_own script s.context o postings (own_lane script o postings (op_is_post script o postings below is))))
+    (record {
+      size = simp length-set ran.size;
+      round = record { begun = record { opened = ran.round.begun.opened; left = ran.round.begun.left }; restarted = ran.round.restarted; alive = ran.round.alive };
+      ended = λ i before taken. ended_at i taken (eq-or-lt_of_le (omega arith));
+      ready = λ i after inside.
+          subst (λ act. IsBackIn act (accepted script i)) (sym (others i (λ same. absurd (omega (arith, after, same))))) (ran.ready i (omega arith) inside);
+      resting = λ i. rests i (same_or_other i o);
+      going = ran.going;
+      allowed = ran.allowed;
+      reactor = ran.reactor;
+    })
+  where
+    within : o < length s.context.acts
+    within = omega (arith, below, ran.size)
+
+    t : ContextState
+    t = counted (begun s.context o code.Ok)
+
+    others : (i : ℕ) → i ≢ o → act_at (after_end t o) i ≡ act_at s.context i
+    others i other = with_phase-other t o phase.Ended i other ∙ with_phase-other s.context o (phase.Running class.Ok no_progress) i other
+
+    ended_here : phase_at (after_end t o) o ≡ phase.Ended
+    ended_here = phase_at-same t o phase.Ended (simp length-set within)
+
+    ended_at : (i : ℕ) (taken : Bool) → (i ≡ o) ⊎ (i < o) → is_outstanding (phase_at (after_end t o) i) taken ≡ false
+    ended_at i taken (inl same) = ap (λ n. is_outstanding (phase_at (after_end t o) n) taken) same ∙ ap (λ p. is_outstanding p taken) ended_here
+    ended_at i taken (inr before) =
+        ap (λ (act : ActState). is_outstanding act.phase taken) (others i (λ same. absurd (omega (arith, before, same)))) ∙ ran.ended i before taken
+
+    rests : (i : ℕ) → (i ≡ o) ⊎ (i ≢ o) → is_running (phase_at (after_end t o) i) ≡ false
+    rests i (inl same) = ap (λ n. is_running (phase_at (after_end t o) n)) same ∙ ap is_running ended_here
+    rests i (inr other) = ap (λ (act : ActState). is_running act.phase) (others i other) ∙ ran.resting i
+
+-- an act without a handler is passed
+pub passed : (script : ScriptModel) (s : State) (o : ℕ) → IsPostings script → RanTo script s o → o < length script.acts → is_op script o ≡ false → RanTo script s (o + 1)
+passed script s o postings ran below isnt =
+    record {
+      size = ran.size;
+      round = ran.round;
+      ended = λ i before taken. ended_at i taken (eq-or-lt_of_le (omega arith));
+      ready = λ i after. ran.ready i (omega arith);
+      resting = ran.resting;
+      going = ran.going;
+      allowed = ran.allowed;
+      reactor = ran.reactor;
+    }
+  where
+    absent : phase_at s.context o ≡ phase.Absent
+    absent = ap (λ (act : ActState). act.phase) (ran.ready o (omega arith) below).same ∙ not_accepted script o postings below isnt
+
+    ended_at : (i : ℕ) (taken : Bool) → (i ≡ o) ⊎ (i < o) → is_outstanding (phase_at s.context i) taken ≡ false
+    ended_at i taken (inl same) = ap (λ n. is_outstanding (phase_at s.context n) taken) same ∙ ap (λ p. is_outstanding p taken) absent
+    ended_at i taken (inr before) = ran.ended i before taken
+
+-- the next operation that never ran may be destroyed
+pub may_drop_next : (script : ScriptModel) (s : State) (o mark : ℕ) → IsPostings script → SpentTo script s o → o < length script.acts → is_op script o ≡ true → MayHappen script false s (event.Dropped o mark)
+may_drop_next script s o mark postings spent below is =
+    record {
+      over = inl spent.over;
+      next = record { left = ap is_unspent (spent.left o (omega arith) below ∙ accepted_ready script o postings below is); least = spent.spent };
+    }
+
+-- the operations so far were spent, and this one
+pub destroyed : (script : ScriptModel) (s : State) (o mark : ℕ) → SpentTo script s o → o < length script.acts → SpentTo script (after_event script false s (event.Dropped o mark)) (o + 1)
+destroyed script s o mark spent below =
+    record {
+      size = simp length-set spent.size;
+      over = spent.over;
+      spent = λ i before. spent_at i (eq-or-lt_of_le (omega arith));
+      left = λ i after inside. others i (λ same. absurd (omega (arith, after, same))) ∙ spent.left i (omega arith) inside;
+    }
+  where
+    others : (i : ℕ) → i ≢ o → phase_at (after_drop s.context o) i ≡ phase_at s.context i
+    others i other = ap (λ (act : ActState). act.phase) (with_phase-other s.context o phase.Dropped i other)
+
+    spent_at : (i : ℕ) → (i ≡ o) ⊎ (i < o) → is_unspent (phase_at (after_drop s.context o) i) ≡ false
+    spent_at i (inl same) =
+        ap (λ n. is_unspent (phase_at (after_drop s.context o) n)) same
+        ∙ ap is_unspent (phase_at-same s.context o phase.Dropped (omega (arith, below, spent.size)))
+    spent_at i (inr before) = ap is_unspent (others i (λ same. absurd (omega (arith, before, same)))) ∙ spent.spent i before
+
+pub passed_over : (script : ScriptModel) (s : State) (o : ℕ) → IsPostings script → SpentTo script s o → o < length script.acts → is_op script o ≡ false → SpentTo script s (o + 1)
+passed_over script s o postings spent below isnt =
+    record { size = spent.size; over = spent.over; spent = λ i before. spent_at i (eq-or-lt_of_le (omega arith)); left = λ i after. spent.left i (omega arith) }
+  where
+    spent_at : (i : ℕ) → (i ≡ o) ⊎ (i < o) → is_unspent (phase_at s.context i) ≡ false
+    spent_at i (inl same) = ap (λ n. is_unspent (phase_at s.context n)) same ∙ ap is_unspent (spent.left o (omega arith) below ∙ not_accepted script o postings below isnt)
+    spent_at i (inr before) = spent.spent i before

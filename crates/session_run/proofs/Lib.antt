@@ -3,9 +3,8 @@ pub mod ClosingLemmas
 pub mod CompleteLemmas
 pub mod EventLemmas
 pub mod ExecutionLemmas
-pub mod NoteLemmas
 pub mod OpeningLemmas
+pub mod OwnLaneLemmas
+pub mod PlainLemmas
 pub mod RackLemmas
 pub mod RunLemmas
-pub mod TextLemmas
-pub mod WordLemmas

@@ -1,10 +1,10 @@
 -- What each status says of a session.
-use Rattle.std.specs.Prelude.{◌≡◌, ◌≤◌, ◌<◌, ◌+◌, ◌^◌, ◌⊎◌, ℕ, List, Some, ⊤}
+use Rattle.std.specs.Prelude.{◌≡◌, ◌⊎◌, ℕ, List, Some, ⊤}
 use Rattle.asio_types.specs.Faults.{Rose}
-use Rattle.asio_types.specs.Sink.{Extends, ExtendsByPart}
 use Rattle.asio_types.specs.declared.event.Event.{Event}
 use Rattle.session_script.specs.Script.{ScriptModel}
 use Rattle.session_script.specs.Grammar.{IsScript, first_fault}
+use Rattle.session_script.specs.Limits.{most_read}
 use Rattle.session_script.specs.Rules.{number_of_rule}
 use Rattle.session_script.specs.declared.refusal.Refusal.{Refusal}
 use Rattle.history_book.specs.Trace.{trace_of}
@@ -13,24 +13,17 @@ use Rattle.op_handlers.specs.Rack.{handlers_in}
 use Rattle.op_handlers.specs.declared.rack.Rack.{Rack}
 use Rattle.session_run.specs.Built.{IsBuilt}
 use Rattle.session_run.specs.Form.{HasForm, IsForm, IsRun}
-use Rattle.session_run.specs.Given.{Given, Seen, SeenReactor}
+use Rattle.session_run.specs.Given.{Given, SeenReactor}
 use Rattle.session_run.specs.Origin.{IsRead}
 use Rattle.session_run.specs.Run.{IsRunOf, ShowsFault, ShowsNoFault}
 use Rattle.session_run.specs.Status.{note_of, refused_note}
-use Rattle.session_run.specs.Text.{ReadsText}
 use Rattle.session_run.specs.Upgrade.{upgraded_text}
 use Rattle.session_run.specs.declared.form.Form.{Form}
 use Rattle.session_run.specs.declared.form.Form.TheVariants as forms
 use Rattle.session_run.specs.declared.status.Status.{Status}
 use Rattle.session_run.specs.declared.status.Status.TheVariants as status
-
--- all of this was written
-abbrev pub Writes : Seen (List ℕ) → List ℕ → Type 0
-Writes sink text = Extends sink.told_before text sink.told_after
-
--- a first part of this was written, and the sink failed
-abbrev pub WritesPart : Seen (List ℕ) → List ℕ → Type 0
-WritesPart sink text = ExtendsByPart sink.told_before text sink.told_after × Rose sink.faults_before sink.faults_after
+use Rattle.text_io.specs.Seen.{Seen, Writes, WritesPart}
+use Rattle.text_io.specs.Text.{ReadsText}
 
 -- What is done with a script: it is run, and its trace is what is to be written; or the text of its upgrade is, and every
 -- handler stays. Q holds of the events of a run, and P of what is to be written.
@@ -58,7 +51,7 @@ HasFault form text rule line token =
 -- what was read has this fault
 pub record Refuses (form : Form) (source : Seen (List ℕ)) (rule line token : ℕ) : Type 0 where
   pub text : List ℕ
-  pub read : ReadsText source.told_before text source.told_after
+  pub read : ReadsText most_read source.told_before text source.told_after
   pub fault : HasFault form text rule line token
 
 -- what each status says, and which note it leaves
@@ -98,7 +91,3 @@ CountsReads other before after = after ≡ before
 abbrev pub CountsWrites : Status → ℕ → ℕ → Type 0
 CountsWrites status.WriteFault before after = Rose before after
 CountsWrites other before after = after ≡ before
-
--- a count that did not rise in a call, and could have
-abbrev pub Stood : ℕ → ℕ → Type 0
-Stood before after = (before + 1 < 2 ^ 64) × (after ≤ before)

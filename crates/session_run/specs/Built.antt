@@ -29,9 +29,10 @@ IsOneRun [] = ⊥
 IsOneRun (round ∷ []) = (round.restart ≡ false) × (round.pace ≡ pace.Run)
 IsOneRun (round ∷ next ∷ rounds) = ⊥
 
--- Plain postings and stops in `open` itself, no world line, and one round of `run`.
+-- Plain postings and stops in `open` itself, no guard (nothing would release it), no world line, and one round of `run`.
 pub record IsBuilt (script : ScriptModel) : Type 0 where
   pub plain : (n : ℕ) → n < length script.acts → is_plain_at script n ≡ true
   pub in_open : (n : ℕ) → n < length script.acts → parent_of script n ≡ None
+  pub guards : script.guards ≡ 0
   pub world : script.world.lines ≡ []
   pub rounds : IsOneRun script.rounds

@@ -1,4 +1,4 @@
--- How a session ended, before its note is written; and why a part of it was given up.
+-- How a session ended, before its note is written; and why it had no script.
 use Rattle.std.specs.Prelude.{◌≡◌, ℕ, List, Result, Ok, Err}
 use Rattle.asio_types.specs.Faults.{Rose}
 use Rattle.session_run.specs.Status.{note_of, refused_note}
@@ -8,8 +8,6 @@ use Rattle.session_run.specs.declared.status.Status.{Status}
 use Rattle.session_run.specs.declared.status.Status.TheVariants as status
 use Rattle.session_run.specs.declared.origin.NoScript.{NoScript}
 use Rattle.session_run.specs.declared.origin.NoScript.TheVariants as no_script
-use Rattle.session_run.specs.declared.unfinished.Unfinished.{Unfinished}
-use Rattle.session_run.specs.declared.unfinished.Unfinished.TheVariants as unfinished
 
 abbrev pub status_of : Ending → Status
 status_of ending.Done = status.Done
@@ -25,12 +23,6 @@ note_at (ending.Refused refused) = refused_note refused.rule refused.line refuse
 note_at other = note_of (status_of other)
 
 -- a failure raises the count of faults, and every other answer leaves it
-abbrev pub CountsFailures : {T : Type 0} → Result T Unfinished → ℕ → ℕ → Type 0
-CountsFailures (Ok value) old new = new ≡ old
-CountsFailures (Err unfinished.Failed) old new = Rose old new
-CountsFailures (Err unfinished.NoMemory) old new = new ≡ old
-
--- the same, where a script was to be read
 abbrev pub CountsReading : {T : Type 0} → Result T NoScript → ℕ → ℕ → Type 0
 CountsReading (Ok script) old new = new ≡ old
 CountsReading (Err (no_script.Refused refused)) old new = new ≡ old

@@ -1,18 +1,7 @@
 -- The objects that a session is given, as they are seen before and after it.
-use Rattle.std.specs.Prelude.{ℕ, Bool, true, List, Option, None, is_some}
+use Rattle.std.specs.Prelude.{ℕ, Bool, true, List, None, is_some}
 use Rattle.op_handlers.specs.declared.rack.Rack.{Rack}
-
--- an object: what it told, and how often it had failed
-pub record Seen (T : Type 0) : Type 0 where
-  pub told_before : Option T
-  pub told_after : Option T
-  pub faults_before : ℕ
-  pub faults_after : ℕ
-
--- an object of which these two tell
-abbrev pub seen_by : {X T : Type 0} → (X → Option T) → (X → ℕ) → X → X → Seen T
-seen_by told faults before after =
-    record { told_before = told before; told_after = told after; faults_before = faults before; faults_after = faults after }
+use Rattle.text_io.specs.Seen.{Seen}
 
 -- a reactor: the bytes that it tells as sent on each stream, and after the session whether it is set up, and its time
 pub record SeenReactor : Type 0 where

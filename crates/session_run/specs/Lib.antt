@@ -4,11 +4,10 @@ pub mod Built
 pub mod Ending
 pub mod Form
 pub mod Given
-pub mod Limits
 pub mod Origin
 pub mod Progress
 pub mod RackMarks
 pub mod Run
+pub mod SoFar
 pub mod Status
-pub mod Text
 pub mod Upgrade

@@ -1,12 +1,13 @@
 -- Where a session has its script from.
 use Rattle.std.specs.Prelude.{List, ℕ}
 use Rattle.session_script.specs.Grammar.{IsScript}
+use Rattle.session_script.specs.Limits.{most_read}
 use Rattle.session_script.specs.Script.{ScriptModel}
-use Rattle.session_run.specs.Given.{Seen}
-use Rattle.session_run.specs.Text.{ReadsText}
+use Rattle.text_io.specs.Seen.{Seen}
+use Rattle.text_io.specs.Text.{ReadsText}
 
 -- it was read from the source
 pub record IsRead (source : Seen (List ℕ)) (script : ScriptModel) : Type 0 where
   pub text : List ℕ
-  pub read : ReadsText source.told_before text source.told_after
+  pub read : ReadsText most_read source.told_before text source.told_after
   pub is : IsScript text script

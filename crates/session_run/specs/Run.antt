@@ -1,5 +1,5 @@
 -- What is said of the run of a script.
-use Rattle.std.specs.Prelude.{◌≡◌, ℕ, ◌↔◌, false, List, [], ◌∷◌, None, Contains, MatchOption, ⊤}
+use Rattle.std.specs.Prelude.{◌≡◌, ℕ, ◌↔◌, false, List, [], ◌∷◌, None, map, Contains, MatchOption, ⊤}
 use Rattle.asio_types.specs.Faults.{Rose}
 use Rattle.asio_types.specs.declared.event.Event.{Event}
 use Rattle.asio_types.specs.declared.event.Event.TheVariants as event
@@ -20,13 +20,13 @@ ShowsFault events = Contains events event.Fault
 abbrev pub ShowsNoFault : List Event → Type 0
 ShowsNoFault events = ShowsFault events → ⊥
 
--- the time of a state: 0, since no history has a tick yet
+-- the scripted time of a state
 abbrev pub now_of : State → ℕ
-now_of s = 0
+now_of s = s.reactor.now
 
--- the bytes that were sent on each stream: no script with streams is run yet
+-- the bytes that were sent on each stream
 abbrev pub sent_of : State → List (List ℕ)
-sent_of s = []
+sent_of s = map (λ stream. stream.sent) s.reactor.streams
 
 -- a run of the script with these events
 pub record IsRunOf {H : Type 0} (marks : H → Marks) (script : ScriptModel) (reactor : SeenReactor) (old new : Rack H) (events : List Event) : Type 0 where

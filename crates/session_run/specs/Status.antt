@@ -1,8 +1,8 @@
 -- What a status is outside: its number and its note.
 use Rattle.std.specs.Prelude.{ℕ, List, [], ◌∷◌, ◌++◌, codes}
-use Rattle.std.specs.Fmt.{decimal}
 use Rattle.session_run.specs.declared.status.Status.{Status}
 use Rattle.session_run.specs.declared.status.Status.TheVariants as status
+use Rattle.text_io.specs.Note.{refusal_note}
 
 abbrev pub number_of : Status → ℕ
 number_of status.Done = 0
@@ -27,11 +27,6 @@ note_of status.WriteFault = note_line (codes "write fault")
 note_of status.ReactorFault = note_line (codes "reactor fault")
 note_of status.NoMemory = note_line (codes "no memory")
 
--- words with a number behind them
-abbrev pub field : List ℕ → ℕ → List ℕ
-field words number = words ++ decimal number
-
 -- the note of a refusal
 abbrev pub refused_note : ℕ → ℕ → ℕ → List ℕ
-refused_note rule line token =
-    field (codes "asio_run: refused ") rule ++ field (codes " at line ") line ++ field (codes " token ") token ++ 10 ∷ []
+refused_note rule line token = refusal_note (codes "asio_run: refused ") rule line token

@@ -37,10 +37,13 @@ fn is_one_run(rounds: &[Round]) -> bool
     }
 }
 
-/// Whether a script can be run so far: plain postings and stops in `open`, no world line, and one round of `run`. Looks at
+/// Whether a script can be run so far: plain postings and stops in `open`, no guard, no world line, and one round of `run`. Looks at
 /// each act once.
 pub fn is_built(script: &Script) -> bool
     ensures { IsTrue result ↔ IsBuilt script.now }
 {
-    all_plain(script) && script.world().lines.as_slice().is_empty() && is_one_run(script.rounds())
+    all_plain(script)
+        && script.guards() == 0
+        && script.world().lines.as_slice().is_empty()
+        && is_one_run(script.rounds())
 }

@@ -1,11 +1,12 @@
 ghost use Rattle.std.specs.Prelude.{◌≡◌, ◌<◌, ◌≤◌, ◌+◌, ◌*◌, ◌↔◌, ℕ, length, true, IsSome, IfSome, false};
 ghost use Rattle.op_handlers.specs.Rack.{handler_at, handlers_in};
 ghost use Rattle.session_script.specs.Script.{is_op};
-ghost use Rattle.history_book.specs.Legal.{IsLegalSoFar, state_of};
+ghost use Rattle.history_book.specs.Legal.{state_of};
 ghost use Rattle.history_book.specs.Marks.{HasMarks};
 ghost use Rattle.session_run.specs.Begins.{IsBegun};
 ghost use Rattle.session_run.specs.Progress.{IsPostings, RanTo};
 ghost use Rattle.session_run.specs.RackMarks.{run_mark, drop_mark};
+ghost use Rattle.session_run.specs.SoFar.{IsSoFar};
 
 use crate::recording::record_event;
 use asio_types::{Code, Event, OpNo};
@@ -19,9 +20,9 @@ fn execute<H: CompletionHandler>(script: &Script, history: &mut History, handler
     requires act { o < length script.now.acts }
     requires operation { is_op script.now o ≡ true }
     requires room { 2 ≤ history.old.spare }
-    requires so_far { IsLegalSoFar script.now false history.old.events }
+    requires so_far { IsSoFar script.now history.old.events }
     requires ran { RanTo script.now (state_of script.now false history.old.events) o }
-    ensures legal { IsLegalSoFar script.now false history.new.events }
+    ensures legal { IsSoFar script.now history.new.events }
     ensures one_more { RanTo script.now (state_of script.now false history.new.events) (o + 1) }
     ensures marks { (run drop : ℕ → ℕ) → HasMarks run drop history.old.events → (H.marks handler).run ≡ run o → HasMarks run drop history.new.events }
     ensures begun { IsBegun history.new.events o result }
@@ -58,9 +59,9 @@ fn execute_act<H: CompletionHandler>(
     requires act { o < length script.now.acts }
     requires there { IsSome (handler_at rack.old o) }
     requires room { 2 ≤ history.old.spare }
-    requires so_far { IsLegalSoFar script.now false history.old.events }
+    requires so_far { IsSoFar script.now history.old.events }
     requires ran { RanTo script.now (state_of script.now false history.old.events) o }
-    ensures legal { IsLegalSoFar script.now false history.new.events }
+    ensures legal { IsSoFar script.now history.new.events }
     ensures one_more { RanTo script.now (state_of script.now false history.new.events) (o + 1) }
     ensures marks { (run drop : ℕ → ℕ) → HasMarks run drop history.old.events → run_mark H.marks rack.old o ≡ run o → HasMarks run drop history.new.events }
     ensures some { IsSome result ↔ (is_op script.now o ≡ true) }
@@ -83,10 +84,10 @@ pub(crate) fn run<H: CompletionHandler>(script: &Script, history: &mut History, 
     requires postings { IsPostings script.now }
     requires whole { (i : ℕ) → i < length script.now.acts → IsSome (handler_at rack.old i) }
     requires room { 2 * length script.now.acts ≤ history.old.spare }
-    requires so_far { IsLegalSoFar script.now false history.old.events }
+    requires so_far { IsSoFar script.now history.old.events }
     requires ready { RanTo script.now (state_of script.now false history.old.events) 0 }
     requires marked { HasMarks (run_mark H.marks rack.old) (drop_mark H.marks rack.old) history.old.events }
-    ensures legal { IsLegalSoFar script.now false history.new.events }
+    ensures legal { IsSoFar script.now history.new.events }
     ensures ran { RanTo script.now (state_of script.now false history.new.events) (length script.now.acts) }
     ensures marks { HasMarks (run_mark H.marks rack.old) (drop_mark H.marks rack.old) history.new.events }
     ensures spare { history.old.spare ≤ history.new.spare + 2 * length script.now.acts }

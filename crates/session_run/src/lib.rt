@@ -19,12 +19,9 @@ mod session;
 mod status;
 #[cfg(test)]
 mod tests;
-mod text;
-mod unfinished;
 mod upgrading;
 
 pub use built::is_built;
 pub use form::Form;
-pub use limits::HANDLERS;
 pub use session::asio_session;
 pub use status::Status;

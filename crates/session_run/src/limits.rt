@@ -1,8 +1,3 @@
-use session_script::MOST_ACTS;
-
-/// The handlers of a rack: one for each act that a script can have.
-pub const HANDLERS: u32 = MOST_ACTS;
-
 /// The most events of a history for each act.
 pub(crate) const EVENTS_PER_ACT: u32 = 7;
 

@@ -1,8 +1,9 @@
 ghost use Rattle.std.specs.Prelude.{◌≡◌, ◌<◌, ◌≤◌, ◌+◌, ◌*◌, ℕ, [], length, true, false, if◌then◌else◌};
 ghost use Rattle.session_script.specs.Script.{stops};
-ghost use Rattle.history_book.specs.Legal.{IsLegalSoFar, state_of};
+ghost use Rattle.history_book.specs.Legal.{state_of};
 ghost use Rattle.history_book.specs.Marks.{HasMarks};
 ghost use Rattle.session_run.specs.Progress.{IsPostings, OpenedTo};
+ghost use Rattle.session_run.specs.SoFar.{IsSoFar};
 
 use crate::recording::record_event;
 use asio_types::{ActNo, Event};
@@ -15,12 +16,12 @@ fn post(script: &Script, history: &mut History, a: ActNo)
     requires act { a < length script.now.acts }
     requires posting { stops script.now a ≡ false }
     requires room { 2 ≤ history.old.spare }
-    requires so_far { IsLegalSoFar script.now false history.old.events }
+    requires so_far { IsSoFar script.now history.old.events }
     requires opened { OpenedTo script.now (state_of script.now false history.old.events) a }
     requires unmarked { (run drop : ℕ → ℕ) → HasMarks run drop history.old.events }
-    ensures legal { IsLegalSoFar script.now false history.new.events }
+    ensures legal { IsSoFar script.now history.new.events }
     ensures one_more { OpenedTo script.now (state_of script.now false history.new.events) (a + 1) }
-    ensures going { (state_of script.now false history.new.events).stopped ≡ (state_of script.now false history.old.events).stopped }
+    ensures going { (state_of script.now false history.new.events).context.stopped ≡ (state_of script.now false history.old.events).context.stopped }
     ensures still_unmarked { (run drop : ℕ → ℕ) → HasMarks run drop history.new.events }
     ensures spare { history.new.spare + 2 ≡ history.old.spare }
 {
@@ -34,12 +35,12 @@ fn stop(script: &Script, history: &mut History, a: ActNo)
     requires act { a < length script.now.acts }
     requires stop { stops script.now a ≡ true }
     requires room { 3 ≤ history.old.spare }
-    requires so_far { IsLegalSoFar script.now false history.old.events }
+    requires so_far { IsSoFar script.now history.old.events }
     requires opened { OpenedTo script.now (state_of script.now false history.old.events) a }
     requires unmarked { (run drop : ℕ → ℕ) → HasMarks run drop history.old.events }
-    ensures legal { IsLegalSoFar script.now false history.new.events }
+    ensures legal { IsSoFar script.now history.new.events }
     ensures one_more { OpenedTo script.now (state_of script.now false history.new.events) (a + 1) }
-    ensures stopped { (state_of script.now false history.new.events).stopped ≡ true }
+    ensures stopped { (state_of script.now false history.new.events).context.stopped ≡ true }
     ensures still_unmarked { (run drop : ℕ → ℕ) → HasMarks run drop history.new.events }
     ensures spare { history.new.spare + 3 ≡ history.old.spare }
 {
@@ -53,12 +54,12 @@ fn open_act(script: &Script, history: &mut History, a: ActNo) -> bool
     requires postings { IsPostings script.now }
     requires act { a < length script.now.acts }
     requires room { 3 ≤ history.old.spare }
-    requires so_far { IsLegalSoFar script.now false history.old.events }
+    requires so_far { IsSoFar script.now history.old.events }
     requires opened { OpenedTo script.now (state_of script.now false history.old.events) a }
     requires unmarked { (run drop : ℕ → ℕ) → HasMarks run drop history.old.events }
-    ensures legal { IsLegalSoFar script.now false history.new.events }
+    ensures legal { IsSoFar script.now history.new.events }
     ensures one_more { OpenedTo script.now (state_of script.now false history.new.events) (a + 1) }
-    ensures stopped { (state_of script.now false history.new.events).stopped ≡ (if result then true else (state_of script.now false history.old.events).stopped) }
+    ensures stopped { (state_of script.now false history.new.events).context.stopped ≡ (if result then true else (state_of script.now false history.old.events).context.stopped) }
     ensures still_unmarked { (run drop : ℕ → ℕ) → HasMarks run drop history.new.events }
     ensures spare { history.old.spare ≤ history.new.spare + 3 }
 {
@@ -75,9 +76,9 @@ pub(crate) fn open(script: &Script, history: &mut History) -> bool
     requires postings { IsPostings script.now }
     requires room { 3 * length script.now.acts ≤ history.old.spare }
     requires empty { history.old.events ≡ [] }
-    ensures legal { IsLegalSoFar script.now false history.new.events }
+    ensures legal { IsSoFar script.now history.new.events }
     ensures opened { OpenedTo script.now (state_of script.now false history.new.events) (length script.now.acts) }
-    ensures stopped { result ≡ (state_of script.now false history.new.events).stopped }
+    ensures stopped { result ≡ (state_of script.now false history.new.events).context.stopped }
     ensures unmarked { (run drop : ℕ → ℕ) → HasMarks run drop history.new.events }
     ensures spare { history.old.spare ≤ history.new.spare + 3 * length script.now.acts }
 {

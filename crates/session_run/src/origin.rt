@@ -2,20 +2,20 @@ ghost use Rattle.std.specs.Prelude.{◌≡◌, Err, IfOk};
 ghost use Rattle.session_run.specs.Answer.{Refuses};
 ghost use Rattle.session_run.specs.Built.{IsBuilt};
 ghost use Rattle.session_run.specs.Ending.{CountsReading};
-ghost use Rattle.session_run.specs.Given.{seen_by};
 ghost use Rattle.session_run.specs.Origin.{IsRead};
-ghost use Rattle.session_run.specs.Text.{TakesSome};
 ghost use Rattle.session_run.specs.declared.form.Form.TheVariants as form_is;
 ghost use Rattle.session_run.specs.declared.ending.Refused.{Refused as Refused_of};
+ghost use Rattle.session_script.specs.Limits.{most_read};
+ghost use Rattle.text_io.specs.Seen.{seen_by};
+ghost use Rattle.text_io.specs.Text.{TakesSome};
 
 use crate::built::is_built;
 use crate::ending::Refused;
 use crate::form::Form;
-use crate::text::read_text;
-use crate::unfinished::Unfinished;
 use asio_types::Source;
-use session_script::{Script, ScriptFault, read_script};
+use session_script::{MOST_READ, Script, ScriptFault, read_script};
 use std::alloc::Global;
+use text_io::{Unfinished, read_text};
 
 /// The fault of a script that can't be run yet.
 const UNBUILT: Refused = Refused {
@@ -45,9 +45,9 @@ pub(crate) fn read_origin<S: Source>(
     ensures built { IfOk result (λ script. form ≡ form_is.Run → IsBuilt script) }
     ensures refused { (refused : Refused_of) → result ≡ Err (NoScript.Refused refused) → Refuses form (seen_by S.left S.faults source.old source.new) refused.rule refused.line refused.token }
     ensures counts { CountsReading result (S.faults source.old) (S.faults source.new) }
-    ensures taken { TakesSome (S.left source.old) (S.left source.new) }
+    ensures taken { TakesSome most_read (S.left source.old) (S.left source.new) }
 {
-    let text = match read_text(alloc, source) {
+    let text = match read_text(alloc, source, MOST_READ) {
         Ok(text) => text,
         Err(Unfinished::Failed) => return Err(NoScript::Failed),
         Err(Unfinished::NoMemory) => return Err(NoScript::NoMemory),

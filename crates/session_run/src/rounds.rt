@@ -1,9 +1,10 @@
 ghost use Rattle.std.specs.Prelude.{◌≡◌, ◌<◌, ◌≤◌, ◌+◌, ◌*◌, ℕ, [], length, true, false, IsSome};
 ghost use Rattle.op_handlers.specs.Rack.{handler_at, handlers_in};
-ghost use Rattle.history_book.specs.Legal.{IsLegal, IsLegalSoFar, state_of};
+ghost use Rattle.history_book.specs.Legal.{IsLegal, state_of};
 ghost use Rattle.history_book.specs.Marks.{HasMarks};
 ghost use Rattle.session_run.specs.Progress.{IsPostings, OpenedTo};
 ghost use Rattle.session_run.specs.RackMarks.{run_mark, drop_mark};
+ghost use Rattle.session_run.specs.SoFar.{AreOfContext, IsSoFar};
 
 use crate::destruction::destroy_all;
 use crate::execution::run;
@@ -19,11 +20,12 @@ fn run_to_end<H: CompletionHandler>(script: &Script, history: &mut History, rack
     requires postings { IsPostings script.now }
     requires whole { (i : ℕ) → i < length script.now.acts → IsSome (handler_at rack.old i) }
     requires room { 2 * length script.now.acts + 1 ≤ history.old.spare }
-    requires so_far { IsLegalSoFar script.now false history.old.events }
+    requires so_far { IsSoFar script.now history.old.events }
     requires opened { OpenedTo script.now (state_of script.now false history.old.events) (length script.now.acts) }
-    requires going { (state_of script.now false history.old.events).stopped ≡ false }
+    requires going { (state_of script.now false history.old.events).context.stopped ≡ false }
     requires marked { HasMarks (run_mark H.marks rack.old) (drop_mark H.marks rack.old) history.old.events }
     ensures legal { IsLegal script.now false history.new.events }
+    ensures of_context { AreOfContext history.new.events }
     ensures marks { HasMarks (run_mark H.marks rack.old) (drop_mark H.marks rack.old) history.new.events }
     ensures size { length (handlers_in rack.new) ≡ length (handlers_in rack.old) }
 {
@@ -36,11 +38,12 @@ fn stop_at_once<H: CompletionHandler>(script: &Script, history: &mut History, ra
     requires postings { IsPostings script.now }
     requires whole { (i : ℕ) → i < length script.now.acts → IsSome (handler_at rack.old i) }
     requires room { length script.now.acts + 1 ≤ history.old.spare }
-    requires so_far { IsLegalSoFar script.now false history.old.events }
+    requires so_far { IsSoFar script.now history.old.events }
     requires opened { OpenedTo script.now (state_of script.now false history.old.events) (length script.now.acts) }
-    requires stopped { (state_of script.now false history.old.events).stopped ≡ true }
+    requires stopped { (state_of script.now false history.old.events).context.stopped ≡ true }
     requires marked { HasMarks (run_mark H.marks rack.old) (drop_mark H.marks rack.old) history.old.events }
     ensures legal { IsLegal script.now false history.new.events }
+    ensures of_context { AreOfContext history.new.events }
     ensures marks { HasMarks (run_mark H.marks rack.old) (drop_mark H.marks rack.old) history.new.events }
     ensures size { length (handlers_in rack.new) ≡ length (handlers_in rack.old) }
 {
@@ -59,6 +62,7 @@ pub(crate) fn run_script<H: CompletionHandler>(
     requires room { 5 * length script.now.acts + 1 ≤ history.old.spare }
     requires empty { history.old.events ≡ [] }
     ensures legal { IsLegal script.now false history.new.events }
+    ensures of_context { AreOfContext history.new.events }
     ensures marks { HasMarks (run_mark H.marks rack.old) (drop_mark H.marks rack.old) history.new.events }
     ensures size { length (handlers_in rack.new) ≡ length (handlers_in rack.old) }
 {

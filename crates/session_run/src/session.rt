@@ -2,16 +2,18 @@ ghost use Rattle.std.specs.Prelude.{◌≡◌, ◌⊎◌, ℕ, List, Err, OnOk, 
 ghost use Rattle.op_handlers.specs.Rack.{IsWholeRack, handlers_in};
 ghost use Rattle.session_script.specs.Script.{ScriptModel};
 ghost use Rattle.session_script.specs.Grammar.{IsScript};
+ghost use Rattle.session_script.specs.Limits.{most_acts, most_read};
 ghost use Rattle.session_run.specs.Built.{IsBuilt};
 ghost use Rattle.session_run.specs.Form.{HasForm, IsRun, IsUpgrade};
-ghost use Rattle.session_run.specs.Answer.{Answers, CountsReads, CountsWrites, Does, LeavesAll, Says, Stood, Writes, WritesPart};
-ghost use Rattle.session_run.specs.Ending.{CountsFailures, note_at, status_of};
-ghost use Rattle.session_run.specs.Given.{no_reactor, seen_by};
-ghost use Rattle.session_run.specs.Limits.{handler_count};
+ghost use Rattle.session_run.specs.Answer.{Answers, CountsReads, CountsWrites, Does, LeavesAll, Says};
+ghost use Rattle.session_run.specs.Ending.{note_at, status_of};
+ghost use Rattle.session_run.specs.Given.{no_reactor};
 ghost use Rattle.session_run.specs.Run.{ShowsNoFault};
-ghost use Rattle.session_run.specs.Text.{TakesSome};
 ghost use Rattle.session_run.specs.declared.form.Form.TheVariants as form_is;
 ghost use Rattle.session_run.specs.declared.status.Status.TheVariants as status;
+ghost use Rattle.text_io.specs.Counts.{CountsFailures, Stood};
+ghost use Rattle.text_io.specs.Seen.{Writes, WritesPart, seen_by};
+ghost use Rattle.text_io.specs.Text.{TakesSome};
 
 use crate::ending::Ending;
 use crate::form::{Form, form_of};
@@ -19,12 +21,12 @@ use crate::noting::write_note;
 use crate::origin::{NoScript, read_origin};
 use crate::running::run_and_write;
 use crate::status::Status;
-use crate::unfinished::Unfinished;
 use crate::upgrading::upgrade_and_write;
 use asio_types::{Sink, Source};
 use op_handlers::{CompletionHandler, Rack};
 use session_script::Script;
 use std::alloc::Global;
+use text_io::Unfinished;
 
 /// Does with a script what the form says, and writes what comes of it.
 fn work<K: Sink, H: CompletionHandler>(
@@ -36,7 +38,7 @@ fn work<K: Sink, H: CompletionHandler>(
 ) -> Result<(), Unfinished>
     requires built { form ≡ form_is.Run → IsBuilt script.now }
     requires whole { IsWholeRack rack.old }
-    requires count { length (handlers_in rack.old) ≡ handler_count }
+    requires count { length (handlers_in rack.old) ≡ most_acts }
     ensures done { OnOk result (Does form H.marks script.now no_reactor rack.old rack.new ShowsNoFault (Writes (seen_by K.written K.faults out.old out.new))) }
     ensures cut_off { result ≡ Err Unfinished.Failed → Does form H.marks script.now no_reactor rack.old rack.new (λ events. ⊤) (WritesPart (seen_by K.written K.faults out.old out.new)) }
     ensures quiet { result ≡ Err Unfinished.NoMemory → out.new ≡ out.old }
@@ -59,12 +61,12 @@ fn end<S: Source, K: Sink, H: CompletionHandler>(
     rack: &mut Rack<H>,
 ) -> Ending
     requires whole { IsWholeRack rack.old }
-    requires count { length (handlers_in rack.old) ≡ handler_count }
+    requires count { length (handlers_in rack.old) ≡ most_acts }
     ensures says { Says H.marks (record { words = map string_bytes words.now; source = seen_by S.left S.faults source.old source.new; out = seen_by K.written K.faults out.old out.new; reactor = no_reactor; rack_before = rack.old; rack_after = rack.new }) (status_of result) (note_at result) }
     ensures quiet { LeavesAll (status_of result) → out.new ≡ out.old }
     ensures kept { LeavesAll (status_of result) → handlers_in rack.new ≡ handlers_in rack.old }
     ensures unread { status_of result ≡ status.Usage → source.new ≡ source.old }
-    ensures taken { TakesSome (S.left source.old) (S.left source.new) }
+    ensures taken { TakesSome most_read (S.left source.old) (S.left source.new) }
     ensures upgrade { IsUpgrade (map string_bytes words.now) → handlers_in rack.new ≡ handlers_in rack.old }
     ensures reads { CountsReads (status_of result) (S.faults source.old) (S.faults source.new) }
     ensures writes { CountsWrites (status_of result) (K.faults out.old) (K.faults out.new) }
@@ -104,13 +106,13 @@ pub fn asio_session<S: Source, K: Sink, N: Sink, H: CompletionHandler>(
     rack: &mut Rack<H>,
 ) -> Status
     requires whole { IsWholeRack rack.old }
-    requires count { length (handlers_in rack.old) ≡ handler_count }
+    requires count { length (handlers_in rack.old) ≡ most_acts }
     ensures answer { Answers H.marks (record { words = map string_bytes words.now; source = seen_by S.left S.faults source.old source.new; out = seen_by K.written K.faults out.old out.new; reactor = no_reactor; rack_before = rack.old; rack_after = rack.new }) (seen_by N.written N.faults notes.old notes.new) result }
     // With these statuses nothing was run and nothing written.
     ensures quiet { LeavesAll result → out.new ≡ out.old }
     ensures kept { LeavesAll result → handlers_in rack.new ≡ handlers_in rack.old }
     ensures unread { result ≡ status.Usage → source.new ≡ source.old }
-    ensures taken { TakesSome (S.left source.old) (S.left source.new) }
+    ensures taken { TakesSome most_read (S.left source.old) (S.left source.new) }
     // Status 3 comes exactly where the source's count of faults rose, and status 4 exactly where out's did.
     ensures reads { CountsReads result (S.faults source.old) (S.faults source.new) }
     ensures writes { CountsWrites result (K.faults out.old) (K.faults out.new) }

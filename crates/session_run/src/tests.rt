@@ -1,13 +1,14 @@
 ghost use Rattle.std.specs.Prelude.{◌≡◌, length, IfOk};
 ghost use Rattle.op_handlers.specs.Rack.{IsWholeRack, handlers_in};
-ghost use Rattle.session_run.specs.Limits.{handler_count};
+ghost use Rattle.session_script.specs.Limits.{most_acts};
 
 mod outside;
 mod texts;
 
-use crate::{HANDLERS, Status, asio_session};
+use crate::{Status, asio_session};
 use asio_types::{NoMemory, Sink, Source, SureSink, SureSource, class_of};
 use op_handlers::{Call, CompletionHandler, Rack, Ran};
+use session_script::MOST_ACTS;
 use std::alloc::Global;
 use std::cell::Cell;
 
@@ -39,10 +40,10 @@ impl<'a> CompletionHandler for Noting<'a> {
 /// A whole rack, number n with the marks 1000 + n.
 fn rack_of<'a>(alloc: Global, last: &'a Cell<Option<Call>>) -> Result<Rack<Noting<'a>>, NoMemory>
     ensures whole { IfOk result IsWholeRack }
-    ensures count { IfOk result (λ rack. length (handlers_in rack) ≡ handler_count) }
+    ensures count { IfOk result (λ rack. length (handlers_in rack) ≡ most_acts) }
 {
-    let mut handlers = Vec::with_capacity(alloc, HANDLERS as usize)?;
-    for n in 0..HANDLERS as u64 {
+    let mut handlers = Vec::with_capacity(alloc, MOST_ACTS as usize)?;
+    for n in 0..MOST_ACTS as u64 {
         let number = 1000 + n;
         handlers.push_reserved(Some(Noting { number, last }));
     }

@@ -1,13 +1,12 @@
 ghost use Rattle.std.specs.Prelude.{◌≡◌, IfOk, OnOk, Err};
-ghost use Rattle.session_run.specs.Answer.{Writes, WritesPart};
-ghost use Rattle.session_run.specs.Ending.{CountsFailures};
-ghost use Rattle.session_run.specs.Given.{seen_by};
 ghost use Rattle.session_run.specs.Upgrade.{upgraded_text};
+ghost use Rattle.text_io.specs.Counts.{CountsFailures};
+ghost use Rattle.text_io.specs.Seen.{Writes, WritesPart, seen_by};
 
-use crate::unfinished::Unfinished;
 use asio_types::{NoMemory, Sink, write_all};
 use session_script::{Script, upgrade, write_script};
 use std::alloc::Global;
+use text_io::Unfinished;
 
 /// The text of the script's upgrade and one line feed.
 fn upgraded_text(alloc: Global, script: &Script) -> Result<Vec<u8>, NoMemory>

@@ -10,7 +10,7 @@ use std::marker::Model;
 
 /// The reading side of a stream: what arrived and wasn't read, in reserved memory. Contracts see that, the mark, and how
 /// many more bytes may arrive.
-#[derive(Drop)]
+#[derive(Debug, Drop)]
 pub struct Inbound {
     bytes: Vec<u8>,
     given: usize,

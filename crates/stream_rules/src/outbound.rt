@@ -10,7 +10,7 @@ use std::marker::Model;
 
 /// The writing side of a stream: what was sent, in reserved memory. Contracts see that, the room, the mark, and how much
 /// more room may come.
-#[derive(Drop)]
+#[derive(Debug, Drop)]
 pub struct Outbound {
     sent: Vec<u8>,
     room: u32,

@@ -13,7 +13,7 @@ use asio_types::{Moved, NoMemory, ReadMark, What, WriteMark};
 use std::alloc::Global;
 
 /// A stream in reserved memory.
-#[derive(Drop)]
+#[derive(Debug, Drop)]
 pub struct Pipe {
     pub inbound: Inbound,
     pub outbound: Outbound,

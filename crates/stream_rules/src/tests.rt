@@ -97,6 +97,10 @@ fn composed_reads_give_the_same_for_every_cut(rt: HostRuntime) -> Result<(), NoM
         delimiter: b"\r\n",
         max: 64,
     };
+    let command = Reading::Until {
+        delimiter: b"\n",
+        max: 64,
+    };
     let short = Reading::Until {
         delimiter: b"\n",
         max: 4,
@@ -114,6 +118,7 @@ fn composed_reads_give_the_same_for_every_cut(rt: HostRuntime) -> Result<(), NoM
         read_case(all(4), b"", None, None, 0),
         read_case(line, b"ab\r\ncd\r\n", None, Some((Code::Ok, 4)), 4),
         read_case(line, b"ab\rcd\n", None, None, 6),
+        read_case(command, b"hi\n", None, Some((Code::Ok, 3)), 0),
         read_case(short, b"abcd", None, Some((Code::NotFound, 0)), 4),
         read_case(short, b"abc\n", None, Some((Code::Ok, 4)), 0),
         read_case(
@@ -253,20 +258,33 @@ fn two_queued(alloc: Global) -> Result<VecDeque<Queued>, NoMemory>
     Ok(queue)
 }
 
-/// The second of two lines begins where the first one ended, and both are whole at once.
+/// What two reads of a line give, where the first bytes are there at first, and the others come later.
+fn two_lines_cut(alloc: Global, bytes: &[u8], cut: usize) -> Result<Vec<Completion>, NoMemory>
+    requires { cut ≤ length bytes.now }
+{
+    let Ok(count) = u32::try_from(bytes.len()) else {
+        return Err(NoMemory);
+    };
+    let mut queue = two_queued(alloc)?;
+    let mut completed = Vec::with_capacity(alloc, 2)?;
+    let mut pipe = Pipe::make(alloc, count, 0)?;
+    pipe.inbound.feed(&bytes[..cut]);
+    serve_reads(&Asked, &mut queue, &mut pipe, &mut completed);
+    pipe.inbound.feed(&bytes[cut..]);
+    serve_reads(&Asked, &mut queue, &mut pipe, &mut completed);
+    Ok(completed)
+}
+
+/// The second of two lines begins where the first one ended, however the bytes of both are cut.
 #[test]
-fn two_lines_are_read_in_order(rt: HostRuntime) -> Result<(), NoMemory> {
-    let mut queue = two_queued(rt.alloc())?;
-    let mut completed = Vec::with_capacity(rt.alloc(), 2)?;
-    let mut pipe = Pipe::make(rt.alloc(), 8, 0)?;
-    pipe.inbound.feed(b"ab\r");
-    serve_reads(&Asked, &mut queue, &mut pipe, &mut completed);
-    assert_eq!(rt; completed.len(), 0);
-    pipe.inbound.feed(b"\ncd\r\n");
-    serve_reads(&Asked, &mut queue, &mut pipe, &mut completed);
+fn two_lines_are_read_in_order_for_every_cut(rt: HostRuntime) -> Result<(), NoMemory> {
+    let bytes: &[u8] = b"ab\r\ncd\r\n";
     let outcome = (Code::Ok, 4);
     let lines = [Completion { op: 0, outcome }, Completion { op: 1, outcome }];
-    assert_eq!(rt; completed.as_slice(), lines.as_slice());
+    for cut in 0..=bytes.len() {
+        let completed = two_lines_cut(rt.alloc(), bytes, cut)?;
+        assert_eq!(rt; completed.as_slice(), lines.as_slice());
+    }
     Ok(())
 }
 

@@ -1,12 +1,12 @@
 use Rattle.std.proofs.Common.{◌≡◌, ◌+◌, ◌≤◌, length}
 use Rattle.op_handlers.specs.Handler.{marks_of}
 use Rattle.op_handlers.specs.Rack.{HaveMarks}
-use Rattle.session_run.specs.Limits.{handler_count}
+use Rattle.session_script.specs.Limits.{most_acts}
 use Rattle.asio_run.proofs.main.Given as goal
 
 abbrev pub invariant-loop-n : goal.invariant-loop-n
 invariant-loop-n l = record {
-  room : handler_count ≤ l.handlers.cap;
+  room : most_acts ≤ l.handlers.cap;
   count : length l.handlers.items ≡ l.n;
   marks : HaveMarks marks_of (λ n. record { run = 1000 + n; drop = 1000 + n }) l.handlers.items;
 }

@@ -1,19 +1,23 @@
-use Rattle.std.proofs.Common.{ap, refl, ◌∙◌, length, false}
-use Rattle.std.specs.Prelude.{slice_get}
+use Rattle.std.proofs.Common.{false}
 use Rattle.history_book.specs.Legal.{state_of}
 use Rattle.asio_types.specs.declared.code.Code.TheVariants as code
 use Rattle.session_run.proofs.EventLemmas.{get-before_last}
-use Rattle.session_run.proofs.ExecutionLemmas.{executed, may_begin_next}
+use Rattle.session_run.proofs.ExecutionLemmas.{executed, may_begin_next, may_end_next}
 use Rattle.session_run.proofs.execution.execute.Goals as goal
 
 pub record_event-requires-clause-may : goal.record_event-requires-clause-may
 record_event-requires-clause-may g c =
     may_begin_next c.args.script.now (state_of c.args.script.now false c.args.history.now.events) c.args.o c.requires.postings c.requires.ran c.requires.act c.requires.operation
 
+pub record_event-requires-2-clause-may : goal.record_event-requires-2-clause-may
+record_event-requires-2-clause-may g c =
+    rw c.record_event.ensures.state
+    (may_end_next c.args.script.now (state_of c.args.script.now false c.args.history.now.events) c.args.o c.call-ran.result.mark c.requires.postings c.requires.ran c.requires.act c.requires.operation)
+
 pub returns-clause-one_more : goal.returns-clause-one_more
 returns-clause-one_more g c =
     rw (c.record_event-2.ensures.state, c.record_event.ensures.state)
-    (executed c.args.script.now (state_of c.args.script.now false c.args.history.now.events) c.args.o c.requires.ran c.requires.act)
+    (executed c.args.script.now (state_of c.args.script.now false c.args.history.now.events) c.args.o c.call-ran.result.mark c.requires.postings c.requires.ran c.requires.act c.requires.operation)
 
 pub returns-clause-marks : goal.returns-clause-marks
 returns-clause-marks g c run drop marks mark =

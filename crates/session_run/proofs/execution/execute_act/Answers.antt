@@ -7,7 +7,7 @@ use Rattle.session_run.proofs.execution.execute_act.Goals as goal
 
 pub returns-then-not-is_op-clause-one_more : goal.returns-then-not-is_op-clause-one_more
 returns-then-not-is_op-clause-one_more g c =
-    passed c.args.script.now (state_of c.args.script.now false c.args.history.now.events) c.args.o c.requires.ran c.requires.act (cc)
+    passed c.args.script.now (state_of c.args.script.now false c.args.history.now.events) c.args.o c.requires.postings c.requires.ran c.requires.act (cc)
 
 pub returns-clause-marks : goal.returns-clause-marks
 returns-clause-marks g c run drop marks mark =

@@ -1,13 +1,13 @@
 use Rattle.std.proofs.Common.{false}
 use Rattle.session_run.specs.RackMarks.{run_mark, drop_mark}
-use Rattle.history_book.specs.Legal.{state_of}
+use Rattle.history_book.specs.Legal.{after_event, state_of}
 use Rattle.session_run.proofs.ClosingLemmas.{ready_to_run, may_end, spent_at_end, whole_at_last}
-use Rattle.history_book.specs.Rounds.{after_closing}
+use Rattle.asio_types.specs.declared.event.Event.TheVariants as event
 use Rattle.session_run.proofs.rounds.run_to_end.Goals as goal
 
 pub run-requires-clause-ready : goal.run-requires-clause-ready
 run-requires-clause-ready g c =
-    ready_to_run c.args.script.now (state_of c.args.script.now false c.args.history.now.events) c.requires.opened c.requires.going
+    ready_to_run c.args.script.now (state_of c.args.script.now false c.args.history.now.events) c.requires.postings c.requires.opened c.requires.going
 
 pub record_event-requires-clause-may : goal.record_event-requires-clause-may
 record_event-requires-clause-may g c =
@@ -16,9 +16,9 @@ record_event-requires-clause-may g c =
 pub returns-clause-legal : goal.returns-clause-legal
 returns-clause-legal g c =
     record {
-      legal = c.record_event.ensures.legal;
+      legal = c.record_event.ensures.legal.legal;
       whole = rw c.record_event.ensures.state
-          (whole_at_last c.args.script.now (after_closing (state_of c.args.script.now false c.run.new.history.events)) (spent_at_end c.args.script.now (state_of c.args.script.now false c.run.new.history.events) c.requires.postings c.run.ensures.ran));
+          (whole_at_last c.args.script.now (after_event c.args.script.now false (state_of c.args.script.now false c.run.new.history.events) event.Ended) (spent_at_end c.args.script.now (state_of c.args.script.now false c.run.new.history.events) c.requires.postings c.run.ensures.ran));
     }
 
 pub returns-clause-marks : goal.returns-clause-marks

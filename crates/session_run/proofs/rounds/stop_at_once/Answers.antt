@@ -15,7 +15,7 @@ destroy_all-requires-clause-over g c =
 pub returns-clause-legal : goal.returns-clause-legal
 returns-clause-legal g c =
     record {
-      legal = c.destroy_all.ensures.legal;
+      legal = c.destroy_all.ensures.legal.legal;
       whole = whole_at_last c.args.script.now (state_of c.args.script.now false c.destroy_all.new.history.events) c.destroy_all.ensures.spent;
     }
 

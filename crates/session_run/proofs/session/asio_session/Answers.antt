@@ -1,4 +1,4 @@
-use Rattle.std.proofs.Common.{arith, refl}
+use Rattle.std.proofs.Common.{arith}
 use Rattle.session_run.proofs.CompleteLemmas.{complete}
 use Rattle.session_run.proofs.session.asio_session.Goals as goal
 
