@@ -1,0 +1,5 @@
+use Rattle.trace_check.proofs.ReadBackLemmas.{found_legal}
+use Rattle.trace_check.proofs.law.legal_traces_are_found_legal.Goals as goal
+
+pub returns : goal.returns
+returns c = found_legal

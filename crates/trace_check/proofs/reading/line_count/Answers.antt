@@ -1,0 +1,14 @@
+use Rattle.std.proofs.Common.{get_or, arith}
+use Rattle.trace_check.proofs.SplitLemmas.{count_more, count_of_same, count_of_other}
+use Rattle.trace_check.proofs.reading.line_count.Goals as goal
+use Rattle.trace_check.proofs.reading.line_count.Goals.{then-byte-eq10, else-byte-eq10}
+
+pub loop-byte-preserved : goal.loop-byte-preserved
+loop-byte-preserved c =
+    let bytes = c.args.bytes.now in
+    let i = c.loop-byte.byte-index in
+    let more = count_more 10 i bytes (omega arith) in
+    elim c.if-byte-eq10.branch [
+      | then-byte-eq10 w ↦ let one = count_of_same 10 (get_or bytes i 0) (omega arith) in record { counted = omega (arith, more, one); few = omega arith }
+      | else-byte-eq10 w ↦ let none = count_of_other 10 (get_or bytes i 0) (omega arith) in record { counted = omega (arith, more, none); few = omega arith }
+    ]

@@ -1,0 +1,13 @@
+pub mod Answer
+pub mod Ending
+pub mod EventLine
+pub mod Form
+pub mod Line
+pub mod Number
+pub mod Parting
+pub mod Question
+pub mod ReadBack
+pub mod Reading
+pub mod Split
+pub mod Status
+pub mod Verdict

@@ -1,0 +1,67 @@
+ghost use Rattle.std.specs.Prelude.{◌≡◌, OnOk, OnErr};
+ghost use Rattle.asio_types.specs.Faults.{CountsFaults};
+ghost use Rattle.asio_types.specs.Sink.{Extends, ExtendsByPart};
+ghost use Rattle.trace_check.specs.Ending.{note_at, status_of};
+
+use crate::line::write_numbered;
+use crate::status::CheckStatus;
+use crate::verdict::Verdict;
+use asio_types::{Failed, Sink, write_all};
+use session_script::Refusal;
+use text_io::write_refusal;
+
+/// How a session ended, before its note is written.
+#[derive(Clone, Copy, Debug, PartialEq, Eq)]
+pub(crate) enum Ending {
+    /// This verdict was written.
+    Judged(Verdict),
+    /// The words are no form of the command.
+    Usage,
+    /// The script has this fault.
+    Refused(Refusal),
+    /// Reading failed.
+    ReadFault,
+    /// Writing failed.
+    WriteFault,
+    /// Memory was asked for and not given.
+    NoMemory,
+    /// There is no trace, or this line of it is bad.
+    BadTrace(u32),
+}
+
+impl Ending {
+    /// The status that is answered.
+    pub(crate) fn status(self) -> CheckStatus
+        ensures { result ≡ status_of self }
+    {
+        match self {
+            Ending::Judged(Verdict::Legal) => CheckStatus::Done,
+            Ending::Judged(_) => CheckStatus::Illegal,
+            Ending::Usage => CheckStatus::Usage,
+            Ending::Refused(_) => CheckStatus::Refused,
+            Ending::ReadFault => CheckStatus::ReadFault,
+            Ending::WriteFault => CheckStatus::WriteFault,
+            Ending::NoMemory => CheckStatus::NoMemory,
+            Ending::BadTrace(_) => CheckStatus::BadTrace,
+        }
+    }
+}
+
+/// Writes the note of an ending, piece by piece. Takes no memory.
+pub(crate) fn write_note<N: Sink>(notes: &mut N, ending: Ending) -> Result<(), Failed>
+    ensures whole { OnOk result (Extends (N.written notes.old) (note_at ending) (N.written notes.new)) }
+    ensures part { OnErr result (ExtendsByPart (N.written notes.old) (note_at ending) (N.written notes.new)) }
+    ensures counts { CountsFaults result (N.faults notes.old) (N.faults notes.new) }
+{
+    match ending {
+        Ending::Refused(refusal) => write_refusal(
+            notes,
+            b"asio_check: refused ",
+            refusal.rule.number(),
+            refusal.line,
+            refusal.token,
+        ),
+        Ending::BadTrace(line) => write_numbered(notes, b"asio_check: bad trace at line ", line),
+        other => write_all(notes, other.status().note()),
+    }
+}
