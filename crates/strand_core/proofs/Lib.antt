@@ -1,0 +1,10 @@
+pub mod CallLemmas
+pub mod TreeLemmas
+pub mod HandLemmas
+pub mod LaneLemmas
+pub mod BehindLemmas
+pub mod MovingLemmas
+pub mod ReadyLemmas
+pub mod BodyLemmas
+pub mod SomeLemmas
+pub mod RunLemmas

@@ -1,0 +1,4 @@
+pub mod Execution
+pub mod Hands
+pub mod Answer
+pub mod Ready

@@ -1,0 +1,43 @@
+ghost use Rattle.std.specs.Prelude.{◌≡◌, ℕ, ◌<◌, ◌≤◌, true, length};
+ghost use Rattle.strand_core.specs.Hands.{is_of_lane, same_lane};
+
+use asio_types::{ActNo, Lane, OpNo};
+use session_script::Script;
+
+/// Whether two lanes are the same.
+fn same_lane(a: Lane, b: Lane) -> bool
+    ensures { result ≡ same_lane a b }
+{
+    match (a, b) {
+        (Lane::Strand(a), Lane::Strand(b)) => a == b,
+        (Lane::Own(a), Lane::Own(b)) => a == b,
+        (Lane::Reactor, Lane::Reactor) => true,
+        (Lane::Strand(_), _) | (Lane::Own(_), _) | (Lane::Reactor, _) => false,
+    }
+}
+
+/// Whether an act is an operation of a lane.
+pub(crate) fn is_of_lane(script: &Script, lane: Lane, a: ActNo) -> bool
+    requires { a < length script.now.acts }
+    ensures { result ≡ is_of_lane script.now lane a }
+{
+    script.is_op(a) && same_lane(script.lane_of(a), lane)
+}
+
+/// The number of the first operation of a lane, and that behind its last; both are 0 where it has none.
+pub(crate) fn span_of(script: &Script, lane: Lane) -> (OpNo, OpNo)
+    ensures ordered { result.0 ≤ result.1 }
+    ensures within { result.1 ≤ length script.now.acts }
+    ensures spans { (n : ℕ) → is_of_lane script.now lane n ≡ true → (result.0 ≤ n) × (n < result.1) }
+{
+    let (mut first, mut end) = (0, 0);
+    for a in 0..script.acts() {
+        if is_of_lane(script, lane, a) {
+            if end == 0 {
+                first = a;
+            }
+            end = a + 1;
+        }
+    }
+    (first, end)
+}
