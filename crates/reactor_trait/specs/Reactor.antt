@@ -81,6 +81,11 @@ IsMoveWithin limit moved.End = ⊤
 IsMoveWithin limit moved.NotYet = ⊤
 IsMoveWithin limit moved.Reset = ⊤
 
+-- what a stream answers on which nothing arrives and nothing is taken: its end, once no time point is left
+abbrev pub silence : Bool → Moved
+silence true = moved.End
+silence false = moved.NotYet
+
 -- one stream changed, and nothing else
 abbrev pub with_stream : ℕ → (Stream → Stream) → Outside → Outside
 with_stream number change outside =

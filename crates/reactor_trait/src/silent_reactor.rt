@@ -1,6 +1,6 @@
-ghost use Rattle.std.specs.Prelude.{◌≡◌, None, replicate, false, IfOk};
+ghost use Rattle.std.specs.Prelude.{◌≡◌, ◌≢◌, None, Ok, replicate, false, length, IfOk, IsTrue};
 ghost use Rattle.stream_rules.specs.World.{HasItsStreams};
-ghost use Rattle.reactor_trait.specs.Reactor.{idle_state};
+ghost use Rattle.reactor_trait.specs.Reactor.{idle_state, silence, IsMoveWithin};
 
 use crate::reactor::Reactor;
 use asio_types::{Failed, Moved, NoMemory, Point, SetupFault, StreamNo, World};
@@ -44,6 +44,13 @@ impl SilentReactor {
             last: false,
         }
     }
+
+    /// What every stream answers.
+    fn answer(&self) -> Moved
+        ensures { result ≡ silence self.now.last }
+    {
+        if self.last { Moved::End } else { Moved::NotYet }
+    }
 }
 
 impl Reactor for SilentReactor {
@@ -76,12 +83,25 @@ impl Reactor for SilentReactor {
         Ok(point)
     }
 
-    fn read_some(&mut self, _stream: StreamNo, _buf: &mut [u8]) -> Result<Moved, Failed> {
-        Ok(if self.last { Moved::End } else { Moved::NotYet })
+    /// Never fails, and gives no byte.
+    fn read_some(&mut self, stream: StreamNo, buf: &mut [u8]) -> Result<Moved, Failed>
+        ensures keeps { self.new ≡ self.old }
+        ensures answer { result ≡ Ok (silence self.old.last) }
+        ensures after_last { IsTrue self.old.last → IfOk result (λ moved. moved ≢ Moved.NotYet) }
+        ensures within { IfOk result (IsMoveWithin (length buf.old)) }
+        ensures buffer { buf.new ≡ buf.old }
+    {
+        Ok(self.answer())
     }
 
-    fn write_some(&mut self, _stream: StreamNo, _bytes: &[u8]) -> Result<Moved, Failed> {
-        Ok(if self.last { Moved::End } else { Moved::NotYet })
+    /// Never fails, and takes no byte.
+    fn write_some(&mut self, stream: StreamNo, bytes: &[u8]) -> Result<Moved, Failed>
+        ensures keeps { self.new ≡ self.old }
+        ensures answer { result ≡ Ok (silence self.old.last) }
+        ensures after_last { IsTrue self.old.last → IfOk result (λ moved. moved ≢ Moved.NotYet) }
+        ensures within { IfOk result (IsMoveWithin (length bytes.now)) }
+    {
+        Ok(self.answer())
     }
 
     fn close(&mut self, stream: StreamNo) {

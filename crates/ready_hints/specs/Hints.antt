@@ -2,15 +2,16 @@
 use Rattle.std.specs.Prelude.{◌≡◌, ℕ, ◌+◌, ◌-◌, ◌<◌, ◌≤◌, None, List, [], ◌∷◌, ◌++◌, length, replicate}
 use Rattle.std.specs.Global.{Global}
 use Rattle.crossbeam_queue.specs.SegTies.{SegId}
+use Rattle.ready_hints.specs.declared.rule.Hint.{Hint}
 use Rattle.ready_hints.specs.declared.pass.HintPass.TheInside.{Inside}
-use Rattle.ready_hints.specs.HintRule.{times, all_parts}
+use Rattle.ready_hints.specs.HintRule as rule
 
 -- which queue it is of, its parts of the right to know the whole, and what it hinted and took, in order
 pub record Passed : Type 0 where
   pub queue : SegId Global
   pub parts : ℕ
-  pub hinted : List ℕ
-  pub taken : List ℕ
+  pub hinted : List Hint
+  pub taken : List Hint
 
 abbrev pub passed : Inside → Passed
 passed p = record {
@@ -29,27 +30,48 @@ pub record IsReady (p : Inside) : Type 0 where
 abbrev pub IsPassOf : SegId Global → Passed → Type 0
 IsPassOf queue pass = pass.queue ≡ queue
 
+-- it is of the same queue, with the same parts
+abbrev pub IsSamePass : Passed → Passed → Type 0
+IsSamePass old new = (new.queue ≡ old.queue) × (new.parts ≡ old.parts)
+
 abbrev pub HasAllParts : Passed → Type 0
-HasAllParts pass = pass.parts ≡ all_parts
+HasAllParts pass = pass.parts ≡ rule.all_parts
+
+-- no two of the hints that it made have the same number
+abbrev pub HintsApart : Passed → Type 0
+HintsApart pass = rule.AreApart pass.hinted
+
+-- it took no hint twice
+abbrev pub IsOnce : Passed → Type 0
+IsOnce pass = rule.AreApart pass.taken
+
+-- of its own hints it took each with the lane that it hinted
+abbrev pub IsAsHinted : Passed → Type 0
+IsAsHinted pass = rule.AreAsHinted pass.hinted pass.taken
 
 -- no lane was taken more often than it was hinted
-abbrev pub IsOnce : Passed → Type 0
-IsOnce pass = (lane : ℕ) → times lane pass.taken ≤ times lane pass.hinted
+abbrev pub IsHinted : Passed → Type 0
+IsHinted pass = (lane : ℕ) → rule.times_hinted lane pass.taken ≤ rule.times_hinted lane pass.hinted
 
 -- each lane was taken as often as it was hinted
 abbrev pub IsSettled : Passed → Type 0
-IsSettled pass = (lane : ℕ) → times lane pass.taken ≡ times lane pass.hinted
+IsSettled pass = (lane : ℕ) → rule.times_hinted lane pass.taken ≡ rule.times_hinted lane pass.hinted
 
 -- what was hinted is what was taken and so many hints more
 abbrev pub HasLeft : ℕ → Passed → Type 0
 HasLeft count pass =
-    (left : List ℕ) × (length left ≡ count) × ((lane : ℕ) → times lane pass.hinted ≡ times lane pass.taken + times lane left)
+    (left : List ℕ) × (length left ≡ count)
+    × ((lane : ℕ) → rule.times_hinted lane pass.hinted ≡ rule.times_hinted lane pass.taken + rule.times lane left)
 
-abbrev pub with_hint : ℕ → Passed → Passed
-with_hint lane pass = record pass { hinted = pass.hinted ++ lane ∷ [] }
+-- it made one hint more, at this lane, with a later number than those that it made before
+abbrev pub Hinted : ℕ → Passed → Passed → Type 0
+Hinted lane old new =
+    (number : ℕ) × rule.IsAfter number old.hinted × (new ≡ record old { hinted = old.hinted ++ rule.hint number lane ∷ [] })
 
-abbrev pub with_taken : ℕ → Passed → Passed
-with_taken lane pass = record pass { taken = pass.taken ++ lane ∷ [] }
+-- it took one hint more, of this lane, with a later number than those that it took before
+abbrev pub Took : ℕ → Passed → Passed → Type 0
+Took lane old new =
+    (number : ℕ) × rule.IsAfter number old.taken × (new ≡ record old { taken = old.taken ++ rule.hint number lane ∷ [] })
 
 abbrev pub with_parts_of : Passed → Passed → Passed
 with_parts_of other pass =
@@ -64,4 +86,4 @@ one_part queue = first_pass queue 1
 
 -- so many passes, which have all parts: the first has what the others leave
 abbrev pub passes_of : SegId Global → ℕ → List Passed
-passes_of queue count = first_pass queue (all_parts - (count - 1)) ∷ replicate (count - 1) (one_part queue)
+passes_of queue count = first_pass queue (rule.all_parts - (count - 1)) ∷ replicate (count - 1) (one_part queue)

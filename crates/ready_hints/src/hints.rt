@@ -1,5 +1,7 @@
 ghost use Rattle.std.specs.Prelude.{◌≡◌, IfSome, IfNone, IfOk, IfErr};
-ghost use Rattle.ready_hints.specs.Hints.{IsPassOf, HasAllParts, HasLeft, IsOnce, IsSettled, with_hint, with_taken, with_parts_of};
+ghost use Rattle.ready_hints.specs.Hints.{IsPassOf, IsSamePass, HasAllParts, HasLeft};
+ghost use Rattle.ready_hints.specs.Hints.{HintsApart, IsOnce, IsAsHinted, IsHinted, IsSettled};
+ghost use Rattle.ready_hints.specs.Hints.{Hinted, Took, with_parts_of};
 
 use crate::pass::HintPass;
 use crate::rule::{Gathers, Hints, Line, Takes};
@@ -29,12 +31,14 @@ impl Drop for ReadyHints {
 }
 
 impl ReadyHints {
-    /// Adds a hint at a lane, behind all others. It may take memory; where that is refused nothing is hinted. It may wait
-    /// for another worker's call.
+    /// Adds a hint at a lane, behind all others: hints are numbered from 0 in the order in which they are made. It may take
+    /// memory; where that is refused nothing is hinted. It may wait for another worker's call.
     pub fn hint<Rt: Wait>(&self, rt: &Rt, pass: &mut HintPass, lane: u32) -> Result<(), NoMemory>
         requires { IsPassOf self.now pass.old }
-        ensures hinted { IfOk result (λ _. pass.new ≡ with_hint lane pass.old) }
+        ensures hinted { IfOk result (λ _. Hinted lane pass.old pass.new) }
+        ensures apart { IfOk result (λ _. HintsApart pass.new) }
         ensures refused { IfErr result (λ _. pass.new ≡ pass.old) }
+        ensures kept { IsSamePass pass.old pass.new }
     {
         match self.queue.push_as::<Hints, Rt>(rt, &mut pass.pass, lane) {
             Ok(()) => Ok(()),
@@ -42,14 +46,18 @@ impl ReadyHints {
         }
     }
 
-    /// Takes the oldest hint, which nobody takes again; `None` only where there was none at a moment of this call. It may
-    /// wait for another worker's call. Takes no memory.
+    /// Takes the oldest hint. A pass takes no hint twice, also where it gathered others, and each later than the one before.
+    /// `None` is the queue's own answer that it found none; a clause says more of it only for the pass that has all parts.
+    /// It may wait for another worker's call. Takes no memory.
     pub fn next_hint<Rt: Wait>(&self, rt: &Rt, pass: &mut HintPass) -> Option<u32>
         requires { IsPassOf self.now pass.old }
-        ensures taken { IfSome result (λ lane. pass.new ≡ with_taken lane pass.old) }
+        ensures taken { IfSome result (λ lane. Took lane pass.old pass.new) }
+        ensures once { IsOnce pass.new }
+        ensures same { IsAsHinted pass.new }
         ensures none { IfNone result (pass.new ≡ pass.old) }
+        ensures kept { IsSamePass pass.old pass.new }
         // who has all parts knows that what it took was hinted, and at `None` that all was taken
-        ensures once { IfSome result (λ _. HasAllParts pass.old → IsOnce pass.new) }
+        ensures hinted { IfSome result (λ _. HasAllParts pass.old → IsHinted pass.new) }
         ensures empty { IfNone result (HasAllParts pass.old → IsSettled pass.old) }
     {
         self.queue.pop_as::<Takes, Rt>(rt, &mut pass.pass)
@@ -64,11 +72,12 @@ impl ReadyHints {
         self.queue.absorb::<Gathers>(&mut pass.pass, other);
     }
 
-    /// Ends the hints, by the pass that has all parts, and answers how many are left: each of the others came out once.
+    /// Ends the hints, by the pass that has all parts, and answers how many are left. Each of the others came out once.
     pub fn close<Rt: Wait>(self, rt: &Rt, pass: HintPass) -> usize
         requires pass { IsPassOf self pass }
         requires all { HasAllParts pass }
-        ensures { HasLeft result pass }
+        ensures left { HasLeft result pass }
+        ensures once { IsOnce pass }
     {
         let HintPass { mut pass } = pass;
         self.queue.len_as::<Takes, Rt>(rt, &mut pass)

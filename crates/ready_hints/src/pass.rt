@@ -3,8 +3,8 @@ ghost use Rattle.std.specs.Prelude.{◌≡◌, [], ◌∷◌, MatchOption};
 use crate::rule::LinePass;
 use std::marker::Model;
 
-/// A place at the hints, with which a worker hints and takes. Contracts see the lanes that it hinted and those that it
-/// took, in order, and how many parts it has of the right to know the whole.
+/// A place at the hints, with which a worker hints and takes. Contracts see the hints that it made and those that it took,
+/// in order, each with its number and its lane, and how many parts it has of the right to know the whole.
 #[derive(Drop)]
 pub struct HintPass {
     pub(crate) pass: LinePass,

@@ -3,14 +3,22 @@ use crossbeam_queue::protocol::{Join, Lesson, Outcome, Protocol, Split};
 use crossbeam_queue::{RuledSegQueue, SegPass};
 use std::collections::LinkedList;
 
+/// A hint, for contracts alone: no value of it is made.
+pub struct Hint {
+    /// How many hints were made before, with whatever pass.
+    pub number: u64,
+    /// The lane that it hints at.
+    pub lane: u32,
+}
+
 /// What a pass knows.
 pub struct Hand {
     /// Its parts of the right to know the whole.
     pub parts: u64,
-    /// The lanes that it hinted.
-    pub hinted: LinkedList<u32>,
-    /// The lanes that it took.
-    pub taken: LinkedList<u32>,
+    /// What it hinted, in order.
+    pub hinted: LinkedList<Hint>,
+    /// What it took, in order.
+    pub taken: LinkedList<Hint>,
 }
 
 /// Each hint comes out at most once.

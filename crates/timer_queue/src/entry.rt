@@ -1,9 +1,8 @@
 ghost use Rattle.std.specs.Prelude.{◌≡◌, ◌+◌};
 ghost use Rattle.timer_queue.specs.Entry.{is_before};
 
-use crate::steps::Steps;
+use crate::steps::Tally;
 use asio_types::OpNo;
-use std::sync::ledger::Ledger;
 
 /// A pending wait (Asio reference, `steady_timer::async_wait`).
 #[derive(Clone, Copy, Debug, PartialEq, Eq)]
@@ -19,9 +18,9 @@ pub struct Entry {
 impl Entry {
     /// Whether this entry comes before another: by expiry, and at one expiry by acceptance. It is the only comparison of
     /// entries, and counted as one step.
-    pub(crate) fn precedes<L: Ledger>(&self, other: &Entry, steps: &mut Steps<L>) -> bool
+    pub(crate) fn precedes<T: Tally>(&self, other: &Entry, steps: &mut T) -> bool
         ensures value { result ≡ is_before self.now other.now }
-        ensures counted { steps.new ≡ steps.old + 1 }
+        ensures counted { T.count steps.new ≡ T.count steps.old + 1 }
     {
         steps.tick();
         self.expiry < other.expiry || (self.expiry == other.expiry && self.serial < other.serial)

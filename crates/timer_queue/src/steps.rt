@@ -1,7 +1,17 @@
-ghost use Rattle.std.specs.Prelude.{◌≡◌, ◌+◌, ◌<◌};
+ghost use Rattle.std.specs.Prelude.{◌≡◌, ℕ, ◌+◌, ◌<◌};
 
 use std::marker::Model;
 use std::sync::ledger::{Blank, Book, Ledger, Share};
+
+/// What counts steps, one at a time: for contracts `Steps`, and in tests what can be read as well.
+pub(crate) trait Tally {
+    /// How many steps it has counted.
+    ghost count: { Self → ℕ };
+
+    /// One step more.
+    fn tick(&mut self)
+        ensures { count self.new ≡ count self.old + 1 };
+}
 
 /// How many steps were taken, for contracts alone: it takes no bytes and its calls do nothing at run time. A step of
 /// this crate is one counted comparison of two entries. Contracts see the number of steps.
@@ -34,11 +44,12 @@ impl<L: Ledger> Steps<L> {
         let (book, share) = blank.open();
         Steps { book, share }
     }
+}
 
-    /// One step more.
-    pub(crate) fn tick(&mut self)
-        ensures { self.new ≡ self.old + 1 }
-    {
+impl<L: Ledger> Tally for Steps<L> {
+    ghost count = { λ s. s };
+
+    fn tick(&mut self) {
         self.book.add(&mut self.share, 1);
     }
 }

@@ -2,7 +2,7 @@ ghost use Rattle.std.specs.Prelude.{◌≡◌, ◌+◌, ◌<◌, ◌≤◌, All}
 ghost use Rattle.timer_queue.specs.declared.tests.TheConstants.{ROOM, FIRST};
 
 use crate::queue::TimerQueue;
-use crate::steps::Steps;
+use crate::steps::{Steps, Tally};
 use asio_types::OpNo;
 use std::alloc::Global;
 use std::marker::Brand;
@@ -114,4 +114,68 @@ fn waits_leave_by_expiry_and_then_by_acceptance(rt: HostRuntime) -> Result<(), F
         Step::Next(None),
     ];
     play_all::<Brand, _>(&rt, rt.alloc(), &table, Blank::new(1))
+}
+
+// A counter that can be read.
+#[derive(Drop)]
+struct Ticks<L: Ledger> {
+    steps: Steps<L>,
+    seen: u32,
+}
+
+impl<L: Ledger> Tally for Ticks<L> {
+    ghost count = { λ ticks. ticks.steps };
+
+    fn tick(&mut self) {
+        self.steps.tick();
+        self.seen = self.seen.wrapping_add(1);
+    }
+}
+
+// A queue with waits that expire at 1, 2 and so on, accepted in that order.
+fn rising(rt: &impl Abort, alloc: Global, waits: u64) -> Result<TimerQueue, Fail> {
+    let queue = TimerQueue::with_room(alloc, ROOM).ok().ok_or("no memory")?;
+    let mut numbered = Numbered { queue, next: 0 };
+    for n in 0..waits {
+        numbered.insert(rt, n + 1);
+    }
+    let Numbered { queue, next: _ } = numbered;
+    Ok(queue)
+}
+
+// The wait at the end of the heap goes to its top at each pop, and down from there: on each level two comparisons,
+// or one where there is only one child.
+fn pops_compare<L: Ledger, R: Abort>(rt: &R, queue: TimerQueue, blank: Blank) -> Result<(), Fail>
+    requires name { blank.name ≡ L.name }
+    requires parts { blank.parts ≡ L.parts }
+    requires counts { 0 < blank.parts }
+{
+    let mut queue = queue;
+    let mut ticks = Ticks {
+        steps: Steps::<L>::start(blank),
+        seen: 0,
+    };
+    let mut seen = 0;
+    for (now, compared) in [
+        (0, 0),
+        (7, 4),
+        (7, 2),
+        (7, 3),
+        (7, 2),
+        (7, 1),
+        (7, 0),
+        (7, 0),
+        (7, 0),
+    ] {
+        queue.pop_counted(now, &mut ticks);
+        assert_eq!(rt; ticks.seen.wrapping_sub(seen), compared, "a pop at {now}");
+        seen = ticks.seen;
+    }
+    Ok(())
+}
+
+#[test]
+fn each_comparison_of_a_pop_is_counted(rt: HostRuntime) -> Result<(), Fail> {
+    let queue = rising(&rt, rt.alloc(), 7)?;
+    pops_compare::<Brand, _>(&rt, queue, Blank::new(1))
 }
