@@ -16,7 +16,7 @@ use Rattle.stream_rules.specs.declared.queue.Completion.{Completion}
 use Rattle.stream_rules.specs.Stream.{Stream, closed_stream}
 use Rattle.stream_rules.specs.World.{changed_at}
 use Rattle.stream_rules.specs.Serving.{Reading, Writing, Some_bytes, All_bytes, Until, Some_of, All_of}
-use Rattle.history_book.specs.Performing.{all_aborted, all_of_stream, bad, closed_at, connected, emitted, emitted_to, expiry_set, guard_released, is_of, is_reached, is_wait_for, is_wait_of, new_pending, one_of_stream_cancelled, one_wait_cancelled, operation_cancelled, performed_act, performed_by, queues_at, read_accepted, wait_accepted, waits_cancelled, with_due, with_queues, write_accepted}
+use Rattle.history_book.specs.Performing.{all_aborted, all_of_stream, bad, closed_at, shut_at, connected, emitted, emitted_to, expiry_set, guard_released, is_of, is_reached, is_wait_for, is_wait_of, new_pending, one_of_stream_cancelled, one_wait_cancelled, operation_cancelled, performed_act, performed_by, queues_at, read_accepted, wait_accepted, waits_cancelled, with_due, with_queues, write_accepted}
 use Rattle.history_book.specs.Replay.{pending_in}
 use Rattle.history_book.specs.Settling.{expiry_of, is_due, AreDueTogether}
 use Rattle.history_book.specs.State.{ReactorHalf, StreamQueues, Wait, no_queues}
@@ -203,12 +203,16 @@ performs-one most on op stream r =
     let both = length-append (all_aborted (filter (is_of op) old.reads)) (all_aborted (filter (is_of op) old.writes)) in
     performs-queues most on stream r r.streams (record old { reads = filter (λ pending. not (is_of op pending)) old.reads; writes = filter (λ pending. not (is_of op pending)) old.writes }) (r.due ++ done) (omega arith) (omega arith)
 
-performs-closed : (most : ℕ) (on : Option ℕ) (stream : ℕ) (r : ReactorHalf) → Performs most on r (closed_at stream r)
-performs-closed most on stream r =
+performs-shut : (most : ℕ) (on : Option ℕ) (stream : ℕ) (r : ReactorHalf) → Performs most on r (shut_at stream r)
+performs-shut most on stream r =
     let old = queues_at r stream in
     let count = length-all_of_stream old.reads old.writes in
     let listed = length-append r.due (all_of_stream old.reads old.writes) in
     performs-queues most on stream r (changed_at stream closed_stream r.streams) (record { closed = true; reads = []; writes = [] }) (r.due ++ all_of_stream old.reads old.writes) (omega arith) (omega arith)
+
+performs-closed : (most : ℕ) (on : Option ℕ) (stream : ℕ) (r : ReactorHalf) → Performs most on r (closed_at stream r)
+performs-closed most on stream r =
+    performs-if most on r r (shut_at stream r) (queues_at r stream).closed (performs-same most on r) (performs-shut most on stream r)
 
 performs-operation : (most : ℕ) (on : Option ℕ) (given : Act) (op : ℕ) (r : ReactorHalf) → Performs most on r (operation_cancelled given op r)
 performs-operation most on (act.Wait timer strand slot filter) op r = performs-cancelled most on (is_wait_for op) r

@@ -128,11 +128,15 @@ abbrev pub all_of_stream : List (Pending Reading) → List (Pending Writing) →
 all_of_stream [] writes = all_aborted writes
 all_of_stream (read ∷ reads) writes = with_writes read.accepted (aborted read.op read.moved) (all_of_stream reads) writes
 
--- a stream is closed: its operations are cancelled, and its bytes there and its room are dropped
-abbrev pub closed_at : ℕ → ReactorHalf → ReactorHalf
-closed_at stream r =
+-- an open stream is closed: its operations are cancelled, and its bytes there and its room are dropped
+abbrev pub shut_at : ℕ → ReactorHalf → ReactorHalf
+shut_at stream r =
     let queues = queues_at r stream in
     with_due (all_of_stream queues.reads queues.writes) (with_queues (record r { streams = changed_at stream closed_stream r.streams }) stream (record { closed = true; reads = []; writes = [] }))
+
+-- a second close changes nothing
+abbrev pub closed_at : ℕ → ReactorHalf → ReactorHalf
+closed_at stream r = if (queues_at r stream).closed then r else shut_at stream r
 
 -- a guard holds the context no more
 abbrev pub guard_released : ℕ → ReactorHalf → ReactorHalf

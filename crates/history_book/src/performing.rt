@@ -2,7 +2,7 @@ ghost use Rattle.std.specs.Prelude.{◌≡◌, ◌+◌, ◌<◌, ◌≤◌, ◌^
 ghost use Rattle.session_script.specs.Script.{act_of};
 ghost use Rattle.history_book.specs.Asking.{IsReading, IsWriting, asked_reading, asked_writing};
 ghost use Rattle.history_book.specs.Kinds.{filter_of, supported_by};
-ghost use Rattle.history_book.specs.Performing.{bad, closed_at, connected, emitted, emitted_to, expiry_set, guard_released, is_reached, is_wait_for, is_wait_of, one_of_stream_cancelled, one_wait_cancelled, operation_cancelled, performed_by, read_accepted, wait_accepted, waits_cancelled, write_accepted};
+ghost use Rattle.history_book.specs.Performing.{bad, closed_at, queues_at, shut_at, connected, emitted, emitted_to, expiry_set, guard_released, is_reached, is_wait_for, is_wait_of, one_of_stream_cancelled, one_wait_cancelled, operation_cancelled, performed_by, read_accepted, wait_accepted, waits_cancelled, write_accepted};
 ghost use Rattle.history_book.specs.QueueRoom.{HasPlace, stream_in};
 ghost use Rattle.history_book.specs.Time.{pending_count};
 
@@ -230,9 +230,28 @@ impl<'a> ReactorWorks<'a> {
         self.emit_to(op, types);
     }
 
-    /// A stream is closed: its operations are cancelled, and its bytes there and its room are dropped.
+    /// Whether a stream was closed.
+    fn is_closed(&self, stream: StreamNo) -> bool
+        ensures { result ≡ (queues_at self.now.half stream).closed }
+    {
+        match self.queues.get(stream as usize) {
+            Some(queues) => queues.closed,
+            None => false,
+        }
+    }
+
+    /// A stream is closed; a second close changes nothing.
     fn close(&mut self, stream: StreamNo)
         ensures { self.new ≡ record self.old { half = closed_at stream self.old.half } }
+    {
+        if !self.is_closed(stream) {
+            self.shut(stream);
+        }
+    }
+
+    /// An open stream is closed: its operations are cancelled, and its bytes there and its room are dropped.
+    fn shut(&mut self, stream: StreamNo)
+        ensures { self.new ≡ record self.old { half = shut_at stream self.old.half } }
     {
         self.world.close(stream);
         let Some(queues) = self.queues.get_mut(stream as usize) else {

@@ -8,7 +8,7 @@ use Rattle.history_book.specs.Played.{Played}
 use Rattle.history_book.specs.State.{StreamQueues}
 use Rattle.history_book.proofs.QueuesLemmas.{all-count}
 use Rattle.history_book.proofs.RoomLemmas.{queues-at, queues-changed, size-pending, AreQueues-at, IsRoomy-changed, IsRoomy-streams, All-none}
-use Rattle.history_book.proofs.reactor_half.ReactorWorks.close.Goals as goal
+use Rattle.history_book.proofs.reactor_half.ReactorWorks.shut.Goals as goal
 
 pub abort_all-requires : goal.abort_all-requires
 abort_all-requires c =
