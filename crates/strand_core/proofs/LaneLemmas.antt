@@ -11,7 +11,7 @@ use Rattle.session_script.specs.declared.act.Act.TheVariants as act
 use Rattle.session_script.specs.Script.{Place, Entry, ScriptModel, is_op, is_operation, parent_of}
 use Rattle.session_script.specs.Lanes.{caller_lane, is_inline, is_inside, lane_in, lane_of, lane_or_reactor, lanes_after, lanes_of}
 use Rattle.session_script.specs.WellFormed.{HasParent}
-use Rattle.strand_core.specs.Hands.{IsInlineOf, is_of_lane, same_lane}
+use Rattle.strand_core.specs.Hands.{IsInlineOf, is_of, is_of_lane, same_lane}
 
 get_front : {X : Type 0} (xs ys : List X) (k : ℕ) → k < length xs → slice_get (xs ++ ys) k ≡ slice_get xs k
 get_front [] ys k less = absurd (omega arith)
@@ -91,25 +91,32 @@ module _ (script : ScriptModel) (ordered : (n : ℕ) → HasParent script.acts n
   both false b c d is_a is_both same = absurd (cc is_a)
 
   -- with an operation of a lane what executes inside it is of the lane
-  pub callee_of_lane : (of : Lane) → is_of_lane script of caller ≡ true → is_of_lane script of n ≡ true
+  callee_of_lane : (of : Lane) → is_of_lane script of caller ≡ true → is_of_lane script of n ≡ true
   callee_of_lane of of_lane =
       let found : OnLane = on_lane_by (slice_get script.acts n) refl in
       both (is_op script n) (is_op script caller) (same_lane (lane_of script caller) of) (same_lane (lane_of script n) of) found.op of_lane (ap (λ l. same_lane l of) found.lane)
+
+  pub callee_of : (of : Option Lane) → is_of script of caller ≡ true → is_of script of n ≡ true
+  callee_of (Some lane) of_lane = callee_of_lane lane of_lane
+  callee_of None op = let found : OnLane = on_lane_by (slice_get script.acts n) refl in found.op
 
 first_of : (a b : Bool) → (a && b) ≡ true → (a ≡ true) × (b ≡ true)
 first_of true b is = (refl, is)
 first_of false b is = absurd (cc is)
 
--- an operation of a lane is an act
-pub of_lane_within : (script : ScriptModel) (of : Lane) (n : ℕ) → is_of_lane script of n ≡ true → n < length script.acts
-of_lane_within script of n is = elim (cases_lt n (length script.acts)) [
+-- an operation is an act
+pub op_within : (script : ScriptModel) (n : ℕ) → is_op script n ≡ true → n < length script.acts
+op_within script n is = elim (cases_lt n (length script.acts)) [
   | inl less ↦ less
   | inr past ↦
       let gone : slice_get script.acts n ≡ None = slice_get_past script.acts n past in
       let none : is_op script n ≡ false = rw gone refl in
-      let some : is_op script n ≡ true = (first_of (is_op script n) (same_lane (lane_of script n) of) is).0 in
-      absurd (cc (none, some))
+      absurd (cc (none, is))
 ]
+
+pub of_within : (script : ScriptModel) (of : Option Lane) (n : ℕ) → is_of script of n ≡ true → n < length script.acts
+of_within script (Some lane) n is = op_within script n (first_of (is_op script n) (same_lane (lane_of script n) lane) is).0
+of_within script None n is = op_within script n is
 
 same_number : (m k l : ℕ) → (m == k) ≡ true → (m == l) ≡ true → (k == l) ≡ true
 same_number m k l is_k is_l = eq-eqb k l (sym (eqb-true m k is_k) ∙ eqb-true m l is_l)

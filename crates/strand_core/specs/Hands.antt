@@ -1,4 +1,4 @@
--- The handlers of one lane, by the number of their operation.
+-- The handlers of one lane or of all, by the number of their operation.
 use Rattle.std.specs.Prelude.{◌≡◌, ℕ, Bool, true, false, ◌&&◌, ◌==◌, List, [], ◌∷◌, ◌++◌, Option, Some, None, IsSome, replicate, slice_get, if◌then◌else◌}
 use Rattle.std.specs.Option.{option_map, option_flatten}
 use Rattle.asio_types.specs.declared.code.Class.{Class}
@@ -59,12 +59,17 @@ same_lane lane.Reactor (lane.Own b) = false
 abbrev pub is_of_lane : ScriptModel → Lane → ℕ → Bool
 is_of_lane script at n = is_op script n && same_lane (lane_of script n) at
 
--- what is at a number where the operations of a lane are taken out of one list into another
+-- whether an act is an operation of this lane, or of any where none is named
+abbrev pub is_of : ScriptModel → Option Lane → ℕ → Bool
+is_of script (Some lane) n = is_of_lane script lane n
+is_of script None n = is_op script n
+
+-- what is at a number where some operations are taken out of one list into another
 abbrev pub taken_at : {H : Type 0} → Bool → Option H → Option H
-taken_at of_lane handler = if of_lane then handler else None
+taken_at is_taken handler = if is_taken then handler else None
 
 abbrev pub left_at : {H : Type 0} → Bool → Option H → Option H
-left_at of_lane handler = if of_lane then None else handler
+left_at is_taken handler = if is_taken then None else handler
 
 -- the first of two, where it is there
 abbrev pub or_else : {H : Type 0} → Option H → Option H → Option H

@@ -1,23 +1,24 @@
 ghost use Rattle.std.specs.Prelude.{◌≡◌, ◌<◌, ℕ, length, true, None, Some, IsSome, IfOk, IfErr, replicate, slice_get, slice_set};
 ghost use Rattle.std.specs.Option.{option_map};
 ghost use Rattle.op_handlers.specs.Rack.{handler_at, handlers_in};
-ghost use Rattle.strand_core.specs.Hands.{CallerIsGone, HasInlineOf, held_at, is_of_lane, left_at, or_else, taken_at};
+ghost use Rattle.session_script.specs.Script.{is_op};
+ghost use Rattle.strand_core.specs.Hands.{CallerIsGone, HasInlineOf, held_at, is_of, is_of_lane, left_at, or_else, taken_at};
 
-use crate::lane::{is_of_lane, span_of};
+use crate::lane::{is_of, span_of};
 use asio_types::{ActNo, Lane, NoMemory, OpNo};
 use op_handlers::{CompletionHandler, Handler, Rack};
 use session_script::{Script, parents_come_first};
 use std::alloc::Global;
 use std::marker::Model;
 
-/// The handlers of the operations of one lane of a script, each found by its number at constant cost. With the handler of
-/// an operation they hold those of all operations that execute inside it. They must be spent or given back (Asio
-/// reference, "Requirements on asynchronous operations": a handler is called at most once, or destroyed).
+/// The handlers of the operations of one lane of a script, or of all lanes, each found by its number at constant cost.
+/// With the handler of an operation they hold those of all operations that execute inside it. They must be spent or given
+/// back (Asio reference, "Requirements on asynchronous operations": a handler is called at most once, or destroyed).
 ///
 /// Contracts see the script, and at each number a handler or nothing.
 pub struct Hands<'a, H = Handler> {
     script: &'a Script,
-    // the number of the lane's first operation
+    // the number of the first operation that may be held
     first: OpNo,
     // from that number to its last operation at each number the handler, where it is held
     held: Rack<H>,
@@ -82,11 +83,49 @@ impl<'a, H> Hands<'a, H> {
         ensures count { IfOk result (λ hands. length (handlers_in rack.new) ≡ length (handlers_in rack.old)) }
         ensures refused { IfErr result (λ fault. rack.new ≡ rack.old) }
     {
+        Hands::of_operations(alloc, script, Some(lane), rack)
+    }
+
+    /// Takes the handlers of all operations of a script out of the rack. Takes memory in proportion to the acts, and looks at
+    /// each once; where the memory is refused, the rack is as before.
+    pub fn of_script(
+        alloc: Global,
+        script: &'a Script,
+        rack: &mut Rack<H>,
+    ) -> Result<Hands<'a, H>, NoMemory>
+        requires { (n : ℕ) → is_op script.now n ≡ true → IsSome (handler_at rack.old n) }
+        ensures script { IfOk result (λ hands. hands.script ≡ script.now) }
+        ensures held { IfOk result (λ hands. (n : ℕ) →
+            held_at hands n ≡ taken_at (is_op script.now n) (handler_at rack.old n)) }
+        ensures left { IfOk result (λ hands. (n : ℕ) →
+            handler_at rack.new n ≡ left_at (is_op script.now n) (handler_at rack.old n)) }
+        ensures count { IfOk result (λ hands. length (handlers_in rack.new) ≡ length (handlers_in rack.old)) }
+        ensures refused { IfErr result (λ fault. rack.new ≡ rack.old) }
+    {
+        Hands::of_operations(alloc, script, None, rack)
+    }
+
+    /// Takes the handlers of the operations of this lane, or of all where none is named.
+    fn of_operations(
+        alloc: Global,
+        script: &'a Script,
+        lane: Option<Lane>,
+        rack: &mut Rack<H>,
+    ) -> Result<Hands<'a, H>, NoMemory>
+        requires { (n : ℕ) → is_of script.now lane n ≡ true → IsSome (handler_at rack.old n) }
+        ensures script { IfOk result (λ hands. hands.script ≡ script.now) }
+        ensures held { IfOk result (λ hands. (n : ℕ) →
+            held_at hands n ≡ taken_at (is_of script.now lane n) (handler_at rack.old n)) }
+        ensures left { IfOk result (λ hands. (n : ℕ) →
+            handler_at rack.new n ≡ left_at (is_of script.now lane n) (handler_at rack.old n)) }
+        ensures count { IfOk result (λ hands. length (handlers_in rack.new) ≡ length (handlers_in rack.old)) }
+        ensures refused { IfErr result (λ fault. rack.new ≡ rack.old) }
+    {
         parents_come_first(script);
         let (first, end) = span_of(script, lane);
         let mut held = empty_rack(alloc, end - first)?;
         for a in first..end {
-            if is_of_lane(script, lane, a) {
+            if is_of(script, lane, a) {
                 move_handler(rack, a, &mut held, a - first);
             }
         }

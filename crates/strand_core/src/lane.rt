@@ -1,5 +1,5 @@
 ghost use Rattle.std.specs.Prelude.{◌≡◌, ℕ, ◌<◌, ◌≤◌, true, length};
-ghost use Rattle.strand_core.specs.Hands.{is_of_lane, same_lane};
+ghost use Rattle.strand_core.specs.Hands.{is_of, is_of_lane, same_lane};
 
 use asio_types::{ActNo, Lane, OpNo};
 use session_script::Script;
@@ -17,15 +17,38 @@ fn same_lane(a: Lane, b: Lane) -> bool
 }
 
 /// Whether an act is an operation of a lane.
-pub(crate) fn is_of_lane(script: &Script, lane: Lane, a: ActNo) -> bool
+fn is_of_lane(script: &Script, lane: Lane, a: ActNo) -> bool
     requires { a < length script.now.acts }
     ensures { result ≡ is_of_lane script.now lane a }
 {
     script.is_op(a) && same_lane(script.lane_of(a), lane)
 }
 
-/// The number of the first operation of a lane, and that behind its last; both are 0 where it has none.
-pub(crate) fn span_of(script: &Script, lane: Lane) -> (OpNo, OpNo)
+/// Whether an act is an operation of this lane, or of any where none is named.
+pub(crate) fn is_of(script: &Script, lane: Option<Lane>, a: ActNo) -> bool
+    requires { a < length script.now.acts }
+    ensures { result ≡ is_of script.now lane a }
+{
+    match lane {
+        Some(lane) => is_of_lane(script, lane, a),
+        None => script.is_op(a),
+    }
+}
+
+/// The number of the first operation of a lane, and that behind its last; both are 0 where it has none. Where no lane is
+/// named it is the number of each act.
+pub(crate) fn span_of(script: &Script, lane: Option<Lane>) -> (OpNo, OpNo)
+    ensures ordered { result.0 ≤ result.1 }
+    ensures within { result.1 ≤ length script.now.acts }
+    ensures spans { (n : ℕ) → is_of script.now lane n ≡ true → (result.0 ≤ n) × (n < result.1) }
+{
+    match lane {
+        Some(lane) => lane_span(script, lane),
+        None => (0, script.acts()),
+    }
+}
+
+fn lane_span(script: &Script, lane: Lane) -> (OpNo, OpNo)
     ensures ordered { result.0 ≤ result.1 }
     ensures within { result.1 ≤ length script.now.acts }
     ensures spans { (n : ℕ) → is_of_lane script.now lane n ≡ true → (result.0 ≤ n) × (n < result.1) }

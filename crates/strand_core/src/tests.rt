@@ -372,6 +372,38 @@ fn a_handler_is_called_with_its_own_operation_and_size(rt: HostRuntime) -> Resul
 }
 
 #[test]
+fn the_hands_of_a_script_hold_the_handlers_of_each_lane(rt: HostRuntime) -> Result<(), Fail> {
+    let text = "session 1 strands 1 open { post 0 { } post - { dispatch - { } } } run 1";
+    let script = read_script(rt.alloc(), text.as_bytes())?;
+    let last = Cell::new(None);
+    let mut rack = rack_of(rt.alloc(), PLAIN, &last)?;
+    assert!(rt; script.acts() <= 4);
+    let mut hands = Hands::of_script(rt.alloc(), &script, &mut rack).expect(&rt, "memory");
+    let mut listing = Listing {
+        rt,
+        posted: Vec::new(rt.alloc()),
+    };
+    assert_eq!(rt;
+        execute(&mut listing, &script, &mut hands, 1, Code::Ok, 0),
+        Execution::Whole(8)
+    );
+    assert_eq!(rt;
+        execute(&mut listing, &script, &mut hands, 0, Code::Ok, 0),
+        Execution::Whole(7)
+    );
+    hands.discard_all();
+    rack.discard_all();
+    let Listing { rt: _, posted } = listing;
+    let calls =
+        "begin 1 ok 0 / call 2 / begin 2 ok 0 / end 2 9 / back 2 / end 1 8 / begin 0 ok 0 / end 0 7 / ";
+    assert_eq!(rt;
+        text_of(rt.alloc(), &script, posted.as_slice())?.as_str(),
+        calls
+    );
+    Ok(())
+}
+
+#[test]
 fn handlers_that_stay_are_given_back(rt: HostRuntime) -> Result<(), Fail> {
     let text = "session 1 strands 1 open { post - { } post 0 { } } run 2";
     let script = read_script(rt.alloc(), text.as_bytes())?;

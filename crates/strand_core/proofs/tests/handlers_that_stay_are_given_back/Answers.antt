@@ -1,4 +1,4 @@
-use Rattle.std.proofs.Common.{arith}
+use Rattle.std.proofs.Common.{Some, arith}
 use Rattle.asio_types.specs.declared.number.Lane.TheVariants as lane
 use Rattle.op_handlers.specs.Rack.{handlers_in}
 use Rattle.strand_core.specs.Hands.{is_of_lane}
@@ -6,7 +6,7 @@ use Rattle.strand_core.proofs.MovingLemmas.{room_for_taken, whole_has}
 use Rattle.strand_core.proofs.tests.handlers_that_stay_are_given_back.Goals as goal
 
 pub of_lane-requires : goal.of_lane-requires
-of_lane-requires g c = whole_has c.in_ok-script.script (lane.Strand 0) (handlers_in c.in_ok-rack.rack) c.in_ok-rack.ensures.whole (omega (arith, c.acts.ensures.count, c.in_ok-rack.ensures.count))
+of_lane-requires g c = whole_has c.in_ok-script.script (Some (lane.Strand 0)) (handlers_in c.in_ok-rack.rack) c.in_ok-rack.ensures.whole (omega (arith, c.acts.ensures.count, c.in_ok-rack.ensures.count))
 
 pub give_back-requires : goal.give_back-requires
 give_back-requires g c =

@@ -1,6 +1,6 @@
 use Rattle.std.proofs.Common.{◌≡◌, ◌<◌, ◌≤◌, ℕ, true}
 use Rattle.strand_core.specs.Hands.{is_of_lane}
-use Rattle.strand_core.proofs.lane.span_of.Given as goal
+use Rattle.strand_core.proofs.lane.lane_span.Given as goal
 
 abbrev pub invariant-loop-a : goal.invariant-loop-a
 invariant-loop-a l =
