@@ -1,0 +1,29 @@
+use Rattle.std.proofs.Common.{◌≡◌, ℕ, ◌<◌, ◌≤◌, List, length, map}
+use Rattle.std.specs.Option.{IfSome}
+use Rattle.std.specs.VecDeque.{deque_capacity, deque_len}
+use Rattle.stream_rules.specs.Queue.{writing_side}
+use Rattle.history_book.specs.Untold.{may_give_write}
+use Rattle.proactor_core.specs.Pending.{pending_write, AreWrites}
+use Rattle.proactor_core.specs.Reactor.{tells, whole_told, ChangesOne}
+use Rattle.proactor_core.proofs.QueueLemmas.{GivesSoFar, RulesSoFar}
+use Rattle.proactor_core.proofs.pending.serve_writes.Given as goal
+
+abbrev pub invariant-loop-head : goal.invariant-loop-head
+invariant-loop-head g l = record {
+  keeps : g.X.Reactor.state l.reactor ≡ g.X.Reactor.state l.initial.reactor;
+  faults : g.X.Reactor.faults l.reactor ≡ g.X.Reactor.faults l.initial.reactor;
+  telling : tells (g.X.Reactor.told l.reactor) ≡ tells (g.X.Reactor.told l.initial.reactor);
+  there : IfSome (g.X.Reactor.told l.reactor) (λ outside. l.stream < length outside.streams);
+  told : ChangesOne l.stream (g.X.Reactor.told l.initial.reactor) (g.X.Reactor.told l.reactor);
+  queue_room : deque_capacity l.queue ≡ deque_capacity l.initial.queue;
+  due_room : deque_len l.queue ≤ l.due.spare;
+  writes : AreWrites l.queue.items;
+  gives : GivesSoFar may_give_write (map pending_write l.initial.queue.items) (map pending_write l.queue.items) l.initial.due l.due;
+  served : (held : List ℕ) → IfSome (g.X.Reactor.told l.initial.reactor) (λ _. RulesSoFar writing_side
+      (map pending_write l.initial.queue.items) (map pending_write l.queue.items)
+      (whole_told held (g.X.Reactor.told l.initial.reactor) l.stream)
+      (whole_told held (g.X.Reactor.told l.reactor) l.stream) l.initial.due l.due);
+}
+
+abbrev pub decreases-loop-head : goal.decreases-loop-head
+decreases-loop-head g l = deque_len l.queue

@@ -1,0 +1,8 @@
+use Rattle.std.proofs.Common.{sym, ◌∙◌}
+use Rattle.proactor_core.proofs.FollowsLemmas.{guards-alike}
+use Rattle.proactor_core.proofs.proactor.Proactor.guards.Goals as goal
+
+pub returns-clause-half : goal.returns-clause-half
+returns-clause-half g c = λ half is.
+    let here = rw (← c.self.view_is) at is in
+    c.guards.ensures ∙ sym (guards-alike g.X.Reactor.told _ half here)

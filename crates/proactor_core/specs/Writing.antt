@@ -1,0 +1,13 @@
+-- A write at the head of its queue (Asio reference, async_write_some, async_write).
+use Rattle.std.specs.Prelude.{⊤}
+use Rattle.composed_ops.specs.Asking.{Asking, Reads, Writes}
+use Rattle.composed_ops.specs.Progress.{IsUnderWay, Progress}
+
+abbrev pub IsWriting : Asking → Type 0
+IsWriting (Reads reading) = ⊥
+IsWriting (Writes writing) = ⊤
+
+-- a write that may be asked for more
+pub record MayWrite (progress : Progress) : Type 0 where
+  pub writes : IsWriting progress.asks
+  pub under_way : IsUnderWay progress

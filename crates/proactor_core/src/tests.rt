@@ -1,0 +1,3 @@
+mod due;
+mod streams;
+mod waits;
