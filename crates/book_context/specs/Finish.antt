@@ -1,0 +1,25 @@
+-- The end of a session: handlers that never ran are destroyed.
+use Rattle.std.specs.Prelude.{◌≡◌, ◌≤◌, ℕ, Bool, false, [], ◌∷◌}
+use Rattle.asio_types.specs.declared.event.Event.TheVariants as event
+use Rattle.op_handlers.specs.Marks.{Marks}
+use Rattle.history_book.specs.Marks.{HasMarks}
+use Rattle.strand_core.specs.Hands.{Held, held_at}
+use Rattle.book_context.specs.Book.{HoldsUnspent, has_outside_stop}
+use Rattle.book_context.specs.DropSteps.{IsDropping}
+use Rattle.book_context.specs.Recorded.{IsRecorded}
+use Rattle.book_context.specs.Recording.{Recording}
+
+-- of a session that was over, the unspent handlers below a number are destroyed by now, and the others are held as then
+pub record IsEnding {H : Type 0} (marks : H → Marks) (told : Bool) (run drop : ℕ → ℕ) (outside : Bool) (n : ℕ)
+    (t : Recording) (left : Held H) : Type 0 where
+  -- what was recorded and held when it was over
+  pub last : Recording
+  pub held : Held H
+  pub recorded : IsRecorded told last
+  pub holds : HoldsUnspent marks told run drop last held
+  pub dropping : IsDropping told last n t
+  pub marked : HasMarks run drop t.events
+  pub unstopped : outside ≡ false → has_outside_stop t.events ≡ false
+  pub set_up : t.events ≡ event.Fault ∷ [] → ⊥
+  pub script : left.script ≡ held.script
+  pub from : (m : ℕ) → n ≤ m → held_at left m ≡ held_at held m

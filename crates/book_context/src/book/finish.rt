@@ -1,0 +1,95 @@
+ghost use Rattle.std.specs.Prelude.{◌≡◌, ◌≤◌, ◌<◌, ◌+◌, [], ◌∷◌, Contains, IfSome, IsTrue, None, false, length, map};
+ghost use Rattle.asio_types.specs.Faults.{Rose};
+ghost use Rattle.asio_types.specs.declared.event.Event.TheVariants as event;
+ghost use Rattle.history_book.specs.Legal.{IsLegal, state_of};
+ghost use Rattle.history_book.specs.Marks.{HasMarks};
+ghost use Rattle.proactor_core.specs.Proactor.{tells};
+ghost use Rattle.book_context.specs.BookSteps.{IsBookOver};
+ghost use Rattle.book_context.specs.Finish.{IsEnding};
+ghost use Rattle.book_context.specs.InTurn.{KeepsFaults};
+ghost use Rattle.book_context.specs.Recorded.{recorded_half};
+
+use super::Book;
+use crate::law::drops_are_recorded;
+use crate::record::Record;
+use crate::session::Session;
+use asio_types::{Event, OpNo};
+use history_book::History;
+use op_handlers::CompletionHandler;
+use reactor_trait::Reactor;
+use strand_core::Hands;
+
+/// Destroys the handler of an operation, if it was accepted and never ran.
+fn discard_next<'a, H: CompletionHandler, N: Session>(
+    record: &mut Record<'a>,
+    hands: Hands<'a, H>,
+    op: OpNo,
+) -> Hands<'a, H>
+    requires act { op < length record.old.script.acts }
+    requires ending { IsEnding H.marks N.told N.run N.drop N.outside op record.old hands }
+    ensures ending { IsEnding H.marks N.told N.run N.drop N.outside (op + 1) record.new result }
+    ensures script { record.new.script ≡ record.old.script }
+    ensures half { recorded_half N.told record.new ≡ recorded_half N.told record.old }
+    ensures faults { KeepsFaults record.old record.new }
+{
+    drops_are_recorded();
+    let script = record.script();
+    if !script.is_op(op) || script.is_inline(op) || !record.was_called(op) {
+        return hands;
+    }
+    let (rest, mark) = hands.discard(op);
+    if let Some(mark) = mark {
+        record.push(Event::Dropped { op, mark });
+    }
+    rest
+}
+
+/// Destroys the handlers that were accepted and never ran, in rising number.
+fn discard_unspent<'a, H: CompletionHandler, N: Session>(
+    record: &mut Record<'a>,
+    hands: Hands<'a, H>,
+) -> Hands<'a, H>
+    requires ending { IsEnding H.marks N.told N.run N.drop N.outside 0 record.old hands }
+    ensures ending { IsEnding H.marks N.told N.run N.drop N.outside (length record.old.script.acts)
+        record.new result }
+    ensures script { record.new.script ≡ record.old.script }
+    ensures half { recorded_half N.told record.new ≡ recorded_half N.told record.old }
+    ensures faults { KeepsFaults record.old record.new }
+{
+    let mut left = hands;
+    for op in 0..record.script().acts() {
+        left = discard_next::<H, N>(record, left, op);
+    }
+    left
+}
+
+impl<'a, X: Reactor, H: CompletionHandler, N: Session> Book<'a, X, H, N> {
+    /// Destroys the handlers that never ran, in rising number, and gives the history and the reactor back. A handler whose
+    /// operation was never accepted is destroyed too, and no event shows it.
+    pub fn finish(self) -> (History, X)
+        requires over { IsBookOver N.script self.recording }
+        ensures legal { IsLegal N.script N.told result.0.events }
+        ensures marked { HasMarks N.run N.drop result.0.events }
+        ensures unstopped { N.outside ≡ false → Contains result.0.events (event.Stop None) → ⊥ }
+        ensures faults { N.faults ≤ X.faults result.1 }
+        ensures rose { Contains result.0.events event.Fault → Rose N.faults (X.faults result.1) }
+        ensures set_up { result.0.events ≡ event.Fault ∷ [] → ⊥ }
+        ensures up { IsTrue (X.state result.1).up }
+        ensures now { (X.state result.1).now ≡ (state_of N.script N.told result.0.events).reactor.now }
+        ensures told { tells (X.told result.1) ≡ N.told }
+        ensures sent { (Contains result.0.events event.Fault → ⊥) → IfSome (X.told result.1) (λ outside.
+            map (λ stream. stream.sent) outside.streams
+            ≡ map (λ stream. stream.sent) (state_of N.script N.told result.0.events).reactor.streams) }
+    {
+        drops_are_recorded();
+        let Book {
+            mut record,
+            hands,
+            proactor,
+            names: _,
+        } = self;
+        let left = discard_unspent::<H, N>(&mut record, hands);
+        left.discard_all();
+        (record.into_history(), proactor.into_reactor())
+    }
+}

@@ -1,0 +1,50 @@
+ghost use Rattle.std.specs.Prelude.{◌≡◌, ◌<◌, IsTrue, true, false};
+ghost use Rattle.book_context.specs.Book.{IsTurned, KeepsHistory};
+ghost use Rattle.book_context.specs.InTurn.{HasTold, IsInTurn};
+ghost use Rattle.book_context.specs.Recorded.{recorded_half};
+
+use crate::law::turns_are_recorded;
+use crate::record::Record;
+use crate::session::Session;
+use proactor_core::Proactor;
+use reactor_trait::Reactor;
+
+/// Tells the completion that is next; answers whether there was one.
+fn tell_next<'a, X: Reactor, N: Session>(
+    record: &mut Record<'a>,
+    proactor: &mut Proactor<'a, X>,
+) -> bool
+    requires history { KeepsHistory N.script N.told N.run N.drop N.outside record.old }
+    requires turn { IsInTurn X.state X.told N.told record.old proactor.old }
+    ensures history { KeepsHistory N.script N.told N.run N.drop N.outside record.new }
+    ensures turn { IsInTurn X.state X.told N.told record.new proactor.new }
+    ensures reactor { proactor.new.reactor ≡ proactor.old.reactor }
+    ensures told { HasTold N.told record.old record.new }
+    ensures fewer { result ≡ true → record.new.spare < record.old.spare }
+    ensures whole { result ≡ false → IsTurned X.state X.told (recorded_half N.told record.new) proactor.new }
+{
+    turns_are_recorded();
+    match proactor.next_due() {
+        Some((op, code, size)) => {
+            record.push_done(op, code, size);
+            true
+        }
+        None => false,
+    }
+}
+
+/// Tells all that completes in this turn.
+pub(super) fn tell_all<'a, X: Reactor, N: Session>(
+    record: &mut Record<'a>,
+    proactor: &mut Proactor<'a, X>,
+)
+    requires history { KeepsHistory N.script N.told N.run N.drop N.outside record.old }
+    requires turn { IsInTurn X.state X.told N.told record.old proactor.old }
+    ensures history { KeepsHistory N.script N.told N.run N.drop N.outside record.new }
+    ensures turn { IsInTurn X.state X.told N.told record.new proactor.new }
+    ensures reactor { proactor.new.reactor ≡ proactor.old.reactor }
+    ensures told { HasTold N.told record.old record.new }
+    ensures whole { IsTurned X.state X.told (recorded_half N.told record.new) proactor.new }
+{
+    while tell_next::<X, N>(record, proactor) {}
+}

@@ -1,0 +1,80 @@
+ghost use Rattle.std.specs.Prelude.{◌≡◌, ◌≢◌, ◌⊎◌, [], IfSome, false, true};
+ghost use Rattle.history_book.specs.Requests.{reactor_after_take};
+ghost use Rattle.history_book.specs.Time.{next_time};
+ghost use Rattle.proactor_core.specs.Proactor.{after_point};
+ghost use Rattle.book_context.specs.Book.{KeepsHistory};
+ghost use Rattle.book_context.specs.BookSteps.{passed};
+ghost use Rattle.book_context.specs.InTurn.{HasBegun, HasBroken, HasBrokenOff};
+ghost use Rattle.book_context.specs.Oldest.{with_request};
+ghost use Rattle.book_context.specs.Recorded.{recorded_half};
+ghost use Rattle.book_context.specs.Steps.{IsRoundOpen};
+ghost use Rattle.book_context.specs.TurnSteps.{CanTurnNow, IsWaiting};
+
+use crate::law::turns_are_recorded;
+use crate::record::Record;
+use crate::session::Session;
+use asio_types::{ActNo, Event, Point};
+
+/// A turn of the reactor begins: it takes a request that was the oldest one.
+pub(super) fn begin_take<N: Session>(record: &mut Record<'_>, a: ActNo)
+    requires history { KeepsHistory N.script N.told N.run N.drop N.outside (with_request a record.old) }
+    requires can { CanTurnNow N.told record.old }
+    ensures history { KeepsHistory N.script N.told N.run N.drop N.outside record.new }
+    ensures begun { HasBegun N.told record.old record.new (reactor_after_take record.old.script N.told (recorded_half N.told record.old) a) }
+{
+    turns_are_recorded();
+    record.push(Event::Take { act: a });
+}
+
+/// The event of a time point that has passed.
+fn passed(point: &Point) -> Event
+    ensures { result ≡ passed point.now }
+{
+    match *point {
+        Point::Time(now) => Event::Tick { now },
+        Point::Last => Event::Last,
+    }
+}
+
+/// A turn of the reactor begins: time moves to the next point.
+pub(super) fn begin_tick<N: Session>(record: &mut Record<'_>, point: &Point)
+    requires history { KeepsHistory N.script N.told N.run N.drop N.outside record.old }
+    requires waiting { IsWaiting N.told record.old }
+    requires next { next_time record.old.script (recorded_half N.told record.old) ≡ point.now }
+    ensures history { KeepsHistory N.script N.told N.run N.drop N.outside record.new }
+    ensures begun { HasBegun N.told record.old record.new (after_point record.old.script N.told point.now (recorded_half N.told record.old)) }
+{
+    turns_are_recorded();
+    record.push(passed(point));
+}
+
+/// The reactor has failed, before any of a turn was told.
+pub(super) fn fail<N: Session>(record: &mut Record<'_>)
+    requires history { KeepsHistory N.script N.told N.run N.drop N.outside record.old }
+    requires round { IsRoundOpen record.old }
+    requires works { (recorded_half N.told record.old).failed ≡ false }
+    requires untold { ((recorded_half N.told record.old).whole_turn ≡ true) ⊎ ((recorded_half N.told record.old).due ≡ []) }
+    requires some { record.old.events ≢ [] }
+    ensures history { KeepsHistory N.script N.told N.run N.drop N.outside record.new }
+    ensures broken { HasBroken N.told record.old record.new }
+{
+    turns_are_recorded();
+    record.push_fault();
+}
+
+/// The reactor has failed in a tick, after the time moved to this point, if it moved.
+pub(super) fn break_off<N: Session>(record: &mut Record<'_>, moved: Option<Point>)
+    requires history { KeepsHistory N.script N.told N.run N.drop N.outside record.old }
+    requires waiting { IsWaiting N.told record.old }
+    requires next { IfSome moved (λ point. next_time record.old.script (recorded_half N.told record.old) ≡ point) }
+    ensures history { KeepsHistory N.script N.told N.run N.drop N.outside record.new }
+    ensures broken { HasBrokenOff N.told record.old record.new moved }
+{
+    match moved {
+        Some(point) => {
+            begin_tick::<N>(record, &point);
+            fail::<N>(record);
+        }
+        None => fail::<N>(record),
+    }
+}

@@ -1,0 +1,165 @@
+ghost use Rattle.std.specs.Prelude.{◌≡◌, ◌≤◌, ℕ, [], ◌∷◌, Contains, true, IfErr, IfSome, IsTrue, None, OnErr, OnOk, Some, false, length, map};
+ghost use Rattle.std.specs.Option.{option_map};
+ghost use Rattle.asio_types.specs.Faults.{Rose};
+ghost use Rattle.asio_types.specs.declared.event.Event.TheVariants as event;
+ghost use Rattle.session_script.specs.Script.{is_op};
+ghost use Rattle.op_handlers.specs.Rack.{handler_at, handlers_in};
+ghost use Rattle.strand_core.specs.Hands.{left_at};
+ghost use Rattle.history_book.specs.Legal.{IsLegal, state_of};
+ghost use Rattle.history_book.specs.Marks.{HasMarks};
+ghost use Rattle.proactor_core.specs.Proactor.{tells};
+ghost use Rattle.book_context.specs.BookSteps.{IsBookOver};
+ghost use Rattle.book_context.specs.Setup.{CountsRefusal};
+
+use crate::answer::BookTurn;
+use crate::book::Book;
+use crate::session::Session;
+use asio_types::SetupFault;
+use history_book::History;
+use op_handlers::{CompletionHandler, Rack};
+use reactor_trait::Reactor;
+use session_script::Script;
+use std::alloc::Global;
+use std::sync::{Mutex, Wait};
+use std::thread;
+
+/// A context whose calls may come from any thread: one lock round a book. A handler executes inside one hold of the lock. It
+/// must be finished.
+pub struct BookContext<'a, X: Reactor, H: CompletionHandler, N: Session> {
+    book: Mutex<Book<'a, X, H, N>>,
+}
+
+/// Does what can be done in the round, until there is nothing to do now.
+fn turn_while_it_goes<'a, X: Reactor, H: CompletionHandler, N: Session, R: Wait>(
+    rt: &R,
+    book: &mut Book<'a, X, H, N>,
+) {
+    for _ in rt.forever() {
+        match book.turn() {
+            BookTurn::Did => {}
+            BookTurn::Ended | BookTurn::Stopped | BookTurn::Idle | BookTurn::Fault => return,
+        }
+    }
+}
+
+/// Does what is left of the round, and closes it, unless the book is over.
+fn close_round<'a, X: Reactor, H: CompletionHandler, N: Session, R: Wait>(
+    rt: &R,
+    book: &mut Book<'a, X, H, N>,
+) {
+    for _ in rt.forever() {
+        turn_while_it_goes(rt, book);
+        if book.close() || book.over() {
+            return;
+        }
+    }
+}
+
+/// Closes the rounds that are left, each with its restart, until the book is over.
+fn close_rounds<'a, X: Reactor, H: CompletionHandler, N: Session, R: Wait>(
+    rt: &R,
+    book: &mut Book<'a, X, H, N>,
+)
+    ensures over { IsBookOver N.script book.new.recording }
+{
+    for _ in rt.forever() {
+        if book.over() {
+            return;
+        }
+        book.restart();
+        close_round(rt, book);
+    }
+}
+
+impl<'a, X: Reactor, H: CompletionHandler, N: Session> BookContext<'a, X, H, N> {
+    /// Takes the handlers of the script's operations from the rack, sets the reactor up, and makes the calls of `open`. Takes
+    /// all memory that the session needs. After a refusal the rack is as before.
+    pub fn make(
+        alloc: Global,
+        script: &'a Script,
+        rack: &mut Rack<H>,
+        reactor: X,
+    ) -> Result<BookContext<'a, X, H, N>, (SetupFault, X)>
+        requires script { N.script ≡ script.now }
+        requires told { N.told ≡ tells (X.told reactor) }
+        requires faults { N.faults ≡ X.faults reactor }
+        requires marks { (n : ℕ) → is_op script.now n ≡ true →
+            option_map H.marks (handler_at rack.old n) ≡ Some (record { run = N.run n; drop = N.drop n }) }
+        ensures left { OnOk result ((n : ℕ) →
+            handler_at rack.new n ≡ left_at (is_op script.now n) (handler_at rack.old n)) }
+        ensures count { OnOk result (length (handlers_in rack.new) ≡ length (handlers_in rack.old)) }
+        ensures kept { OnErr result (handlers_in rack.new ≡ handlers_in rack.old) }
+        ensures counts { IfErr result (λ back. CountsRefusal back.0 N.faults (X.faults back.1)) }
+        ensures refused { IfErr result (λ back. back.0 ≡ SetupFault.Failed → (X.state back.1).up ≡ false) }
+        ensures still_told { IfErr result (λ back. back.0 ≡ SetupFault.Failed → tells (X.told back.1) ≡ N.told) }
+    {
+        let book = Book::make(alloc, script, rack, reactor)?;
+        Ok(BookContext {
+            book: Mutex::new(book),
+        })
+    }
+
+    /// Takes turns, each under the lock, until the context ended, was stopped or failed, or nothing is to be done and the round
+    /// doesn't run (Asio reference, io_context::run and ::poll). Any number of threads may call it.
+    pub fn run<R: Wait>(&self, rt: &R) {
+        for _ in rt.forever() {
+            let (turn, runs) = self.one_turn(rt);
+            match turn {
+                BookTurn::Did => {}
+                BookTurn::Idle => {
+                    if !runs {
+                        return;
+                    }
+                    thread::yield_now();
+                }
+                BookTurn::Ended | BookTurn::Stopped | BookTurn::Fault => return,
+            }
+        }
+    }
+
+    /// One turn under the lock, and whether a round is open that runs.
+    fn one_turn<R: Wait>(&self, rt: &R) -> (BookTurn, bool) {
+        let mut book = self.book.lock(rt);
+        let turn = book.turn();
+        (turn, book.runs())
+    }
+
+    /// Runs what is left of the round under way, and closes it.
+    pub fn close_round<R: Wait>(&mut self, rt: &R) {
+        let mut book = self.book.lock(rt);
+        close_round(rt, &mut *book);
+    }
+
+    /// `io_context::restart`, where the next round begins with it.
+    pub fn restart(&mut self) {
+        self.book.get_mut().restart();
+    }
+
+    /// A stop from no handler (Asio reference, io_context::stop), where a round is open that isn't stopped.
+    pub fn stop<R: Wait>(&self, rt: &R)
+        requires allowed { N.outside ≡ true }
+    {
+        self.book.lock(rt).stop();
+    }
+
+    /// Closes the rounds that are left, destroys the handlers that never ran, and gives the history and the reactor back.
+    pub fn finish<R: Wait>(self, rt: &R) -> (History, X)
+        ensures legal { IsLegal N.script N.told result.0.events }
+        ensures marked { HasMarks N.run N.drop result.0.events }
+        ensures unstopped { N.outside ≡ false → Contains result.0.events (event.Stop None) → ⊥ }
+        ensures faults { N.faults ≤ X.faults result.1 }
+        ensures rose { Contains result.0.events event.Fault → Rose N.faults (X.faults result.1) }
+        ensures set_up { result.0.events ≡ event.Fault ∷ [] → ⊥ }
+        ensures up { IsTrue (X.state result.1).up }
+        ensures now { (X.state result.1).now ≡ (state_of N.script N.told result.0.events).reactor.now }
+        ensures told { tells (X.told result.1) ≡ N.told }
+        ensures sent { (Contains result.0.events event.Fault → ⊥) → IfSome (X.told result.1) (λ outside.
+            map (λ stream. stream.sent) outside.streams
+            ≡ map (λ stream. stream.sent) (state_of N.script N.told result.0.events).reactor.streams) }
+    {
+        let BookContext { book } = self;
+        let mut book = book.into_inner();
+        close_rounds(rt, &mut book);
+        book.finish()
+    }
+}
