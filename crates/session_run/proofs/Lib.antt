@@ -1,10 +1,8 @@
-pub mod BuiltLemmas
-pub mod ClosingLemmas
 pub mod CompleteLemmas
-pub mod EventLemmas
-pub mod ExecutionLemmas
-pub mod OpeningLemmas
-pub mod OwnLaneLemmas
-pub mod PlainLemmas
+pub mod FormLemmas
+pub mod GenLemmas
+pub mod NumberLemmas
 pub mod RackLemmas
 pub mod RunLemmas
+pub mod SetupLemmas
+pub mod WorkLemmas

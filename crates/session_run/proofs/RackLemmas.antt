@@ -1,19 +1,48 @@
--- Racks from which one handler was taken.
-use Rattle.std.proofs.Common.{◌≡◌, ℕ, zero, suc, ◌<◌, List, [], ◌∷◌, ap, arith, refl, ◌∙◌}
-use Rattle.std.specs.Prelude.{None, slice_get, slice_set}
-use Rattle.std.specs.Option.{option_flatten}
-use Rattle.op_handlers.specs.Rack.{handler_at, handlers_in}
+-- The marks of the handlers of a whole rack, and what was taken from one.
+use Rattle.std.proofs.Common.{◌≡◌, ℕ, zero, suc, ◌<◌, ◌≤◌, List, [], ◌∷◌, Option, Some, None, IsSome, true, length, ap, arith, refl, subst, sym, ◌∙◌}
+use Rattle.std.specs.Option.{option_flatten, option_map}
+use Rattle.std.proofs.lemmas.Option.{slice_get-get_or}
+use Rattle.session_script.specs.Script.{ScriptModel, is_op}
+use Rattle.op_handlers.specs.Marks.{Marks}
+use Rattle.op_handlers.specs.Rack.{AllTaken, IsWholeRack, handler_at, handlers_in}
 use Rattle.op_handlers.specs.declared.rack.Rack.{Rack}
+use Rattle.session_run.specs.RackMarks.{drop_mark, mark_by, run_mark}
 
--- an element before a later one is written
-get-set_later : {X : Type 0} (xs : List X) (o i : ℕ) (x : X) → o < i → slice_get (slice_set xs o x) i ≡ slice_get xs i
-get-set_later [] o i x later = refl
-get-set_later (y ∷ ys) zero zero x later = absurd (omega arith)
-get-set_later (y ∷ ys) zero (suc i) x later = refl
-get-set_later (y ∷ ys) (suc o) zero x later = absurd (omega arith)
-get-set_later (y ∷ ys) (suc o) (suc i) x later = get-set_later ys o i x (omega arith)
+-- the number of an operation is that of an act
+op_within : (script : ScriptModel) (n : ℕ) → is_op script n ≡ true → n < length script.acts
+op_within script n = within script.acts n
+  where
+    within : (acts : List _) (n : ℕ) → is_op (record script { acts = acts }) n ≡ true → n < length acts
+    within [] n is = cc is
+    within (entry ∷ acts) zero is = omega arith
+    within (entry ∷ acts) (suc n) is = let less = within acts n is in omega arith
 
--- a later handler stays
-pub handler_at-other : {H : Type 0} (old new : Rack H) (o i : ℕ) → handlers_in new ≡ slice_set (handlers_in old) o None → o < i → handler_at new i ≡ handler_at old i
-handler_at-other old new o i after later =
-    ap (λ handlers. option_flatten (slice_get handlers i)) after ∙ ap option_flatten (get-set_later (handlers_in old) o i None later)
+-- a handler that is there has its two marks
+marks_of_some : {H : Type 0} (marks : H → Marks) (handler : Option H) → IsSome handler
+    → option_map marks handler ≡ Some (record { run = mark_by (λ m. m.run) marks handler; drop = mark_by (λ m. m.drop) marks handler })
+marks_of_some marks None is = cc is
+marks_of_some marks (Some handler) is = refl
+
+-- the handler of an operation is there
+has_handler : {H : Type 0} (script : ScriptModel) (rack : Rack H) → IsWholeRack rack
+    → length script.acts ≤ length (handlers_in rack) → (n : ℕ) → is_op script n ≡ true → IsSome (handler_at rack n)
+has_handler script rack whole long n is =
+    let within : n < length (handlers_in rack) = omega (arith, long, op_within script n is) in
+    subst IsSome (sym (ap option_flatten (slice_get-get_or (handlers_in rack) n None within))) (whole n None within)
+
+-- each operation of a script has the marks that a whole rack names for its handler
+pub named_marks : {H : Type 0} (marks : H → Marks) (script : ScriptModel) (rack : Rack H) (run drop : ℕ → ℕ)
+    → run ≡ run_mark marks rack → drop ≡ drop_mark marks rack → IsWholeRack rack → length script.acts ≤ length (handlers_in rack)
+    → (n : ℕ) → is_op script n ≡ true → option_map marks (handler_at rack n) ≡ Some (record { run = run n; drop = drop n })
+named_marks marks script rack run drop run_is drop_is whole long n is =
+    marks_of_some marks (handler_at rack n) (has_handler script rack whole long n is)
+    ∙ (λ i. Some (record { run = sym run_is i n; drop = sym drop_is i n }))
+
+-- what was taken from a rack of the same size was taken from this one
+pub all_taken : {H : Type 0} (old made new : Rack H) → length (handlers_in made) ≡ length (handlers_in old)
+    → AllTaken made new → AllTaken old new
+all_taken old made new same taken = record { size = taken.size ∙ same; none = taken.none }
+
+-- the same, where the rack was left as it was
+pub all_taken_kept : {H : Type 0} (old made new : Rack H) → handlers_in made ≡ handlers_in old → AllTaken made new → AllTaken old new
+all_taken_kept old made new same taken = all_taken old made new (ap length same) taken

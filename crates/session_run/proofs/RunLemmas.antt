@@ -1,41 +1,91 @@
--- What the histories of a session without a reactor never show.
-use Rattle.std.proofs.Common.{zero, suc, false, List, [], ◌∷◌, refl, subst, sym, arith, ap}
-use Rattle.std.specs.Prelude.{Contains, None}
+-- What a context gives back is a run of its script.
+use Rattle.std.proofs.Common.{◌≡◌, ℕ, Bool, List, [], ◌∷◌, Option, Some, None, refl, subst, sym, ◌∙◌, IsTrue}
+use Rattle.std.specs.Prelude.{Contains, IfSome, MatchOption, is_some, map, ⊤}
+use Rattle.std.specs.Option.{option_map}
+use Rattle.asio_types.specs.Faults.{Rose}
 use Rattle.asio_types.specs.declared.event.Event.{Event}
 use Rattle.asio_types.specs.declared.event.Event.TheVariants as event
 use Rattle.session_script.specs.Script.{ScriptModel}
-use Rattle.history_book.specs.Legal.{IsLegal}
+use Rattle.reactor_trait.specs.Reactor.{Outside, ReactorState}
+use Rattle.history_book.specs.Legal.{IsLegal, state_of}
 use Rattle.history_book.specs.Marks.{HasMarks}
-use Rattle.history_book.specs.State.{ReactorHalf, first_state}
+use Rattle.history_book.specs.State.{State}
 use Rattle.op_handlers.specs.Marks.{Marks}
 use Rattle.op_handlers.specs.Rack.{AllTaken}
 use Rattle.op_handlers.specs.declared.rack.Rack.{Rack}
-use Rattle.session_run.specs.Given.{no_reactor}
+use Rattle.session_run.specs.Given.{SeenReactor, sent_outside}
 use Rattle.session_run.specs.RackMarks.{drop_mark, run_mark}
-use Rattle.session_run.specs.Run.{IsRunOf, ShowsNoFault}
-use Rattle.session_run.specs.SoFar.{AreOfContext, IsOfContext}
-use Rattle.session_run.proofs.EventLemmas.{reactor_alone}
+use Rattle.session_run.specs.Run.{IsRunOf, ShowsFault, ShowsNoFault, sent_of}
 
--- an event among those of the context itself is one of them
-contained : (events : List Event) (event : Event) → AreOfContext events → Contains events event → IsOfContext event
-contained [] event own (k, below, same) = absurd (omega (arith, below))
-contained (first ∷ events) event own (zero, below, same) = subst IsOfContext same own.0
-contained (first ∷ events) event own (suc k, below, same) = contained events event own.1 (k, omega (arith, below), same)
+-- a reactor is seen to tell its bytes where it does
+seen_to_tell : (outside : Option Outside) → is_some (option_map sent_outside outside) ≡ is_some outside
+seen_to_tell None = refl
+seen_to_tell (Some outside) = refl
 
-pub no_fault : (events : List Event) → AreOfContext events → ShowsNoFault events
-no_fault events own shown = contained events event.Fault own shown
+-- a reactor that tells its bytes is seen to have sent those of a state
+seen_sent : (outside : Option Outside) (s : State)
+    → IfSome outside (λ outside. map (λ stream. stream.sent) outside.streams ≡ map (λ stream. stream.sent) s.reactor.streams)
+    → MatchOption (option_map sent_outside outside) ⊤ (λ sent. sent ≡ sent_of s)
+seen_sent None s same = tt
+seen_sent (Some outside) s same = same
 
--- a run without a reactor
-pub run_of : {H : Type 0} (marks : H → Marks) (script : ScriptModel) (old new : Rack H) (events : List Event)
-    → IsLegal script false events → AreOfContext events → HasMarks (run_mark marks old) (drop_mark marks old) events → AllTaken old new → IsRunOf marks script no_reactor old new events
-run_of marks script old new events legal own marked spent =
+-- what a context that was finished gives: its history and its reactor, by the names of the session
+pub record Finished (script : ScriptModel) (told : Bool) (run drop : ℕ → ℕ) (before after : ℕ) (events : List Event)
+    (state : ReactorState) (outside : Option Outside) : Type 0 where
+  pub legal : IsLegal script told events
+  pub marked : HasMarks run drop events
+  pub unstopped : Contains events (event.Stop None) → ⊥
+  pub rose : ShowsFault events → Rose before after
+  pub set_up : events ≡ event.Fault ∷ [] → ⊥
+  pub up : IsTrue state.up
+  pub now : state.now ≡ (state_of script told events).reactor.now
+  pub told_still : is_some outside ≡ told
+  pub sent : ShowsNoFault events
+      → IfSome outside (λ outside. map (λ stream. stream.sent) outside.streams ≡ map (λ stream. stream.sent)
+      (state_of script told events).reactor.streams)
+
+-- a reactor as a session sees it, of which it told these bytes at first
+abbrev pub seen_of : Option Outside → Option Outside → ℕ → ℕ → ReactorState → SeenReactor
+seen_of first outside before after state =
     record {
-      legal = legal;
-      marked = marked;
-      spent = spent;
-      unstopped = λ shown. contained events (event.Stop None) own shown;
-      faults = λ shown. absurd (no_fault events own shown);
-      set_up = (λ alone. absurd (no_fault events own (subst (λ es. Contains es event.Fault) (sym alone) (0, omega arith, refl))), λ down. cc down);
-      now = sym (ap (λ (r : ReactorHalf). r.now) (reactor_alone script false (first_state script false) events own));
-      sent = λ quiet. tt;
+      sent = record {
+        told_before = option_map sent_outside first;
+        told_after = option_map sent_outside outside;
+        faults_before = before;
+        faults_after = after;
+      };
+      up = state.up;
+      now = state.now;
     }
+
+-- it is a run with these names
+run_by_names : {H : Type 0} (marks : H → Marks) (script : ScriptModel) (told : Bool) (run drop : ℕ → ℕ) (before after : ℕ)
+    (events : List Event) (state : ReactorState) (first outside : Option Outside) (old new : Rack H)
+    → run ≡ run_mark marks old → drop ≡ drop_mark marks old → AllTaken old new → told ≡ is_some (option_map sent_outside outside)
+    → Finished script told run drop before after events state outside
+    → IsRunOf marks script (seen_of first outside before after state) old new events
+run_by_names marks script told run drop before after events state first outside old new run_is drop_is spent told_is f =
+    record {
+      legal = subst (λ told. IsLegal script told events) told_is f.legal;
+      marked = subst (λ run. HasMarks run (drop_mark marks old) events) run_is
+          (subst (λ drop. HasMarks run drop events) drop_is f.marked);
+      spent = spent;
+      unstopped = f.unstopped;
+      faults = f.rose;
+      set_up = (λ alone. absurd (f.set_up alone), λ down. cc (down, f.up));
+      now = λ up. subst (λ told. state.now ≡ (state_of script told events).reactor.now) told_is f.now;
+      sent = λ quiet. subst (λ told. MatchOption (option_map sent_outside outside) ⊤
+          (λ sent. sent ≡ sent_of (state_of script told events))) told_is (seen_sent outside (state_of script told events) (f.sent quiet));
+    }
+
+-- it is a run of the script that was named
+pub run_of : {H : Type 0} (marks : H → Marks) (named script : ScriptModel) (told : Bool) (run drop : ℕ → ℕ)
+    (faults before after : ℕ) (events : List Event) (state : ReactorState) (first outside : Option Outside) (old new : Rack H)
+    → named ≡ script → faults ≡ before → run ≡ run_mark marks old → drop ≡ drop_mark marks old → AllTaken old new
+    → Finished named told run drop faults after events state outside
+    → IsRunOf marks script (seen_of first outside before after state) old new events
+run_of marks named script told run drop faults before after events state first outside old new named_is faults_is run_is drop_is spent f =
+    subst (λ script. IsRunOf marks script (seen_of first outside before after state) old new events) named_is
+    (subst (λ before. IsRunOf marks named (seen_of first outside before after state) old new events) faults_is
+    (run_by_names marks named told run drop faults after events state first outside old new run_is drop_is spent
+    (sym f.told_still ∙ sym (seen_to_tell outside)) f))

@@ -15,6 +15,7 @@ status_of ending.Usage = status.Usage
 status_of (ending.Refused refused) = status.Refused
 status_of ending.ReadFault = status.ReadFault
 status_of ending.WriteFault = status.WriteFault
+status_of ending.ReactorFault = status.ReactorFault
 status_of ending.NoMemory = status.NoMemory
 
 -- the note of an ending; that of a refusal names its fault

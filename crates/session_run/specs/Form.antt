@@ -1,16 +1,24 @@
 -- The forms of the command, by their words.
-use Rattle.std.specs.Prelude.{◌≡◌, ℕ, List, [], ◌∷◌, codes}
+use Rattle.std.specs.Prelude.{◌≡◌, ◌≤◌, ℕ, List, [], ◌∷◌, codes, ⊤}
+use Rattle.std.specs.Fmt.{decimal}
+use Rattle.generated_session.specs.Generator.{most_size, most_start}
 use Rattle.session_run.specs.declared.form.Form.{Form}
 use Rattle.session_run.specs.declared.form.Form.TheVariants as forms
 
--- the one word of a form
-abbrev pub word_of : Form → List ℕ
-word_of forms.Run = codes "run"
-word_of forms.Upgrade = codes "upgrade"
+-- the words of a form
+abbrev pub words_of : Form → List (List ℕ)
+words_of forms.Run = codes "run" ∷ []
+words_of forms.Upgrade = codes "upgrade" ∷ []
+words_of (forms.Gen start size) = codes "gen" ∷ decimal start ∷ decimal size ∷ []
+
+-- its numbers make a session
+abbrev pub HasItsNumbers : Form → Type 0
+HasItsNumbers (forms.Gen start size) = (start ≤ most_start) × (1 ≤ size) × (size ≤ most_size)
+HasItsNumbers _ = ⊤
 
 -- the words are those of this form
 abbrev pub IsForm : List (List ℕ) → Form → Type 0
-IsForm words form = words ≡ word_of form ∷ []
+IsForm words form = (words ≡ words_of form) × HasItsNumbers form
 
 -- a script is to be run
 abbrev pub IsRun : List (List ℕ) → Type 0
@@ -20,6 +28,24 @@ IsRun words = IsForm words forms.Run
 abbrev pub IsUpgrade : List (List ℕ) → Type 0
 IsUpgrade words = IsForm words forms.Upgrade
 
+-- the session that these numbers make is to be run
+abbrev pub IsGen : List (List ℕ) → ℕ → ℕ → Type 0
+IsGen words start size = IsForm words (forms.Gen start size)
+
+-- a form that reads a script
+abbrev pub IsReading : Form → Type 0
+IsReading (forms.Gen start size) = ⊥
+IsReading _ = ⊤
+
+-- a form that runs a script
+abbrev pub IsRunning : Form → Type 0
+IsRunning forms.Upgrade = ⊥
+IsRunning _ = ⊤
+
 -- the words are those of a form
 abbrev pub HasForm : List (List ℕ) → Type 0
 HasForm words = (form : Form) × IsForm words form
+
+-- the words are those of a form that reads a script
+abbrev pub Reads : List (List ℕ) → Type 0
+Reads words = (form : Form) × IsForm words form × IsReading form

@@ -1,7 +1,9 @@
 -- The objects that a session is given, as they are seen before and after it.
-use Rattle.std.specs.Prelude.{ℕ, Bool, true, List, None, is_some}
+use Rattle.std.specs.Prelude.{ℕ, Bool, List, Option, is_some, map}
+use Rattle.std.specs.Option.{option_map}
+use Rattle.reactor_trait.specs.Reactor.{Outside, ReactorState}
 use Rattle.op_handlers.specs.declared.rack.Rack.{Rack}
-use Rattle.text_io.specs.Seen.{Seen}
+use Rattle.text_io.specs.Seen.{Seen, seen_by}
 
 -- a reactor: the bytes that it tells as sent on each stream, and after the session whether it is set up, and its time
 pub record SeenReactor : Type 0 where
@@ -13,9 +15,14 @@ pub record SeenReactor : Type 0 where
 abbrev pub tells : SeenReactor → Bool
 tells reactor = is_some reactor.sent.told_after
 
--- a session without a reactor: nothing is told, and nothing fails
-abbrev pub no_reactor : SeenReactor
-no_reactor = record { sent = record { told_before = None; told_after = None; faults_before = 0; faults_after = 0 }; up = true; now = 0 }
+-- the bytes that were sent on each stream
+abbrev pub sent_outside : Outside → List (List ℕ)
+sent_outside outside = map (λ stream. stream.sent) outside.streams
+
+-- a reactor of which these tell
+abbrev pub seen_reactor : {X : Type 0} → (X → ReactorState) → (X → Option Outside) → (X → ℕ) → X → X → SeenReactor
+seen_reactor state told faults before after =
+    record { sent = seen_by (λ x. option_map sent_outside (told x)) faults before after; up = (state after).up; now = (state after).now }
 
 -- what a session was given, but for its notes
 pub record Given (H : Type 0) : Type 0 where

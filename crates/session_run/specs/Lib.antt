@@ -1,13 +1,10 @@
 pub mod Answer
-pub mod Begins
-pub mod Built
 pub mod Ending
 pub mod Form
 pub mod Given
 pub mod Origin
-pub mod Progress
+pub mod Outcome
 pub mod RackMarks
 pub mod Run
-pub mod SoFar
 pub mod Status
 pub mod Upgrade

@@ -24,6 +24,8 @@ pub(crate) enum Ending {
     ReadFault,
     /// Writing failed.
     WriteFault,
+    /// The reactor failed, and the trace was written whole.
+    ReactorFault,
     /// Memory was asked for and not given.
     NoMemory,
 }
@@ -39,6 +41,7 @@ impl Ending {
             Ending::Refused(_) => Status::Refused,
             Ending::ReadFault => Status::ReadFault,
             Ending::WriteFault => Status::WriteFault,
+            Ending::ReactorFault => Status::ReactorFault,
             Ending::NoMemory => Status::NoMemory,
         }
     }

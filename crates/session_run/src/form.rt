@@ -1,23 +1,66 @@
-ghost use Rattle.std.specs.Prelude.{◌≡◌, ◌↔◌, map, Some, None, string_bytes};
-ghost use Rattle.session_run.specs.Form.{HasForm, IsForm, word_of};
+ghost use Rattle.std.specs.Prelude.{◌≡◌, ◌↔◌, ◌≤◌, ◌<◌, ◌^◌, ℕ, [], ◌∷◌, map, Some, None, string_bytes};
+ghost use Rattle.std.specs.Fmt.{decimal};
+ghost use Rattle.session_run.specs.Form.{HasForm, IsForm};
 
-/// The forms of the command: what a session does with the script that it reads. The contract of the session names them.
+use generated_session::{MOST_SIZE, MOST_START};
+use itoa::Buffer;
+
+/// The forms of the command: what a session does. The contract of the session names them.
 #[derive(Clone, Copy, Debug, PartialEq, Eq)]
 pub enum Form {
-    /// It is run, and its trace is written.
+    /// A script is read and run, and its trace is written.
     Run,
-    /// It is upgraded, and the text of its upgrade is written.
+    /// A script is read and upgraded, and the text of its upgrade is written.
     Upgrade,
+    /// The script that these numbers make is run, and the summary of its history is written.
+    Gen {
+        /// The number that makes the session, at most 65,536.
+        start: u32,
+        /// How many acts it has, from 1 to 1,024.
+        size: u32,
+    },
 }
 
-/// The form with this word.
+/// The number of 32 bits that a word is in decimal, without a leading zero.
+fn number_of(word: &String) -> Option<u32>
+    ensures { (n : ℕ) → n < 2 ^ 32 → (result ≡ Some n) ↔ (string_bytes word.now ≡ decimal n) }
+{
+    let Ok(number) = word.as_str().parse::<u32>() else {
+        return None;
+    };
+    let mut buffer = Buffer::new();
+    if buffer.format(number).as_bytes() == word.as_bytes() {
+        Some(number)
+    } else {
+        None
+    }
+}
+
+/// The form with this one word.
 fn form_of_word(word: &String) -> Option<Form>
-    ensures some { (form : Form) → (result ≡ Some form) ↔ (string_bytes word.now ≡ word_of form) }
+    ensures some { (form : Form) → (result ≡ Some form) ↔ IsForm (string_bytes word.now ∷ []) form }
 {
     if word.as_bytes() == b"run".as_slice() {
         Some(Form::Run)
     } else if word.as_bytes() == b"upgrade".as_slice() {
         Some(Form::Upgrade)
+    } else {
+        None
+    }
+}
+
+/// The form with these three words.
+fn form_of_three(word: &String, start: &String, size: &String) -> Option<Form>
+    ensures some { (form : Form) → (result ≡ Some form) ↔
+        IsForm (string_bytes word.now ∷ string_bytes start.now ∷ string_bytes size.now ∷ []) form }
+{
+    if word.as_bytes() != b"gen".as_slice() {
+        return None;
+    }
+    let start = number_of(start)?;
+    let size = number_of(size)?;
+    if start <= MOST_START && 1 <= size && size <= MOST_SIZE {
+        Some(Form::Gen { start, size })
     } else {
         None
     }
@@ -30,6 +73,7 @@ pub(crate) fn form_of(words: &[String]) -> Option<Form>
 {
     match words {
         [word] => form_of_word(word),
+        [word, start, size] => form_of_three(word, start, size),
         _ => None,
     }
 }

@@ -1,74 +1,62 @@
-ghost use Rattle.std.specs.Prelude.{◌≡◌, ◌<◌, ◌≤◌, ◌+◌, ◌*◌, ℕ, [], length, true, false, IsSome};
-ghost use Rattle.op_handlers.specs.Rack.{handler_at, handlers_in};
-ghost use Rattle.history_book.specs.Legal.{IsLegal, state_of};
-ghost use Rattle.history_book.specs.Marks.{HasMarks};
-ghost use Rattle.session_run.specs.Progress.{IsPostings, OpenedTo};
-ghost use Rattle.session_run.specs.RackMarks.{run_mark, drop_mark};
-ghost use Rattle.session_run.specs.SoFar.{AreOfContext, IsSoFar};
+use book_context::{BookContext, Session};
+use op_handlers::CompletionHandler;
+use reactor_trait::Reactor;
+use session_script::{Round, Script};
+use std::sync::Wait;
+use std::thread;
+use std::thread::Threads;
 
-use crate::destruction::destroy_all;
-use crate::execution::run;
-use crate::opening::open;
-use crate::recording::record_event;
-use asio_types::Event;
-use history_book::History;
-use op_handlers::{CompletionHandler, Rack};
-use session_script::Script;
+/// The most workers of a round, in both versions of the script.
+const MOST_WORKERS: usize = 16;
 
-/// The round of a context that goes on: it runs until no work is left.
-fn run_to_end<H: CompletionHandler>(script: &Script, history: &mut History, rack: &mut Rack<H>)
-    requires postings { IsPostings script.now }
-    requires whole { (i : ℕ) → i < length script.now.acts → IsSome (handler_at rack.old i) }
-    requires room { 2 * length script.now.acts + 1 ≤ history.old.spare }
-    requires so_far { IsSoFar script.now history.old.events }
-    requires opened { OpenedTo script.now (state_of script.now false history.old.events) (length script.now.acts) }
-    requires going { (state_of script.now false history.old.events).context.stopped ≡ false }
-    requires marked { HasMarks (run_mark H.marks rack.old) (drop_mark H.marks rack.old) history.old.events }
-    ensures legal { IsLegal script.now false history.new.events }
-    ensures of_context { AreOfContext history.new.events }
-    ensures marks { HasMarks (run_mark H.marks rack.old) (drop_mark H.marks rack.old) history.new.events }
-    ensures size { length (handlers_in rack.new) ≡ length (handlers_in rack.old) }
-{
-    run(script, history, rack);
-    record_event(script, history, Event::Ended);
+/// A thread that calls `run` in a round.
+#[derive(Clone, Copy)]
+struct Worker;
+
+/// The workers of a round each call `run`, at the same time where threads can be had, and else one after another.
+fn run_workers<
+    'a,
+    R: Threads + Wait + Sync,
+    X: Reactor + Send,
+    H: CompletionHandler + Send,
+    N: Session + Send + Sync,
+>(rt: &R, context: &BookContext<'a, X, H, N>, workers: &mut [Worker]) {
+    let threads = workers.len().max(1);
+    thread::for_each_mut(rt, workers, threads, &|_, _| context.run(rt));
 }
 
-/// The round of a context that was stopped in `open`: no handler runs, and all are destroyed.
-fn stop_at_once<H: CompletionHandler>(script: &Script, history: &mut History, rack: &mut Rack<H>)
-    requires postings { IsPostings script.now }
-    requires whole { (i : ℕ) → i < length script.now.acts → IsSome (handler_at rack.old i) }
-    requires room { length script.now.acts + 1 ≤ history.old.spare }
-    requires so_far { IsSoFar script.now history.old.events }
-    requires opened { OpenedTo script.now (state_of script.now false history.old.events) (length script.now.acts) }
-    requires stopped { (state_of script.now false history.old.events).context.stopped ≡ true }
-    requires marked { HasMarks (run_mark H.marks rack.old) (drop_mark H.marks rack.old) history.old.events }
-    ensures legal { IsLegal script.now false history.new.events }
-    ensures of_context { AreOfContext history.new.events }
-    ensures marks { HasMarks (run_mark H.marks rack.old) (drop_mark H.marks rack.old) history.new.events }
-    ensures size { length (handlers_in rack.new) ≡ length (handlers_in rack.old) }
-{
-    record_event(script, history, Event::Stopped);
-    destroy_all(script, history, rack);
+/// One round: it restarts where the script says so, its workers run, and it closes. The caller runs what they left.
+fn run_round<
+    'a,
+    R: Threads + Wait + Sync,
+    X: Reactor + Send,
+    H: CompletionHandler + Send,
+    N: Session + Send + Sync,
+>(
+    rt: &R,
+    round: &Round,
+    context: &mut BookContext<'a, X, H, N>,
+    workers: &mut [Worker; MOST_WORKERS],
+) {
+    if round.restart {
+        context.restart();
+    }
+    // The grammar allows no more than there are.
+    let count = usize::from(round.workers).min(MOST_WORKERS);
+    run_workers(rt, context, &mut workers[..count]);
+    context.close_round(rt);
 }
 
-/// Runs the script from its first event to its last with the handlers of the rack. Takes no memory.
-pub(crate) fn run_script<H: CompletionHandler>(
-    script: &Script,
-    history: &mut History,
-    rack: &mut Rack<H>,
-)
-    requires postings { IsPostings script.now }
-    requires whole { (i : ℕ) → i < length script.now.acts → IsSome (handler_at rack.old i) }
-    requires room { 5 * length script.now.acts + 1 ≤ history.old.spare }
-    requires empty { history.old.events ≡ [] }
-    ensures legal { IsLegal script.now false history.new.events }
-    ensures of_context { AreOfContext history.new.events }
-    ensures marks { HasMarks (run_mark H.marks rack.old) (drop_mark H.marks rack.old) history.new.events }
-    ensures size { length (handlers_in rack.new) ≡ length (handlers_in rack.old) }
-{
-    if open(script, history) {
-        stop_at_once(script, history, rack);
-    } else {
-        run_to_end(script, history, rack);
+/// The rounds of a script, in their order. Takes no memory; the threads are the system's.
+pub(crate) fn run_rounds<
+    'a,
+    R: Threads + Wait + Sync,
+    X: Reactor + Send,
+    H: CompletionHandler + Send,
+    N: Session + Send + Sync,
+>(rt: &R, script: &Script, context: &mut BookContext<'a, X, H, N>) {
+    let mut workers = [Worker; MOST_WORKERS];
+    for round in script.rounds() {
+        run_round(rt, round, context, &mut workers);
     }
 }

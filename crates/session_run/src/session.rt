@@ -1,128 +1,193 @@
-ghost use Rattle.std.specs.Prelude.{◌≡◌, ◌⊎◌, ℕ, List, Err, OnOk, Some, map, length, string_bytes, ⊤};
+ghost use Rattle.std.specs.Prelude.{◌≡◌, ◌⊎◌, ℕ, List, Some, map, length, string_bytes};
 ghost use Rattle.op_handlers.specs.Rack.{IsWholeRack, handlers_in};
 ghost use Rattle.session_script.specs.Script.{ScriptModel};
 ghost use Rattle.session_script.specs.Grammar.{IsScript};
 ghost use Rattle.session_script.specs.Limits.{most_acts, most_read};
-ghost use Rattle.session_run.specs.Built.{IsBuilt};
-ghost use Rattle.session_run.specs.Form.{HasForm, IsRun, IsUpgrade};
-ghost use Rattle.session_run.specs.Answer.{Answers, CountsReads, CountsWrites, Does, LeavesAll, Says};
+ghost use Rattle.generated_session.specs.PlainSummary.{plain_summary};
+ghost use Rattle.session_run.specs.Form.{HasItsNumbers, IsGen, IsUpgrade, Reads};
+ghost use Rattle.session_run.specs.Answer.{Answers, CountsReactor, CountsReads, CountsWrites, LeavesAll, LeavesReactor, Says};
 ghost use Rattle.session_run.specs.Ending.{note_at, status_of};
-ghost use Rattle.session_run.specs.Given.{no_reactor};
-ghost use Rattle.session_run.specs.Run.{ShowsNoFault};
+ghost use Rattle.session_run.specs.Given.{seen_reactor};
+ghost use Rattle.session_run.specs.Outcome.{CountsRunning, CountsWriting, Works};
 ghost use Rattle.session_run.specs.declared.form.Form.TheVariants as form_is;
 ghost use Rattle.session_run.specs.declared.status.Status.TheVariants as status;
-ghost use Rattle.text_io.specs.Counts.{CountsFailures, Stood};
-ghost use Rattle.text_io.specs.Seen.{Writes, WritesPart, seen_by};
+ghost use Rattle.text_io.specs.Counts.{Stood};
+ghost use Rattle.session_run.specs.RackMarks.{run_mark};
+ghost use Rattle.text_io.specs.Seen.{Writes, seen_by};
 ghost use Rattle.text_io.specs.Text.{TakesSome};
 
 use crate::ending::Ending;
 use crate::form::{Form, form_of};
 use crate::noting::write_note;
-use crate::origin::{NoScript, read_origin};
+use crate::origin::{NoScript, script_of};
+use crate::outcome::Outcome;
 use crate::running::run_and_write;
 use crate::status::Status;
 use crate::upgrading::upgrade_and_write;
 use asio_types::{Sink, Source};
+use generated_session::summaries_are_plain;
 use op_handlers::{CompletionHandler, Rack};
+use reactor_trait::Reactor;
 use session_script::Script;
 use std::alloc::Global;
-use text_io::Unfinished;
+use std::sync::Wait;
+use std::thread::Threads;
 
 /// Does with a script what the form says, and writes what comes of it.
-fn work<K: Sink, H: CompletionHandler>(
+fn work<R: Threads + Wait + Sync, K: Sink, X: Reactor + Send, H: CompletionHandler + Send>(
+    rt: &R,
     alloc: Global,
     form: Form,
     script: &Script,
     out: &mut K,
+    reactor: X,
     rack: &mut Rack<H>,
-) -> Result<(), Unfinished>
-    requires built { form ≡ form_is.Run → IsBuilt script.now }
+) -> (Outcome, X)
+    requires numbers { HasItsNumbers form }
     requires whole { IsWholeRack rack.old }
     requires count { length (handlers_in rack.old) ≡ most_acts }
-    ensures done { OnOk result (Does form H.marks script.now no_reactor rack.old rack.new ShowsNoFault (Writes (seen_by K.written K.faults out.old out.new))) }
-    ensures cut_off { result ≡ Err Unfinished.Failed → Does form H.marks script.now no_reactor rack.old rack.new (λ events. ⊤) (WritesPart (seen_by K.written K.faults out.old out.new)) }
-    ensures quiet { result ≡ Err Unfinished.NoMemory → out.new ≡ out.old }
-    ensures kept { result ≡ Err Unfinished.NoMemory → handlers_in rack.new ≡ handlers_in rack.old }
+    ensures works { Works form H.marks script.now
+        (seen_reactor X.state X.told X.faults reactor result.1) rack.old rack.new
+        (seen_by K.written K.faults out.old out.new) result.0 }
+    ensures quiet { result.0 ≡ Outcome.NoMemory → out.new ≡ out.old }
+    ensures kept { result.0 ≡ Outcome.NoMemory → handlers_in rack.new ≡ handlers_in rack.old }
     ensures upgrade { form ≡ form_is.Upgrade → handlers_in rack.new ≡ handlers_in rack.old }
-    ensures counts { CountsFailures result (K.faults out.old) (K.faults out.new) }
+    ensures unmoved { form ≡ form_is.Upgrade → result.1 ≡ reactor }
+    ensures writes { CountsWriting result.0 (K.faults out.old) (K.faults out.new) }
+    ensures runs { CountsRunning result.0 (X.faults reactor) (X.faults result.1) }
 {
     match form {
-        Form::Run => run_and_write(alloc, script, out, rack),
-        Form::Upgrade => upgrade_and_write(alloc, script, out),
+        Form::Upgrade => (upgrade_and_write(alloc, script, out), reactor),
+        Form::Run | Form::Gen { .. } => run_and_write(rt, alloc, form, script, out, reactor, rack),
     }
 }
 
 /// The session without its notes.
-fn end<S: Source, K: Sink, H: CompletionHandler>(
+fn end<
+    R: Threads + Wait + Sync,
+    S: Source,
+    K: Sink,
+    X: Reactor + Send,
+    H: CompletionHandler + Send,
+>(
+    rt: &R,
     alloc: Global,
     words: &[String],
     source: &mut S,
     out: &mut K,
+    reactor: X,
     rack: &mut Rack<H>,
-) -> Ending
+) -> (Ending, X)
     requires whole { IsWholeRack rack.old }
     requires count { length (handlers_in rack.old) ≡ most_acts }
-    ensures says { Says H.marks (record { words = map string_bytes words.now; source = seen_by S.left S.faults source.old source.new; out = seen_by K.written K.faults out.old out.new; reactor = no_reactor; rack_before = rack.old; rack_after = rack.new }) (status_of result) (note_at result) }
-    ensures quiet { LeavesAll (status_of result) → out.new ≡ out.old }
-    ensures kept { LeavesAll (status_of result) → handlers_in rack.new ≡ handlers_in rack.old }
-    ensures unread { status_of result ≡ status.Usage → source.new ≡ source.old }
+    ensures says { Says H.marks (record {
+      words = map string_bytes words.now;
+      source = seen_by S.left S.faults source.old source.new;
+      out = seen_by K.written K.faults out.old out.new;
+      reactor = seen_reactor X.state X.told X.faults reactor result.1;
+      rack_before = rack.old;
+      rack_after = rack.new;
+    }) (status_of result.0) (note_at result.0) }
+    ensures quiet { LeavesAll (status_of result.0) → out.new ≡ out.old }
+    ensures kept { LeavesAll (status_of result.0) → handlers_in rack.new ≡ handlers_in rack.old }
+    ensures unmoved { LeavesReactor (status_of result.0) → result.1 ≡ reactor }
+    ensures unread { status_of result.0 ≡ status.Usage → source.new ≡ source.old }
+    ensures unasked { (start size : ℕ) →
+        IsGen (map string_bytes words.now) start size → source.new ≡ source.old }
     ensures taken { TakesSome most_read (S.left source.old) (S.left source.new) }
-    ensures upgrade { IsUpgrade (map string_bytes words.now) → handlers_in rack.new ≡ handlers_in rack.old }
-    ensures reads { CountsReads (status_of result) (S.faults source.old) (S.faults source.new) }
-    ensures writes { CountsWrites (status_of result) (K.faults out.old) (K.faults out.new) }
+    ensures upgrade { IsUpgrade (map string_bytes words.now) →
+        handlers_in rack.new ≡ handlers_in rack.old }
+    ensures upgraded { IsUpgrade (map string_bytes words.now) → result.1 ≡ reactor }
+    ensures reads { CountsReads (status_of result.0) (S.faults source.old) (S.faults source.new) }
+    ensures writes { CountsWrites (status_of result.0) (K.faults out.old) (K.faults out.new) }
+    ensures runs { CountsReactor (status_of result.0) (X.faults reactor) (X.faults result.1) }
 {
     let Some(form) = form_of(words) else {
-        return Ending::Usage;
+        return (Ending::Usage, reactor);
     };
-    let script = match read_origin(alloc, form, source) {
+    let script = match script_of(alloc, form, source) {
         Ok(script) => script,
-        Err(NoScript::Refused(refused)) => return Ending::Refused(refused),
-        Err(NoScript::Failed) => return Ending::ReadFault,
-        Err(NoScript::NoMemory) => return Ending::NoMemory,
+        Err(NoScript::Refused(refused)) => return (Ending::Refused(refused), reactor),
+        Err(NoScript::Failed) => return (Ending::ReadFault, reactor),
+        Err(NoScript::NoMemory) => return (Ending::NoMemory, reactor),
     };
-    match work(alloc, form, &script, out, rack) {
-        Ok(()) => Ending::Done,
-        Err(Unfinished::Failed) => Ending::WriteFault,
-        Err(Unfinished::NoMemory) => Ending::NoMemory,
-    }
+    let (outcome, reactor) = work(rt, alloc, form, &script, out, reactor, rack);
+    (outcome.ending(), reactor)
 }
 
-/// Reads a script from the source and does with it what the words say, which are those behind the program's name. `run`
-/// runs it on one io_context with the handlers of the rack, and writes its trace to out. What can be run so far is a
-/// script of plain postings and stops with one round of `run`; other scripts are refused as rule 10 at line 0 and token
-/// 0. `upgrade` writes the text of the same script in version 2 to out, its words with one space between two, and one
-/// line feed; it takes every script, runs none, and leaves the rack as it was. The status says how far this went, with
-/// its cause; the notes get the status's note, and change no status.
+/// Does what the words say, which are those behind the program's name. `run` reads a script from the source and runs it on one
+/// io_context over the reactor, with the handlers of the rack: each round by as many threads as it names, as far as the
+/// system has them; and it writes its trace to out. `gen START SIZE` makes a script from two numbers, START to 65,536 and SIZE
+/// from 1 to 1,024, both without leading zeros; it reads nothing, runs the script so, and writes the summary of its history.
+/// `upgrade` reads a script and writes its text in version 2 to out, its words with one space between two, and one line feed;
+/// it runs nothing, and leaves rack and reactor as they were. The status says how far this went, with its cause; the notes get
+/// the status's note, and change no status. The reactor comes back.
 ///
-/// Reads at most `MOST_READ` bytes. With the statuses 1, 2, 3 and 6 nothing was run and nothing written; with 0 and 4
-/// every handler was spent by `run`, and none by `upgrade`. Memory is taken for the text, the script, and the history or
-/// the upgrade with its text, before the first handler runs and before anything is written.
-pub fn asio_session<S: Source, K: Sink, N: Sink, H: CompletionHandler>(
+/// Reads at most `MOST_READ` bytes. With the statuses 1, 2, 3 and 6 nothing was run and nothing written; with 0, 4 and 5
+/// every handler was spent by `run` and `gen`, and none by `upgrade`. A reactor that can't be set up gives the history `fault`
+/// alone. Memory is taken for the text, the script, and the context with its history or the upgrade with its text, before the
+/// first handler runs and before anything is written. May wait, as a guard that is never released does.
+pub fn asio_session<
+    R: Threads + Wait + Sync,
+    S: Source,
+    K: Sink,
+    N: Sink,
+    X: Reactor + Send,
+    H: CompletionHandler + Send,
+>(
+    rt: &R,
     alloc: Global,
     words: &[String],
     source: &mut S,
     out: &mut K,
     notes: &mut N,
+    reactor: X,
     rack: &mut Rack<H>,
-) -> Status
+) -> (Status, X)
     requires whole { IsWholeRack rack.old }
     requires count { length (handlers_in rack.old) ≡ most_acts }
-    ensures answer { Answers H.marks (record { words = map string_bytes words.now; source = seen_by S.left S.faults source.old source.new; out = seen_by K.written K.faults out.old out.new; reactor = no_reactor; rack_before = rack.old; rack_after = rack.new }) (seen_by N.written N.faults notes.old notes.new) result }
+    ensures answer { Answers H.marks (record {
+      words = map string_bytes words.now;
+      source = seen_by S.left S.faults source.old source.new;
+      out = seen_by K.written K.faults out.old out.new;
+      reactor = seen_reactor X.state X.told X.faults reactor result.1;
+      rack_before = rack.old;
+      rack_after = rack.new;
+    }) (seen_by N.written N.faults notes.old notes.new) result.0 }
     // With these statuses nothing was run and nothing written.
-    ensures quiet { LeavesAll result → out.new ≡ out.old }
-    ensures kept { LeavesAll result → handlers_in rack.new ≡ handlers_in rack.old }
-    ensures unread { result ≡ status.Usage → source.new ≡ source.old }
+    ensures quiet { LeavesAll result.0 → out.new ≡ out.old }
+    ensures kept { LeavesAll result.0 → handlers_in rack.new ≡ handlers_in rack.old }
+    ensures unmoved { LeavesReactor result.0 → result.1 ≡ reactor }
+    ensures unread { result.0 ≡ status.Usage → source.new ≡ source.old }
+    ensures unasked { (start size : ℕ) →
+        IsGen (map string_bytes words.now) start size → source.new ≡ source.old }
     ensures taken { TakesSome most_read (S.left source.old) (S.left source.new) }
-    // Status 3 comes exactly where the source's count of faults rose, and status 4 exactly where out's did.
-    ensures reads { CountsReads result (S.faults source.old) (S.faults source.new) }
-    ensures writes { CountsWrites result (K.faults out.old) (K.faults out.new) }
-    // A script whose reading and writing don't fail is run to its end, or its upgrade is written, unless memory runs out.
-    ensures complete { (bytes : List ℕ) (script : ScriptModel) → HasForm (map string_bytes words.now) → S.left source.old ≡ Some bytes → IsScript bytes script → (IsRun (map string_bytes words.now) → IsBuilt script)
-        → Stood (S.faults source.old) (S.faults source.new) → Stood (K.faults out.old) (K.faults out.new) → (result ≡ status.Done) ⊎ (result ≡ status.NoMemory) }
+    // Status 3 comes exactly where the source's count of faults rose, status 4 exactly where out's did, and status 5 only where
+    // the reactor's did.
+    ensures reads { CountsReads result.0 (S.faults source.old) (S.faults source.new) }
+    ensures writes { CountsWrites result.0 (K.faults out.old) (K.faults out.new) }
+    ensures runs { CountsReactor result.0 (X.faults reactor) (X.faults result.1) }
+    // Where no count rose, a script is run to its end, or its upgrade is written, unless memory runs out.
+    ensures complete { (bytes : List ℕ) (script : ScriptModel) → Reads (map string_bytes words.now) →
+        S.left source.old ≡ Some bytes → IsScript bytes script →
+        Stood (S.faults source.old) (S.faults source.new) →
+        Stood (K.faults out.old) (K.faults out.new) → Stood (X.faults reactor) (X.faults result.1) →
+        (result.0 ≡ status.Done) ⊎ (result.0 ≡ status.NoMemory) }
+    ensures complete_gen { (start size : ℕ) → IsGen (map string_bytes words.now) start size →
+        Stood (K.faults out.old) (K.faults out.new) → Stood (X.faults reactor) (X.faults result.1) →
+        (result.0 ≡ status.Done) ⊎ (result.0 ≡ status.NoMemory) }
+    // The summary of a session that numbers made is the same at each run.
+    ensures plain { (start size : ℕ) → IsGen (map string_bytes words.now) start size →
+        result.0 ≡ status.Done → Writes (seen_by K.written K.faults out.old out.new)
+        (plain_summary start size (run_mark H.marks rack.old)) }
     // An upgrade executes nothing and destroys nothing.
-    ensures upgrade { IsUpgrade (map string_bytes words.now) → handlers_in rack.new ≡ handlers_in rack.old }
+    ensures upgrade { IsUpgrade (map string_bytes words.now) →
+        handlers_in rack.new ≡ handlers_in rack.old }
+    ensures upgraded { IsUpgrade (map string_bytes words.now) → result.1 ≡ reactor }
 {
-    let ending = end(alloc, words, source, out, rack);
+    // The law that the clause `plain` rests on; it runs nothing.
+    summaries_are_plain();
+    let (ending, reactor) = end(rt, alloc, words, source, out, reactor, rack);
     let _ = write_note(notes, ending);
-    ending.status()
+    (ending.status(), reactor)
 }

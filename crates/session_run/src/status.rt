@@ -4,8 +4,8 @@ ghost use Rattle.session_run.specs.Status.{number_of, note_of};
 /// How a session ended: the program's exit status.
 #[derive(Clone, Copy, Debug, PartialEq, Eq)]
 pub enum Status {
-    /// The script was read to its end, and it was run to its end and the whole trace was written, or the whole text of its
-    /// upgrade was written.
+    /// The script was read to its end or made, and it was run to its end and the whole trace or summary was written, or the
+    /// whole text of its upgrade was written.
     Done,
     /// The words are no form of the command.
     Usage,
@@ -13,9 +13,9 @@ pub enum Status {
     Refused,
     /// Reading failed.
     ReadFault,
-    /// Writing failed; the first part of the trace, or of the text of the upgrade, was written.
+    /// Writing failed; the first part of the trace, the summary, or the text of the upgrade, was written.
     WriteFault,
-    /// The reactor failed; the trace was written whole and shows it.
+    /// The reactor failed; the trace or the summary was written whole and shows it.
     ReactorFault,
     /// Memory was asked for and not given.
     NoMemory,
@@ -36,7 +36,8 @@ impl Status {
     {
         match self {
             Status::Done | Status::Refused => b"",
-            Status::Usage => b"asio_run: usage: asio_run run | asio_run upgrade\n",
+            Status::Usage =>
+                b"asio_run: usage: asio_run run | asio_run upgrade | asio_run gen START SIZE\n",
             Status::ReadFault => b"asio_run: read fault\n",
             Status::WriteFault => b"asio_run: write fault\n",
             Status::ReactorFault => b"asio_run: reactor fault\n",

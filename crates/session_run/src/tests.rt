@@ -8,14 +8,24 @@ mod texts;
 use crate::{Status, asio_session};
 use asio_types::{NoMemory, Sink, Source, SureSink, SureSource, class_of};
 use op_handlers::{Call, CompletionHandler, Rack, Ran};
+use reactor_trait::SilentReactor;
 use session_script::MOST_ACTS;
 use std::alloc::Global;
-use std::cell::Cell;
+use std::sync::Wait;
+use std::sync::atomic::{AtomicU64, Ordering};
+use std::thread::Threads;
+
+/// The operation and the position of the last call of a handler.
+#[derive(Drop)]
+struct LastCall {
+    op: AtomicU64,
+    begun: AtomicU64,
+}
 
 /// A handler that notes its call.
 struct Noting<'a> {
     number: u64,
-    last: &'a Cell<Option<Call>>,
+    last: &'a LastCall,
 }
 
 impl<'a> CompletionHandler for Noting<'a> {
@@ -23,7 +33,8 @@ impl<'a> CompletionHandler for Noting<'a> {
 
     fn call(self, call: Call) -> Ran {
         let Noting { number, last } = self;
-        last.set(Some(call));
+        last.op.store(u64::from(call.op), Ordering::SeqCst);
+        last.begun.store(call.begun, Ordering::SeqCst);
         Ran {
             mark: number,
             class: class_of(call.code),
@@ -38,7 +49,7 @@ impl<'a> CompletionHandler for Noting<'a> {
 }
 
 /// A whole rack, number n with the marks 1000 + n.
-fn rack_of<'a>(alloc: Global, last: &'a Cell<Option<Call>>) -> Result<Rack<Noting<'a>>, NoMemory>
+fn rack_of<'a>(alloc: Global, last: &'a LastCall) -> Result<Rack<Noting<'a>>, NoMemory>
     ensures whole { IfOk result IsWholeRack }
     ensures count { IfOk result (λ rack. length (handlers_in rack) ≡ most_acts) }
 {
@@ -57,38 +68,60 @@ struct Left {
     note: String,
     /// Whether no handler was taken.
     whole: bool,
-    /// The last call of a handler.
-    last: Option<Call>,
+    /// The operation and the position of the last call of a handler, 0 and 0 where none was called.
+    last: (u64, u64),
 }
 
-/// A session with these words, this source and this out.
-fn session<S: Source, K: Sink>(
+/// A session with these words, this source and this out, over a silent reactor.
+fn session<R: Threads + Wait + Sync, S: Source, K: Sink>(
+    rt: &R,
     alloc: Global,
     words: &str,
     source: &mut S,
     out: &mut K,
 ) -> Result<Left, NoMemory> {
     let words = words_of(alloc, words)?;
-    let last = Cell::new(None);
+    let last = LastCall {
+        op: AtomicU64::new(0),
+        begun: AtomicU64::new(0),
+    };
     let mut notes = SureSink::make(alloc, 256)?;
     let mut rack = rack_of(alloc, &last)?;
-    let status = asio_session(alloc, words.as_slice(), source, out, &mut notes, &mut rack);
+    let (status, _) = asio_session(
+        rt,
+        alloc,
+        words.as_slice(),
+        source,
+        out,
+        &mut notes,
+        SilentReactor::empty(alloc),
+        &mut rack,
+    );
     let whole = rack.is_whole();
     rack.discard_all();
     let note = String::from_utf8_lossy(alloc, notes.bytes())?;
+    let seen = (
+        last.op.load(Ordering::SeqCst),
+        last.begun.load(Ordering::SeqCst),
+    );
     Ok(Left {
         status,
         note,
         whole,
-        last: last.get(),
+        last: seen,
     })
 }
 
 /// A session in memory, and what it wrote.
-fn session_of(alloc: Global, words: &str, text: &str) -> Result<(Left, String), NoMemory> {
+fn session_of<R: Threads + Wait + Sync>(
+    rt: &R,
+    alloc: Global,
+    words: &str,
+    text: &str,
+) -> Result<(Left, String), NoMemory> {
     let mut source = SureSource::make(alloc, text.as_bytes())?;
     let mut out = SureSink::make(alloc, 262_145)?;
-    let left = session(alloc, words, &mut source, &mut out)?;
+    let left = session(rt, alloc, words, &mut source, &mut out)?;
     Ok((left, String::from_utf8_lossy(alloc, out.bytes())?))
 }
 

@@ -2,7 +2,7 @@
 
 ghost use Rattle.std.specs.Prelude.{◌≡◌, ◌<◌, ◌++◌, ◌∷◌, [], length};
 
-use crate::marked::{Marked, rack_of};
+use crate::marked::{Marked, PLAIN, rack_of};
 use asio_types::{ActNo, Code, Event, Lane, OpNo, SureSink};
 use history_book::{History, Replay, write_trace};
 use op_handlers::Ran;
@@ -159,7 +159,7 @@ fn hands_of<'a, R: Abort>(
 ) -> Hands<'a, Marked>
     ensures { result.script ≡ script.now }
 {
-    let mut rack = rack_of(rt, alloc, script.acts());
+    let mut rack = rack_of(rt, alloc, script.acts(), PLAIN);
     let hands = Hands::of_lane(alloc, script, Lane::Strand(strand), &mut rack).expect(
         rt,
         "memory for a test",

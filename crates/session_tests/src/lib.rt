@@ -2,8 +2,16 @@
 #![tactic(auto)]
 
 #[cfg(test)]
-mod checks;
-#[cfg(test)]
 mod executions;
 #[cfg(test)]
+mod failing;
+#[cfg(test)]
+mod generated;
+#[cfg(test)]
 mod marked;
+#[cfg(test)]
+mod refused;
+#[cfg(test)]
+mod sessions;
+#[cfg(test)]
+mod worked;

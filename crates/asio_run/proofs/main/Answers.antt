@@ -12,14 +12,14 @@ abbrev named : ℕ → Marks
 named n = record { run = 1000 + n; drop = 1000 + n }
 
 pub of-handler-requires : goal.of-handler-requires
-of-handler-requires c =
+of-handler-requires g c =
     let job = c.in-Ok-boxed.job.value in
     (record { run = job.0; drop = job.0 }, AnswersBy-boxed own-1 entry-1-1 at-1-1 same-1-1 _ c.into_dyn_box.ensures.1 (λ s. tt) (λ s r p. p.2) (λ s. (job, s, refl)))
 
 pub loop-n-preserved : goal.loop-n-preserved
 unfolding of-handler-requires
-loop-n-preserved c =
-    let known = of-handler-requires (goal.at.loop-n-preserved c).After-into_dyn_box in
+loop-n-preserved g c =
+    let known = of-handler-requires g (goal.at.loop-n-preserved g c).After-into_dyn_box in
     let marked : marks_of c.of-handler.result ≡ known.0 = c.of-handler.ensures known.0 known.1 in
     let mark : c.in-Ok-boxed.job.value.0 ≡ 1000 + c.loop-n.n = ap (λ job. job.0) c.in-Ok-boxed.ensures.ok in
     let as_named : marks_of c.of-handler.result ≡ named (length c.loop-n.handlers.items) =
@@ -30,5 +30,5 @@ loop-n-preserved c =
       marks = rw c.push_reserved.ensures.items (HaveMarks-push marks_of named c.loop-n.handlers.items c.of-handler.result c.loop-n.invariant.marks as_named);
     }
 
-pub asio_session-status-requires-clause-whole : goal.asio_session-status-requires-clause-whole
-asio_session-status-requires-clause-whole c = rw c.of-rack.ensures (All-HaveMarks marks_of named c.loop-n.handlers.items c.loop-n.invariant.marks)
+pub session-requires-clause-whole : goal.session-requires-clause-whole
+session-requires-clause-whole g c κs = rw c.of-rack.ensures (All-HaveMarks marks_of named c.loop-n.handlers.items c.loop-n.invariant.marks)

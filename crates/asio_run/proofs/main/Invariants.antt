@@ -5,7 +5,7 @@ use Rattle.session_script.specs.Limits.{most_acts}
 use Rattle.asio_run.proofs.main.Given as goal
 
 abbrev pub invariant-loop-n : goal.invariant-loop-n
-invariant-loop-n l = record {
+invariant-loop-n g l = record {
   room : most_acts ≤ l.handlers.cap;
   count : length l.handlers.items ≡ l.n;
   marks : HaveMarks marks_of (λ n. record { run = 1000 + n; drop = 1000 + n }) l.handlers.items;

@@ -4,19 +4,21 @@ use super::{lines, session_of};
 use crate::Status;
 use std::alloc::Global;
 use std::process::Abort;
+use std::sync::Wait;
 use std::test::Fail;
+use std::thread::Threads;
 
-const USAGE: &str = "asio_run: usage: asio_run run | asio_run upgrade\n";
+const USAGE: &str = "asio_run: usage: asio_run run | asio_run upgrade | asio_run gen START SIZE\n";
 
 /// Each session, by its words and its text, has this status, and writes these lines and this note. A run that is done
 /// spends every handler, and no other session takes one.
-fn writes_all(
-    rt: &impl Abort,
+fn writes_all<R: Abort + Threads + Wait + Sync>(
+    rt: &R,
     alloc: Global,
     rows: &[(&str, &str, Status, &str, &str)],
 ) -> Result<(), Fail> {
     for (words, text, status, want, note) in rows {
-        let (left, out) = session_of(alloc, words, text)?;
+        let (left, out) = session_of(rt, alloc, words, text)?;
         assert_eq!(rt; left.status, *status, "{words}: {text}");
         assert_eq!(rt;
             out.as_str(),
@@ -31,33 +33,35 @@ fn writes_all(
 }
 
 #[test]
-fn postings_run_in_order_with_their_handlers(rt: HostRuntime) -> Result<(), Fail> {
+fn sessions_write_their_traces(rt: HostRuntime) -> Result<(), Fail> {
     let none = "session 1 open { } run 1";
-    let one = "session 1 open { post - { } } run 1";
-    let two = "session 1 open { post - { } post - { } } run 1";
+    let two = "session 1 strands 1 open { post 0 { } post 0 { } } run 4";
     let stopped = "session 1 open { post - { } stop post - { } } run 1";
-    let ran = "call 0 / back 0 / begin 0 ok 0 / end 0 1000 / ended";
+    let wait = "session 1 timers 1 open { expires 0 5 wait 0 - - { } } poll 1 run 2";
+    let read = "session 2 streams 1 open { readsome 0 4 - - { } } run 1";
     let ran_both =
         "call 0 / back 0 / call 1 / back 1 / begin 0 ok 0 / end 0 1000 / begin 1 ok 0 / end 1 1001 / ended";
     let dropped =
         "call 0 / back 0 / call 1 / stop 1 / back 1 / call 2 / back 2 / stopped / drop 0 1000 / drop 2 1002";
+    let waited =
+        "call 0 / back 0 / call 1 / back 1 / take 0 / take 1 / polled / tick 5 / done 1 ok 0 / begin 1 ok 0 / end 1 1001 / ended";
+    let at_end =
+        "call 0 / back 0 / take 0 / last / done 0 eof 0 / begin 0 eof 0 / end 0 1000 / ended";
     writes_all(
         &rt,
         rt.alloc(),
         &[
             ("run", none, Status::Done, "ended", ""),
-            ("run", one, Status::Done, ran, ""),
             ("run", two, Status::Done, ran_both, ""),
             ("run", stopped, Status::Done, dropped, ""),
+            ("run", wait, Status::Done, waited, ""),
+            ("run", read, Status::Done, at_end, ""),
         ],
     )
 }
 
 #[test]
 fn other_texts_are_refused_with_their_fault(rt: HostRuntime) -> Result<(), Fail> {
-    let timers = "session 1 timers 1 open { expires 0 5 } run 1";
-    let body = "session 1 open { post - { post - { } } } run 1";
-    let unbuilt = "asio_run: refused 10 at line 0 token 0\n";
     let first = "asio_run: refused 4 at line 1 token 1\n";
     let jump = "session 1\nopen { jump } run 1";
     let fifth = "asio_run: refused 4 at line 2 token 5\n";
@@ -67,8 +71,6 @@ fn other_texts_are_refused_with_their_fault(rt: HostRuntime) -> Result<(), Fail>
         &rt,
         rt.alloc(),
         &[
-            ("run", timers, Status::Refused, "", unbuilt),
-            ("run", body, Status::Refused, "", unbuilt),
             ("run", "", Status::Refused, "", first),
             ("upgrade", "", Status::Refused, "", first),
             ("upgrade", jump, Status::Refused, "", fifth),
@@ -88,6 +90,10 @@ fn other_words_get_the_usage(rt: HostRuntime) -> Result<(), Fail> {
             ("walk", text, Status::Usage, "", USAGE),
             ("upgrades", text, Status::Usage, "", USAGE),
             ("run upgrade", text, Status::Usage, "", USAGE),
+            ("gen 1 0", text, Status::Usage, "", USAGE),
+            ("gen 01 1", text, Status::Usage, "", USAGE),
+            ("gen 65537 1", text, Status::Usage, "", USAGE),
+            ("gen 1 1025", text, Status::Usage, "", USAGE),
         ],
     )
 }
@@ -113,20 +119,4 @@ fn upgrades_are_written_in_version_2(rt: HostRuntime) -> Result<(), Fail> {
             ("upgrade", read, Status::Done, read_new, ""),
         ],
     )
-}
-
-#[test]
-fn as_many_acts_as_allowed_run(rt: HostRuntime) -> Result<(), Fail> {
-    let alloc = rt.alloc();
-    for (count, status, many) in [(1024u32, Status::Done, 4097), (1025, Status::Refused, 0)] {
-        let mut text = String::from_str(alloc, "session 1 open {")?;
-        for _ in 0..count {
-            text.push_str(" post - { }")?;
-        }
-        text.push_str(" } run 1")?;
-        let (left, out) = session_of(alloc, "run", text.as_str())?;
-        let ends = out.as_bytes().iter().filter(|byte| **byte == b'\n').count();
-        assert_eq!(rt; (left.status, ends), (status, many), "{count} postings");
-    }
-    Ok(())
 }

@@ -1,7 +1,21 @@
 use Rattle.std.proofs.Common.{Err, ap, refl}
+use Rattle.session_run.proofs.WorkLemmas.{said}
 use Rattle.session_run.proofs.session.end.Goals as goal
 
 pub returns-in-Err-Refused-clause-says : goal.returns-in-Err-Refused-clause-says
 returns-in-Err-Refused-clause-says g c =
     let refused = c.in-Err-Refused.refused in
-    (c.in-Some.form, refused.rule, refused.line, refused.token, (c.in-Some.ensures.some c.in-Some.form).0 refl, c.in-Err-Refused.ensures.refused refused (ap Err c.in-Err-Refused.field-0-is), rw c.in-Err-Refused.field-0-is refl)
+    let why = c.in-Err-Refused.ensures.refused refused (ap Err c.in-Err-Refused.field-0-is) in (
+      refused.rule,
+      refused.line,
+      refused.token,
+      (c.in-Some.form, (c.in-Some.ensures.some c.in-Some.form).0 refl, why.0),
+      why.1,
+      rw c.in-Err-Refused.field-0-is refl,
+    )
+
+pub returns-clause-says : goal.returns-clause-says
+returns-clause-says g c =
+    rw c.ending.ensures
+    (said g.H.CompletionHandler.marks _ c.in-Some.form _ c.work-outcome.result.0
+    ((c.in-Some.ensures.some c.in-Some.form).0 refl) c.in-Ok.ensures.origin c.work-outcome.ensures.works)

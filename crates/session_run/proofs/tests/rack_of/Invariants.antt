@@ -4,4 +4,5 @@ use Rattle.session_script.specs.Limits.{most_acts}
 use Rattle.session_run.proofs.tests.rack_of.Given as goal
 
 abbrev pub invariant-loop-n : goal.invariant-loop-n
-invariant-loop-n l = record { room : most_acts ≤ vec_capacity l.handlers; count : vec_len l.handlers ≡ l.n; whole : All IsSome l.handlers.items }
+invariant-loop-n l =
+    record { room : most_acts ≤ vec_capacity l.handlers; count : vec_len l.handlers ≡ l.n; whole : All IsSome l.handlers.items }

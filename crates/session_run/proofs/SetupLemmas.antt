@@ -1,0 +1,43 @@
+-- The history of a context whose reactor couldn't be set up.
+use Rattle.std.proofs.Common.{◌≡◌, zero, suc, Bool, false, [], ◌∷◌, None, inl, inr, refl, arith, length}
+use Rattle.std.specs.Prelude.{Contains}
+use Rattle.std.proofs.lemmas.List.Elements.{All-replicate}
+use Rattle.asio_types.specs.Faults.{Rose}
+use Rattle.asio_types.specs.declared.event.Event.TheVariants as event
+use Rattle.session_script.specs.Script.{ScriptModel}
+use Rattle.history_book.specs.Legal.{IsLegal}
+use Rattle.history_book.specs.Rounds.{is_unspent}
+use Rattle.history_book.specs.State.{fresh}
+use Rattle.op_handlers.specs.Marks.{Marks}
+use Rattle.op_handlers.specs.Rack.{AllTaken}
+use Rattle.op_handlers.specs.declared.rack.Rack.{Rack}
+use Rattle.session_run.specs.Given.{SeenReactor, tells}
+use Rattle.session_run.specs.Run.{IsRunOf}
+
+-- a fault may stand before everything else, and nothing was accepted then
+fault_is_legal : (script : ScriptModel) (told : Bool) → IsLegal script told (event.Fault ∷ [])
+fault_is_legal script told =
+    record {
+      legal = (record { once = refl; when = inl refl }, tt);
+      whole = record { over = inr refl; spent = All-replicate (λ act. is_unspent act.phase ≡ false) (length script.acts) fresh refl };
+    }
+
+not_stopped : Contains (event.Fault ∷ []) (event.Stop None) → ⊥
+not_stopped (zero, below, same) = cc same
+not_stopped (suc k, below, same) = absurd (omega arith)
+
+-- a run of a script whose reactor couldn't be set up
+pub broken_run : {H : Type 0} (marks : H → Marks) (script : ScriptModel) (reactor : SeenReactor) (old new : Rack H)
+    → AllTaken old new → reactor.up ≡ false → Rose reactor.sent.faults_before reactor.sent.faults_after
+    → IsRunOf marks script reactor old new (event.Fault ∷ [])
+broken_run marks script reactor old new spent down rose =
+    record {
+      legal = fault_is_legal script (tells reactor);
+      marked = (tt, tt);
+      spent = spent;
+      unstopped = not_stopped;
+      faults = λ shown. rose;
+      set_up = (λ alone. down, λ same. refl);
+      now = λ up. absurd (cc (up, down));
+      sent = λ quiet. absurd (quiet (0, omega arith, refl));
+    }
