@@ -48,7 +48,7 @@ module _ (script : ScriptModel) (told : Bool) (run drop : ℕ → ℕ) (outside 
 
   -- time moves to a point
   module _ (r : Recording) (keeps : KeepsHistory script told run drop outside r) (round : IsRoundOpen r) where
-    point_begun : (event : Event) → IsPlain run drop (event ∷ []) → BeginsTurn event → (half : ReactorHalf) → (after_event r.script told (recorded_state told r) event).reactor ≡ half → steps.HasTurned told r event (with_event event r) →
+    point_begun : (event : Event) → IsPlain run drop (event ∷ []) → BeginsTurn event → (half : ReactorHalf) → (after_event r.script told (recorded_state told r) event).reactor ≡ half → steps.TurnIsBegun told r event (with_event event r) →
         HasBegun told r (with_event event r) half
     point_begun event plain begins half is_half did = record {
       event = event;
@@ -70,14 +70,14 @@ module _ (script : ScriptModel) (told : Bool) (run drop : ℕ → ℕ) (outside 
     point_plain point.Last = record { marked = (tt, tt); working = refl; inside = refl }
 
     pub point_turned : steps.TicksAreRecorded → steps.LastIsRecorded → IsRecorded told r → steps.IsWaiting told r → (point : Point) → next_time r.script (recorded_half told r) ≡ point →
-        steps.HasTurned told r (passed point) (with_event (passed point) r)
+        steps.TurnIsBegun told r (passed point) (with_event (passed point) r)
     point_turned ticks last recorded waiting (point.Time now) next = ticks told r now recorded waiting next
     point_turned ticks last recorded waiting point.Last next = last told r recorded waiting next
 
-    pub tick_history : (point : Point) → steps.HasTurned told r (passed point) (with_event (passed point) r) → KeepsHistory script told run drop outside (with_event (passed point) r)
+    pub tick_history : (point : Point) → steps.TurnIsBegun told r (passed point) (with_event (passed point) r) → KeepsHistory script told run drop outside (with_event (passed point) r)
     tick_history point did = history-plain script told run drop outside r (with_event (passed point) r) (passed point ∷ []) keeps did.goes.recorded refl refl (point_plain point)
 
-    pub tick_begun : (point : Point) → steps.HasTurned told r (passed point) (with_event (passed point) r) → HasBegun told r (with_event (passed point) r) (after_point r.script told point (recorded_half told r))
+    pub tick_begun : (point : Point) → steps.TurnIsBegun told r (passed point) (with_event (passed point) r) → HasBegun told r (with_event (passed point) r) (after_point r.script told point (recorded_half told r))
     tick_begun (point.Time now) did = point_begun (event.Tick now) (point_plain (point.Time now)) tt _ refl did
     tick_begun point.Last did = point_begun event.Last (point_plain point.Last) tt _ refl did
 

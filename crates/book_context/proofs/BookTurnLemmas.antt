@@ -11,8 +11,8 @@ use Rattle.proactor_core.specs.Proactor.{ProactorView}
 use Rattle.strand_core.specs.Hands.{Held, held_at}
 use Rattle.book_context.specs.declared.answer.BookTurn.{BookTurn}
 use Rattle.book_context.specs.declared.answer.BookTurn.TheVariants as turn
-use Rattle.book_context.specs.Book.{BookView, HoldsUnspent, IsBook, IsInStep, IsTurned, KeepsHistory, KeepsReactor, unless_spent}
-use Rattle.book_context.specs.BookSteps.{Answers, IsGoing, IsIdleRound, is_open}
+use Rattle.book_context.specs.Book.{BookView, HoldsUnspent, IsBook, ReactorKeepsTime, IsTurned, KeepsHistory, KeepsReactor, unless_spent}
+use Rattle.book_context.specs.BookSteps.{TurnAnswers, IsGoing, IsIdleRound, is_round_open}
 use Rattle.book_context.specs.InTurn.{HasExecutedNext, HasTakenNext, SpendsNone, TurnsReactor, Waits}
 use Rattle.book_context.specs.Recorded.{is_spent_at, recorded_half, recorded_state}
 use Rattle.book_context.specs.Recording.{Recording}
@@ -38,10 +38,10 @@ held_on marks told run drop r t hands holds same spent = record {
 
 module _ {H X : Type 0} (script : ScriptModel) (told : Bool) (run drop : ℕ → ℕ) (named : ℕ) (outside : Bool) (marks : H → Marks) (state : X → ReactorState) (tells_of : X → Option Outside) (faults : X → ℕ)
     (r : Recording) (hands : Held H) (view : ProactorView X) (inv : IsBook script told run drop named outside marks state tells_of faults r hands view) where
-  pub stopped_answer : r.stopped ≡ true → Answers faults script told run turn.Stopped (shown r view) (shown r view)
+  pub stopped_answer : r.stopped ≡ true → TurnAnswers faults script told run turn.Stopped (shown r view) (shown r view)
   stopped_answer is = (refl, inv.history.recorded.stopped ∙ is)
 
-  pub closed_answer : r.stopped ≡ false → is_open r ≡ false → Answers faults script told run turn.Idle (shown r view) (shown r view)
+  pub closed_answer : r.stopped ≡ false → is_round_open r ≡ false → TurnAnswers faults script told run turn.Idle (shown r view) (shown r view)
   closed_answer going isnt = (
     refl,
     inv.history.recorded.stopped ∙ going,
@@ -52,10 +52,10 @@ module _ {H X : Type 0} (script : ScriptModel) (told : Bool) (run drop : ℕ →
     is_going : IsGoing script (recorded_state told r)
     is_going = subst (λ s. IsGoing s (recorded_state told r)) inv.history.is_script (now_going told r inv.history.recorded law round going)
 
-    pub executed_answer : (t : Recording) (left : Held H) → HasExecutedNext marks script told run drop outside r t left → Answers faults script told run turn.Did (shown r view) (shown t view)
+    pub executed_answer : (t : Recording) (left : Held H) → HasExecutedNext marks script told run drop outside r t left → TurnAnswers faults script told run turn.Did (shown r view) (shown t view)
     executed_answer t left did = (is_going, did.gone, refl)
 
-    turned_answer : (answer : BookTurn) (t : Recording) (left : ProactorView X) → TurnsReactor answer r t (faults view.reactor) (faults left.reactor) → Answers faults script told run answer (shown r view) (shown t left)
+    turned_answer : (answer : BookTurn) (t : Recording) (left : ProactorView X) → TurnsReactor answer r t (faults view.reactor) (faults left.reactor) → TurnAnswers faults script told run answer (shown r view) (shown t left)
     turned_answer turn.Did t left did = (is_going, record { events = did.0.events; is = did.0.is; step = inr did.0.turn }, did.1)
     turned_answer turn.Fault t left did = (is_going, did.0, did.1)
     turned_answer turn.Ended t left did = absurd did
@@ -63,10 +63,10 @@ module _ {H X : Type 0} (script : ScriptModel) (told : Bool) (run drop : ℕ →
     turned_answer turn.Idle t left did = absurd did
 
     pub taken_answer : (answer : BookTurn) (t : Recording) (left : ProactorView X) → HasTakenNext state tells_of faults script told run drop named outside answer r t view left →
-        Answers faults script told run answer (shown r view) (shown t left)
+        TurnAnswers faults script told run answer (shown r view) (shown t left)
     taken_answer answer t left did = turned_answer answer t left did.turned
 
-    pub waited_answer : (answer : BookTurn) (t : Recording) (left : ProactorView X) → Waits faults told answer r t view left → Answers faults script told run answer (shown r view) (shown t left)
+    pub waited_answer : (answer : BookTurn) (t : Recording) (left : ProactorView X) → Waits faults told answer r t view left → TurnAnswers faults script told run answer (shown r view) (shown t left)
     waited_answer turn.Did t left did = turned_answer turn.Did t left did
     waited_answer turn.Fault t left did = turned_answer turn.Fault t left did
     waited_answer turn.Ended t left did = (same_shown r t view left did.0 did.1, is_going, did.2)
@@ -86,7 +86,7 @@ module _ {H X : Type 0} (script : ScriptModel) (told : Bool) (run drop : ℕ →
         holds = did.holds;
         reactor = record {
           script = keeps.script ∙ sym did.same_script;
-          in_step = subst (λ h. IsInStep told h (state view.reactor) (tells_of view.reactor)) (sym did.half) keeps.in_step;
+          in_step = subst (λ h. ReactorKeepsTime told h (state view.reactor) (tells_of view.reactor)) (sym did.half) keeps.in_step;
           turned = λ is. subst (λ h. IsTurned state tells_of h view) (sym did.half) (keeps.turned is);
           failed = ap (λ (h : ReactorHalf). h.failed) did.half ∙ keeps.failed;
           faulted = did.faults ∙ keeps.faulted;

@@ -17,11 +17,11 @@ use Rattle.history_book.specs.Time.{pending_count}
 use Rattle.reactor_trait.specs.Reactor.{Outside, ReactorState}
 use Rattle.proactor_core.specs.Proactor.{Follows, ProactorView}
 use Rattle.book_context.specs.Book.{KeepsReactor}
-use Rattle.book_context.specs.BookSteps.{CannotClose, is_open, open_round}
+use Rattle.book_context.specs.BookSteps.{CannotClose, is_round_open, open_round}
 use Rattle.book_context.specs.Recorded.{IsRecorded, recorded_half, recorded_state}
 use Rattle.book_context.specs.Recording.{Recording, with_closing}
 use Rattle.book_context.specs.RoundSteps.{EndsAreRecorded, PollsAreRecorded, StopsAreRecorded, WorkIsKnown}
-use Rattle.book_context.specs.Steps.{GoesOn}
+use Rattle.book_context.specs.Steps.{EventIsRecorded}
 use Rattle.book_context.proofs.OpenRoundLemmas.{round_open, work_is}
 
 ready-loud : (p : ActPhase) (code : Code) (size : ℕ) (taken : Bool) → IsReadyWith p code size → is_quiet p taken ≡ true → ⊥
@@ -85,8 +85,8 @@ module _ {X : Type 0} (state : X → ReactorState) (told : X → Option Outside)
     half_works : (recorded_half telling r).failed ≡ false
     half_works = keeps.failed ∙ works
 
-    pub may_stop : StopsAreRecorded → is_open r ≡ true → r.stopped ≡ true →
-        GoesOn telling r event.Stopped (with_closing event.Stopped true r)
+    pub may_stop : StopsAreRecorded → is_round_open r ≡ true → r.stopped ≡ true →
+        EventIsRecorded telling r event.Stopped (with_closing event.Stopped true r)
     may_stop law opened stopped =
         let turned = keeps.turned works in
         law telling r recorded (record {
@@ -124,9 +124,9 @@ module _ {X : Type 0} (state : X → ReactorState) (told : X → Option Outside)
         follows_now : Follows told view (recorded_half telling r)
         follows_now = (keeps.turned works).telling.follows
 
-        pub may_end : WorkIsKnown → EndsAreRecorded → is_open r ≡ true →
+        pub may_end : WorkIsKnown → EndsAreRecorded → is_round_open r ≡ true →
             ((half : _) → Follows told view half → pending_count half + count_by is_held half.guards ≡ 0) →
-            GoesOn telling r event.Ended (with_closing event.Ended true r)
+            EventIsRecorded telling r event.Ended (with_closing event.Ended true r)
         may_end work law opened none =
             law telling r recorded (round_open r opened) going
             (work_is telling r recorded half_works none_ready none_asked work ∙ none (recorded_half telling r) follows_now)
@@ -151,8 +151,8 @@ module _ {X : Type 0} (state : X → ReactorState) (told : X → Option Outside)
                 (λ closings. runs (slice_get r.script.rounds closings)) recorded.closings in
                 absurd (cc (polls, same, is)))
 
-            pub may_poll : PollsAreRecorded → is_open r ≡ true → runs (open_round r) ≡ false →
-                GoesOn telling r event.Polled (with_closing event.Polled false r)
+            pub may_poll : PollsAreRecorded → is_round_open r ≡ true → runs (open_round r) ≡ false →
+                EventIsRecorded telling r event.Polled (with_closing event.Polled false r)
             may_poll law opened isnt =
                 law telling r recorded (record {
                   turn = record {

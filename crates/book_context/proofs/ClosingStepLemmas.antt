@@ -14,13 +14,13 @@ use Rattle.history_book.specs.State.{ReactorHalf, State}
 use Rattle.reactor_trait.specs.Reactor.{Outside, ReactorState}
 use Rattle.proactor_core.specs.Proactor.{ProactorView}
 use Rattle.strand_core.specs.Hands.{Held}
-use Rattle.book_context.specs.Book.{HoldsUnspent, IsBook, IsInStep, IsTurned, KeepsHistory, KeepsReactor, has_fault, is_fault, unless_spent}
-use Rattle.book_context.specs.BookSteps.{IsClosing, IsGoing, is_open, open_round, wants_restart, wants_with}
+use Rattle.book_context.specs.Book.{HoldsUnspent, IsBook, ReactorKeepsTime, IsTurned, KeepsHistory, KeepsReactor, has_fault, is_fault, unless_spent}
+use Rattle.book_context.specs.BookSteps.{IsClosing, IsGoing, is_round_open, open_round, wants_restart, wants_with}
 use Rattle.book_context.specs.InTurn.{SpendsNone}
 use Rattle.book_context.specs.Recorded.{IsRecorded, is_spent_at, recorded_half, recorded_state}
 use Rattle.book_context.specs.Recording.{Recording, with_closing, with_outside_stop, with_restart}
 use Rattle.book_context.specs.RoundSteps.{OutsideStopsAreRecorded, RestartsAreRecorded}
-use Rattle.book_context.specs.Steps.{GoesOn, OpenRoundsAreKnown}
+use Rattle.book_context.specs.Steps.{EventIsRecorded, OpenRoundsAreKnown}
 use Rattle.book_context.proofs.BookHistoryLemmas.{IsPlain, history-plain, marked-append, or_false}
 use Rattle.book_context.proofs.OpenRoundLemmas.{round_open}
 
@@ -43,7 +43,7 @@ reactor_same : {X : Type 0} (state : X → ReactorState) (told : X → Option Ou
     (view.tables.failed ≡ true → t.stopped ≡ true) → KeepsReactor state told faults telling named t view
 reactor_same state told faults telling named r t view keeps script half fault stopped = record {
   script = keeps.script ∙ sym script;
-  in_step = subst (λ h. IsInStep telling h (state view.reactor) (told view.reactor)) (sym half) keeps.in_step;
+  in_step = subst (λ h. ReactorKeepsTime telling h (state view.reactor) (told view.reactor)) (sym half) keeps.in_step;
   turned = λ works. subst (λ h. IsTurned state told h view) (sym half) (keeps.turned works);
   failed = ap (λ (h : ReactorHalf). h.failed) half ∙ keeps.failed;
   faulted = fault ∙ keeps.faulted;
@@ -95,7 +95,7 @@ module _ {H X : Type 0} (script : ScriptModel) (told : Bool) (run drop : ℕ →
     (r : Recording) (hands : Held H) (view : ProactorView X)
     (book : IsBook script told run drop named outside marks state tells_of faults r hands view) where
   -- an event that leaves the reactor's half
-  book_on : (event : Event) (t : Recording) → GoesOn told r event t → KeepsHistory script told run drop outside t → t.script ≡ r.script →
+  book_on : (event : Event) (t : Recording) → EventIsRecorded told r event t → KeepsHistory script told run drop outside t → t.script ≡ r.script →
       has_fault t.events ≡ has_fault r.events →
       reactor_after r.script told (recorded_half told r) event ≡ recorded_half told r → (view.tables.failed ≡ true → t.stopped ≡ true) →
       IsBook script told run drop named outside marks state tells_of faults t hands view
@@ -120,7 +120,7 @@ module _ {H X : Type 0} (script : ScriptModel) (told : Bool) (run drop : ℕ →
   stops_works : view.tables.failed ≡ true → (recorded_state told r).context.stopped ≡ true
   stops_works failed = book.history.recorded.stopped ∙ book.reactor.stopped failed
 
-  closed_by : (event : Event) (stopped : Bool) → GoesOn told r event (with_closing event stopped r) → IsPlain run drop (event ∷ []) →
+  closed_by : (event : Event) (stopped : Bool) → EventIsRecorded told r event (with_closing event stopped r) → IsPlain run drop (event ∷ []) →
       is_fault event ≡ false →
       reactor_after r.script told (recorded_half told r) event ≡ recorded_half told r → (view.tables.failed ≡ true → stopped ≡ true) →
       IsBook script told run drop named outside marks state tells_of faults (with_closing event stopped r) hands view
@@ -129,7 +129,7 @@ module _ {H X : Type 0} (script : ScriptModel) (told : Bool) (run drop : ℕ →
       (history-plain script told run drop outside r (with_closing event stopped r) (event ∷ []) book.history goes.recorded refl refl plain)
       refl (faults_on event isnt) half stays
 
-  pub closed_book : (closing : Event) (stopped : Bool) → IsClosing closing → GoesOn told r closing (with_closing closing stopped r) →
+  pub closed_book : (closing : Event) (stopped : Bool) → IsClosing closing → EventIsRecorded told r closing (with_closing closing stopped r) →
       IsBook script told run drop named outside marks state tells_of faults (with_closing closing stopped r) hands view
   closed_book event.Ended stopped is goes =
       closed_by event.Ended stopped goes (record { marked = (tt, tt); working = refl; inside = refl }) refl refl
@@ -154,7 +154,7 @@ module _ {H X : Type 0} (script : ScriptModel) (told : Bool) (run drop : ℕ →
   closed_book (event.Dropped op mark) stopped is goes = absurd is
 
   -- a restart
-  pub may_restart : RestartsAreRecorded → view.tables.failed ≡ false → wants_restart r ≡ true → GoesOn told r event.Restart (with_restart r)
+  pub may_restart : RestartsAreRecorded → view.tables.failed ≡ false → wants_restart r ≡ true → EventIsRecorded told r event.Restart (with_restart r)
   may_restart law works wants =
       law told r book.history.recorded (record {
         left = let found = wants_left r.restarted (open_round r) wants in slice_get_within r.script.rounds r.closings found.0 found.1;
@@ -163,7 +163,7 @@ module _ {H X : Type 0} (script : ScriptModel) (told : Bool) (run drop : ℕ →
         working = book.reactor.failed ∙ works;
       })
 
-  pub restarted_book : GoesOn told r event.Restart (with_restart r) →
+  pub restarted_book : EventIsRecorded told r event.Restart (with_restart r) →
       IsBook script told run drop named outside marks state tells_of faults (with_restart r) hands view
   restarted_book goes =
       book_on event.Restart (with_restart r) goes
@@ -172,21 +172,21 @@ module _ {H X : Type 0} (script : ScriptModel) (told : Bool) (run drop : ℕ →
       refl (faults_on event.Restart refl) refl
       (λ failed. absurd (let works = goes.may.working in let was = half_works failed in cc (works, was)))
 
-  pub was_allowed : GoesOn told r event.Restart (with_restart r) → MayRestart script (recorded_state told r)
+  pub was_allowed : EventIsRecorded told r event.Restart (with_restart r) → MayRestart script (recorded_state told r)
   was_allowed goes = subst (λ s. MayRestart s (recorded_state told r)) book.history.is_script goes.may
 
   -- a stop from outside
-  pub may_stop_outside : OutsideStopsAreRecorded → is_open r ≡ true → r.stopped ≡ false →
-      GoesOn told r (event.Stop None) (with_outside_stop r)
+  pub may_stop_outside : OutsideStopsAreRecorded → is_round_open r ≡ true → r.stopped ≡ false →
+      EventIsRecorded told r (event.Stop None) (with_outside_stop r)
   may_stop_outside law opened going = law told r book.history.recorded (round_open r opened) going
 
-  pub outside_book : outside ≡ true → GoesOn told r (event.Stop None) (with_outside_stop r) →
+  pub outside_book : outside ≡ true → EventIsRecorded told r (event.Stop None) (with_outside_stop r) →
       IsBook script told run drop named outside marks state tells_of faults (with_outside_stop r) hands view
   outside_book allowed goes =
       book_on (event.Stop None) (with_outside_stop r) goes
       (stopped_history script told run drop outside r book.history allowed goes.recorded)
       refl (faults_on (event.Stop None) refl) refl (λ failed. refl)
 
-  pub now_going : OpenRoundsAreKnown → is_open r ≡ true → r.stopped ≡ false → IsGoing script (recorded_state told r)
+  pub now_going : OpenRoundsAreKnown → is_round_open r ≡ true → r.stopped ≡ false → IsGoing script (recorded_state told r)
   now_going law opened still = subst (λ s. IsGoing s (recorded_state told r)) book.history.is_script
       (record { round = law told r book.history.recorded (round_open r opened); going = book.history.recorded.stopped ∙ still })

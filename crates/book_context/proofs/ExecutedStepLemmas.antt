@@ -32,7 +32,7 @@ use Rattle.book_context.specs.Order.{IsKept, has_begun, postings_of, requests_of
 use Rattle.book_context.specs.Ready.{is_ready}
 use Rattle.book_context.specs.Recorded.{IsRecorded, Knows, recorded_state}
 use Rattle.book_context.specs.Recording.{Recording, marked}
-use Rattle.book_context.specs.Steps.{HasExecuted, IsRoundOpen, MayExecute, executed_recording}
+use Rattle.book_context.specs.Steps.{ExecutionIsRecorded, IsRoundOpen, MayExecute, executed_recording}
 use Rattle.book_context.proofs.AccountedLemmas.{account_execution, did as legally, same_pending}
 use Rattle.book_context.proofs.BoundLemmas.{bounded_body, execution_events, shown_by}
 use Rattle.book_context.proofs.CalledLemmas.{called-append, called-execution}
@@ -402,7 +402,7 @@ module _ (told : Bool) (r : Recording) (op : ℕ) (given : Code) (size : ℕ) (n
           omega (arith, counted, fits, few);
     }
 
-    pub has_executed : HasExecuted told r newer calls
+    pub has_executed : ExecutionIsRecorded told r newer calls
     has_executed = record {
       recorded = subst (Knows told next) (sym (legal_state ∙ did.is)) known;
       state = legal_state;

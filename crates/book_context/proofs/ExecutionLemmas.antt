@@ -23,8 +23,8 @@ use Rattle.book_context.specs.BookSteps.{HasGoneOn}
 use Rattle.book_context.specs.InTurn.{KeepsFaults}
 use Rattle.book_context.specs.Oldest.{with_ready}
 use Rattle.book_context.specs.Recorded.{IsRecorded, is_spent_at, recorded_half}
-use Rattle.book_context.specs.Recording.{HasRecorded, HasRoom, Recording, with_calls}
-use Rattle.book_context.specs.Steps.{ExecutionsAreRecorded, HasExecuted, IsRoundOpen, MayExecute, OldestMayExecute}
+use Rattle.book_context.specs.Recording.{HasRecorded, HasRoomForCalls, Recording, with_calls}
+use Rattle.book_context.specs.Steps.{ExecutionsAreRecorded, ExecutionIsRecorded, IsRoundOpen, MayExecute, OldestMayExecute}
 use Rattle.book_context.proofs.BookHistoryLemmas.{IsPlain, faults-plain, history-plain}
 
 -- calls with other marks
@@ -147,14 +147,14 @@ module _ {H : Type 0} (marks : H → Marks) (script : ScriptModel) (told : Bool)
       ap (λ (s : ScriptModel). is_inline s op) holds.script ∙ can.outside,
     )
 
-    pub has_room : (calls : List Posted) → IsWholeExecution r.script AnyMark op code size calls → HasRoom r calls
+    pub has_room : (calls : List Posted) → IsWholeExecution r.script AnyMark op code size calls → HasRoomForCalls r calls
     has_room calls whole = record { events = can.events calls whole; ready = can.postings calls whole; requests = can.requests calls whole }
 
   module _ (law : ExecutionsAreRecorded) (t : Recording) (left : Held H) (did : HasRecorded marks op code size r t held left) where
     own : IsWholeExecution r.script (OwnMark run) op code size did.calls
     own = whole_marks (λ n mark has. mark_held marks (held_at held n) (not (is_op r.script n) || is_spent_at told (with_ready (op, code, size) r) n) _ mark (holds.each n) has) op code size did.calls did.whole
 
-    executed : HasExecuted told (with_ready (op, code, size) r) r.ready did.calls
+    executed : ExecutionIsRecorded told (with_ready (op, code, size) r) r.ready did.calls
     executed = law told (with_ready (op, code, size) r) op code size r.ready did.calls keeps.recorded refl going old_round (whole_marks (λ n mark has. tt) op code size did.calls did.whole)
 
     plain : IsPlain run drop (events_of r.script did.calls)

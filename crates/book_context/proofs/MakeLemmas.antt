@@ -13,14 +13,14 @@ use Rattle.session_script.specs.Script.{ScriptModel, is_op, opening_of}
 use Rattle.session_script.specs.WellFormed.{IsWellFormed}
 use Rattle.history_book.specs.State.{ReactorHalf, first_reactor}
 use Rattle.reactor_trait.specs.Reactor.{Outside, ReactorState}
-use Rattle.proactor_core.specs.Proactor.{Follows, IsRefused, ProactorView, tells}
+use Rattle.proactor_core.specs.Proactor.{Follows, SetupIsRefused, ProactorView, tells}
 use Rattle.strand_core.specs.Execution.{events_of}
 use Rattle.strand_core.specs.Hands.{Held, held_at, taken_at}
 use Rattle.book_context.specs.Begun.{HoldsAll, IsStarted}
-use Rattle.book_context.specs.Book.{HoldsUnspent, IsBook, IsInStep, IsTurned, KeepsHistory, KeepsReactor, has_fault, has_outside_stop, is_fault, is_outside_stop, unless_spent}
+use Rattle.book_context.specs.Book.{HoldsUnspent, IsBook, ReactorKeepsTime, IsTurned, KeepsHistory, KeepsReactor, has_fault, has_outside_stop, is_fault, is_outside_stop, unless_spent}
 use Rattle.book_context.specs.Left.{most_history}
 use Rattle.book_context.specs.Recorded.{IsRecorded, is_spent_at, recorded_half}
-use Rattle.book_context.specs.Recording.{HasOpened, Recording, new_recording, with_calls}
+use Rattle.book_context.specs.Recording.{HasCalledOpening, Recording, new_recording, with_calls}
 use Rattle.book_context.specs.Shown.{CallsShowTheirEvents, OpeningsShowNoMarks, is_of_call}
 use Rattle.book_context.specs.Steps as steps
 
@@ -69,7 +69,7 @@ some_marked marks (Some h) m is = refl
 some_marked marks None m is = absurd (cc is)
 
 -- a reactor that failed when it was set up isn't up
-pub refused_down : (fault : SetupFault) (old new : ReactorState) → IsRefused fault old new → fault ≡ setup_fault.Failed → new.up ≡ false
+pub refused_down : (fault : SetupFault) (old new : ReactorState) → SetupIsRefused fault old new → fault ≡ setup_fault.Failed → new.up ≡ false
 refused_down setup_fault.Failed old new refused is = ap (λ (s : ReactorState). s.up) refused
 refused_down setup_fault.NoMemory old new refused is = absurd (cc is)
 
@@ -79,9 +79,9 @@ or_none false = refl
 
 module _ {H X : Type 0} (script : ScriptModel) (told : Bool) (run drop : ℕ → ℕ) (named : ℕ) (outside : Bool) (marks : H → Marks) (state : X → ReactorState) (tells_of : X → Option Outside) (faults : X → ℕ)
     (old t : Recording) (hands : Held H) (view : ProactorView X) (well : IsWellFormed old.script) (is_script : script ≡ old.script) (new : old ≡ new_recording old.script (most_history old.script))
-    (holds : HoldsAll marks run drop old.script hands) (started : IsStarted state tells_of faults told named old.script view) (did : HasOpened old t)
+    (holds : HoldsAll marks run drop old.script hands) (started : IsStarted state tells_of faults told named old.script view) (did : HasCalledOpening old t)
     (openings : steps.OpeningsAreRecorded) (shown : CallsShowTheirEvents) (unmarked : OpeningsShowNoMarks) where
-  opened : steps.HasOpened told old.script did.calls
+  opened : steps.OpeningIsRecorded told old.script did.calls
   opened = openings told old.script did.calls well did.are
 
   is_t : t ≡ steps.opened_recording old.script did.calls

@@ -9,7 +9,7 @@ use Rattle.session_script.specs.Script.{ScriptModel}
 use Rattle.strand_core.specs.Hands.{Held}
 use Rattle.book_context.specs.declared.answer.BookTurn.{BookTurn}
 use Rattle.book_context.specs.declared.answer.BookTurn.TheVariants as turn
-use Rattle.book_context.specs.Book.{HoldsUnspent, IsInStep, IsTurned, KeepsHistory, KeepsReactor, has_fault}
+use Rattle.book_context.specs.Book.{HoldsUnspent, ReactorKeepsTime, IsTurned, KeepsHistory, KeepsReactor, has_fault}
 use Rattle.book_context.specs.BookSteps.{HasGoneOn}
 use Rattle.book_context.specs.InTurn.{HasExecutedNext, HasTakenNext, KeepsFaults, SpendsNone, TurnsReactor}
 use Rattle.book_context.specs.Oldest.{with_ready, with_request}

@@ -11,7 +11,7 @@ use Rattle.session_script.specs.declared.round.Round.{Round}
 use Rattle.history_book.specs.Rounds.{AllQuiet, RoundIsOpen, is_held, outstanding_work, restarts, runs, this_round}
 use Rattle.history_book.specs.State.{ReactorHalf, State}
 use Rattle.history_book.specs.Time.{pending_count}
-use Rattle.book_context.specs.BookSteps.{IsGoing, IsIdleRound, is_open, is_open_with, open_round}
+use Rattle.book_context.specs.BookSteps.{IsGoing, IsIdleRound, is_round_open, is_open_with, open_round}
 use Rattle.book_context.specs.Next.{NothingLeftIsQuiet}
 use Rattle.book_context.specs.Order.{IsKept}
 use Rattle.book_context.specs.Recorded.{IsRecorded, recorded_half, recorded_state}
@@ -40,7 +40,7 @@ some_round restarted None is = absurd (cc is)
 some_round restarted (Some round) is = (round, refl)
 
 -- a round is open by the test
-pub round_open : (r : Recording) → is_open r ≡ true → IsRoundOpen r
+pub round_open : (r : Recording) → is_round_open r ≡ true → IsRoundOpen r
 round_open r is = record {
   left = let found = some_round r.restarted (open_round r) is in slice_get_within r.script.rounds r.closings found.0 found.1;
   restarted = open_by r.restarted (open_round r) is;
@@ -65,11 +65,11 @@ module _ (told : Bool) (r : Recording) (recorded : IsRecorded told r) where
   same_round = ap (slice_get r.script.rounds) recorded.closings
 
   -- and no other
-  pub closed_round : is_open r ≡ false → RoundIsOpen r.script (recorded_state told r).context → ⊥
+  pub closed_round : is_round_open r ≡ false → RoundIsOpen r.script (recorded_state told r).context → ⊥
   closed_round isnt opened =
       let left : r.closings < length r.script.rounds = let less = opened.begun.left in let same = recorded.closings in omega (arith, less, same) in
       let there = get_some r.script.rounds r.closings left in
-      let is : is_open r ≡ true = is_open_by r.restarted (open_round r) there.0 there.1
+      let is : is_round_open r ≡ true = is_open_by r.restarted (open_round r) there.0 there.1
       (λ wants. sym recorded.restarted ∙ opened.restarted (ap restarts same_round ∙ wants)) in
       absurd (cc (isnt, is))
     where

@@ -28,7 +28,7 @@ use Rattle.book_context.specs.Order.{IsKept, has_begun, postings_of, requests_of
 use Rattle.book_context.specs.Recorded.{IsRecorded, Knows, is_spent_at, recorded_state}
 use Rattle.book_context.specs.Recording.{Recording}
 use Rattle.book_context.specs.Standing.{queued_of, stands}
-use Rattle.book_context.specs.Steps.{HasOpened, opened_recording}
+use Rattle.book_context.specs.Steps.{OpeningIsRecorded, opened_recording}
 use Rattle.book_context.specs.Work.{is_pending}
 use Rattle.book_context.proofs.AccountedLemmas.{account_opening, not_pending, opened as legally}
 use Rattle.book_context.proofs.ApartLemmas.{called_from}
@@ -204,7 +204,7 @@ module _ (told : Bool) (script : ScriptModel) (calls : List Posted) (well : IsWe
         omega (arith, fit, few, counted);
   }
 
-  pub has_opened : HasOpened told script calls
+  pub has_opened : OpeningIsRecorded told script calls
   has_opened = record {
     room = fits;
     recorded = subst (Knows told next) (sym did.is) known;

@@ -21,9 +21,9 @@ use Rattle.history_book.specs.Time.{next_time, pending_count}
 use Rattle.reactor_trait.specs.Reactor.{Outside, ReactorState, state_at}
 use Rattle.proactor_core.specs.Proactor.{Follows, IsSound, ProactorView, after_point, moved_state, tells}
 use Rattle.proactor_core.specs.Room.{IsUntaken}
-use Rattle.book_context.specs.Book.{IsInStep, IsTurned, KeepsReactor, has_fault, is_fault}
+use Rattle.book_context.specs.Book.{ReactorKeepsTime, IsTurned, KeepsReactor, has_fault, is_fault}
 use Rattle.book_context.specs.BookSteps.{BeginsTurn, HasFaulted}
-use Rattle.book_context.specs.InTurn.{HasBegun, HasBroken, HasBrokenOff, HasTold, HasTurned, IsInTurn, moved_half}
+use Rattle.book_context.specs.InTurn.{HasBegun, HasBroken, HasBrokenOff, HasOnlyTold, HasWholeTurn, IsInTurn, moved_half}
 use Rattle.book_context.specs.Oldest.{with_request}
 use Rattle.book_context.specs.Recorded.{IsRecorded, recorded_half}
 use Rattle.book_context.specs.Recording.{Recording}
@@ -110,7 +110,7 @@ module _ {X : Type 0} (state : X → ReactorState) (told : X → Option Outside)
 
   module _ (going : r.stopped ≡ false) (t : Recording) (half : ReactorHalf) (begun : HasBegun telling r t half) (next : ProactorView X) (same_script : next.script ≡ view.script)
       (same_tells : tells (told next.reactor) ≡ tells (told view.reactor)) (up : IsTrue (state next.reactor).up) (now : (state next.reactor).now ≡ half.now) where
-    begun_step : IsInStep telling (recorded_half telling t) (state next.reactor) (told next.reactor)
+    begun_step : ReactorKeepsTime telling (recorded_half telling t) (state next.reactor) (told next.reactor)
     begun_step = record {
       tells = same_tells ∙ keeps.in_step.tells;
       up = up;
@@ -153,7 +153,7 @@ module _ {X : Type 0} (state : X → ReactorState) (told : X → Option Outside)
     }
 
   -- a turn was told whole
-  module _ (going : r.stopped ≡ false) (t : Recording) (half : ReactorHalf) (begun : HasBegun telling r t half) (u : Recording) (did : HasTold telling t u) (last : ProactorView X)
+  module _ (going : r.stopped ≡ false) (t : Recording) (half : ReactorHalf) (begun : HasBegun telling r t half) (u : Recording) (did : HasOnlyTold telling t u) (last : ProactorView X)
       (turn : IsInTurn state told telling u last) (turned : IsTurned state told (recorded_half telling u) last) (same : faults last.reactor ≡ faults view.reactor) where
     pub whole_keeps : KeepsReactor state told faults telling named u last
     whole_keeps = record {
@@ -167,7 +167,7 @@ module _ {X : Type 0} (state : X → ReactorState) (told : X → Option Outside)
       rose = λ failed. absurd (let works = turned.telling.working in cc (failed, works));
     }
 
-    pub whole_turned : HasTurned r u
+    pub whole_turned : HasWholeTurn r u
     whole_turned = record {
       events = begun.event ∷ did.events;
       is = did.is ∙ ap (λ es. es ++ did.events) begun.is ∙ append_assoc r.events (begun.event ∷ []) did.events;

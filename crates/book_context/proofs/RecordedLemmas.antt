@@ -22,7 +22,7 @@ use Rattle.book_context.specs.Order.{IsKept}
 use Rattle.book_context.specs.Recorded.{IsRecorded, Knows, recorded_state}
 use Rattle.book_context.specs.Recording.{Recording}
 use Rattle.book_context.specs.Standing.{IsStanding}
-use Rattle.book_context.specs.Steps.{GoesOn, IsRoundOpen}
+use Rattle.book_context.specs.Steps.{EventIsRecorded, IsRoundOpen}
 use Rattle.book_context.proofs.PartLemmas.{history_goes_on, state_goes_on}
 
 lines_allowed : (version : ℕ) → (limits_of version).lines ≤ 1024
@@ -98,7 +98,7 @@ module _ (told : Bool) (r : Recording) (event : Event) (ready : List (ℕ × Cod
 
   -- what may happen is recorded
   pub goes_on : MayHappen r.script told before event → Changes r.script before after ready requests stopped restarted closings →
-      GoesOn told r event next
+      EventIsRecorded told r event next
   goes_on may changes =
       let less = changes.left in
       let had = knows.room in

@@ -16,7 +16,7 @@ use Rattle.book_context.specs.Order.{IsKept}
 use Rattle.book_context.specs.Recorded.{IsRecorded, recorded_half, recorded_state}
 use Rattle.book_context.specs.Recording.{Recording, with_closing, with_outside_stop, with_restart}
 use Rattle.book_context.specs.RoundSteps.{IsHalted, IsPolled, WantsRestart}
-use Rattle.book_context.specs.Steps.{GoesOn, IsRoundOpen}
+use Rattle.book_context.specs.Steps.{EventIsRecorded, IsRoundOpen}
 use Rattle.book_context.proofs.CountLemmas.{one_more-bound, one_more-from, one_more-is}
 use Rattle.book_context.proofs.FreeLemmas.{free_restart}
 use Rattle.book_context.proofs.LeftLemmas.{acts-same, left-falls, rounds_left_at}
@@ -117,13 +117,13 @@ module _ (told : Bool) (r : Recording) (knows : IsRecorded told r) where
   }
 
   -- the context ran out of work
-  pub has_ended : IsRoundOpen r → r.stopped ≡ false → outstanding_work s ≡ 0 → GoesOn told r event.Ended (with_closing event.Ended true r)
+  pub has_ended : IsRoundOpen r → r.stopped ≡ false → outstanding_work s ≡ 0 → EventIsRecorded told r event.Ended (with_closing event.Ended true r)
   has_ended round going idle =
       goes_on told r event.Ended r.ready r.requests true false (r.closings + 1) knows
       (record { round = round_open told r knows round; going = knows.stopped ∙ going; idle = idle }) (changes_close round.left)
 
   -- it was stopped
-  pub has_stopped : IsHalted told r → GoesOn told r event.Stopped (with_closing event.Stopped true r)
+  pub has_stopped : IsHalted told r → EventIsRecorded told r event.Stopped (with_closing event.Stopped true r)
   has_stopped halted =
       goes_on told r event.Stopped r.ready r.requests true false (r.closings + 1) knows
       (record {
@@ -140,7 +140,7 @@ module _ (told : Bool) (r : Recording) (knows : IsRecorded told r) where
   polled = after_event r.script told s event.Polled
 
   -- polling is done
-  pub has_polled : IsPolled told r → GoesOn told r event.Polled (with_closing event.Polled false r)
+  pub has_polled : IsPolled told r → EventIsRecorded told r event.Polled (with_closing event.Polled false r)
   has_polled done =
       goes_on told r event.Polled r.ready r.requests false false (r.closings + 1) knows
       (record {
@@ -180,7 +180,7 @@ module _ (told : Bool) (r : Recording) (knows : IsRecorded told r) where
   stop_most b = omega arith
 
   -- a restart
-  pub has_restarted : WantsRestart told r → GoesOn told r event.Restart (with_restart r)
+  pub has_restarted : WantsRestart told r → EventIsRecorded told r event.Restart (with_restart r)
   has_restarted wants =
       goes_on told r event.Restart r.ready r.requests false true r.closings knows
       (record {
@@ -217,7 +217,7 @@ module _ (told : Bool) (r : Recording) (knows : IsRecorded told r) where
   outside = after_event r.script told s (event.Stop None)
 
   -- somebody outside stops a context that isn't stopped
-  pub has_outside : IsRoundOpen r → r.stopped ≡ false → GoesOn told r (event.Stop None) (with_outside_stop r)
+  pub has_outside : IsRoundOpen r → r.stopped ≡ false → EventIsRecorded told r (event.Stop None) (with_outside_stop r)
   has_outside round going =
       goes_on told r (event.Stop None) r.ready r.requests true r.restarted r.closings knows (round_open told r knows round)
       (record {

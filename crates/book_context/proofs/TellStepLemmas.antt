@@ -27,8 +27,8 @@ use Rattle.book_context.specs.Ready.{is_ready}
 use Rattle.book_context.specs.Recorded.{IsRecorded, recorded_half, recorded_state}
 use Rattle.book_context.specs.Recording.{Recording, with_done}
 use Rattle.book_context.specs.Standing.{stands}
-use Rattle.book_context.specs.Steps.{GoesOn}
-use Rattle.book_context.specs.TurnSteps.{HasTold}
+use Rattle.book_context.specs.Steps.{EventIsRecorded}
+use Rattle.book_context.specs.TurnSteps.{CompletionIsRecorded}
 use Rattle.book_context.specs.Work.{is_pending, is_requested}
 use Rattle.book_context.proofs.AccountLemmas.{account_done}
 use Rattle.book_context.proofs.ClockLemmas.{ahead-time, time-done}
@@ -182,11 +182,11 @@ module _ (told : Bool) (r : Recording) (op : ℕ) (given : Code) (size : ℕ) (k
     spent = λ n. by_told (λ n act. is_spent act.phase ≡ is_spent (phase_at was.context n)) n (ap is_spent (sym requested)) refl;
   }
 
-  goes_told : GoesOn told r (event.Done op given size) (with_done op given size r)
+  goes_told : EventIsRecorded told r (event.Done op given size) (with_done op given size r)
   goes_told =
       goes_on told r (event.Done op given size) (r.ready ++ (op, given, size) ∷ []) r.requests r.stopped r.restarted r.closings knows (record { working = works; next = may; turn = λ none. going }) changes_told
 
-  pub has_told : HasTold told r op given size
+  pub has_told : CompletionIsRecorded told r op given size
   has_told = record {
     requested = requested;
     taken = is_taken;

@@ -18,7 +18,7 @@ use Rattle.book_context.specs.Recorded.{IsRecorded, recorded_half, recorded_stat
 use Rattle.book_context.specs.Recording.{Recording, with_event}
 use Rattle.book_context.specs.Steps.{IsRoundOpen}
 use Rattle.book_context.specs.Turns.{IsSameOrder}
-use Rattle.book_context.specs.TurnSteps.{HasFailed, HasTurned, IsWaiting}
+use Rattle.book_context.specs.TurnSteps.{HasFailed, TurnIsBegun, IsWaiting}
 use Rattle.book_context.specs.Work.{is_requested}
 use Rattle.book_context.proofs.AccountLemmas.{account_last, account_tick}
 use Rattle.book_context.proofs.ClockLemmas.{falls-tick, last-once, last-set, runs-last, runs-tick, settled-ahead, settled-clock}
@@ -95,7 +95,7 @@ module _ (told : Bool) (r : Recording) (knows : IsRecorded told r) (waiting : Is
       spent = λ n. refl;
     }
 
-    pub has_ticked : HasTurned told r (event.Tick time) (with_event (event.Tick time) r)
+    pub has_ticked : TurnIsBegun told r (event.Tick time) (with_event (event.Tick time) r)
     has_ticked =
         turned told r (event.Tick time) (with_event (event.Tick time) r)
         (goes_on told r (event.Tick time) r.ready r.requests r.stopped r.restarted r.closings knows (record { idle = is_idle; next = next }) changes_tick) refl
@@ -143,7 +143,7 @@ module _ (told : Bool) (r : Recording) (knows : IsRecorded told r) (waiting : Is
       spent = λ n. refl;
     }
 
-    pub has_passed : HasTurned told r event.Last (with_event event.Last r)
+    pub has_passed : TurnIsBegun told r event.Last (with_event event.Last r)
     has_passed =
         turned told r event.Last (with_event event.Last r)
         (goes_on told r event.Last r.ready r.requests r.stopped r.restarted r.closings knows (record { idle = is_idle; next = next }) changes_last) refl

@@ -13,12 +13,12 @@ use Rattle.history_book.specs.State.{ReactorHalf, State}
 use Rattle.reactor_trait.specs.Reactor.{Outside, ReactorState}
 use Rattle.proactor_core.specs.Proactor.{Follows, IsSound, ProactorView, tells}
 use Rattle.proactor_core.specs.Tables.{TableState, slot_left}
-use Rattle.book_context.specs.Book.{IsInStep, IsTelling, IsTurned, KeepsHistory}
+use Rattle.book_context.specs.Book.{ReactorKeepsTime, IsTelling, IsTurned, KeepsHistory}
 use Rattle.book_context.specs.BookSteps.{IsDone}
-use Rattle.book_context.specs.InTurn.{HasTold, IsInTurn}
+use Rattle.book_context.specs.InTurn.{HasOnlyTold, IsInTurn}
 use Rattle.book_context.specs.Recorded.{is_spent_at, recorded_half, recorded_state}
 use Rattle.book_context.specs.Recording.{Recording, with_done}
-use Rattle.book_context.specs.Steps.{GoesOn}
+use Rattle.book_context.specs.Steps.{EventIsRecorded}
 use Rattle.book_context.specs.TurnSteps as steps
 use Rattle.book_context.proofs.BookHistoryLemmas.{IsPlain, faults-plain, history-plain}
 use Rattle.book_context.proofs.ClockLemmas.{time-done}
@@ -41,16 +41,16 @@ module _ {X : Type 0} (state : X → ReactorState) (told : X → Option Outside)
       (subst (λ b. MayTell view.script b (recorded_half telling r) op code size) turn.in_step.tells (allowed (recorded_half telling r) turn.telling.follows))
 
   pub step : steps.CompletionsAreRecorded → ((half : ReactorHalf) → Follows told view half → MayTell view.script (tells (told view.reactor)) half op code size) →
-      steps.HasTold telling r op code size
+      steps.CompletionIsRecorded telling r op code size
   step law allowed = law telling r op code size keeps.recorded turn.telling.works turn.turn (may_tell allowed)
 
-  module _ (did : steps.HasTold telling r op code size) where
+  module _ (did : steps.CompletionIsRecorded telling r op code size) where
     pub done_history : KeepsHistory script telling run drop outside (with_done op code size r)
     done_history =
         history-plain script telling run drop outside r (with_done op code size r) (event.Done op code size ∷ []) keeps did.goes.recorded refl refl
         (record { marked = (tt, tt); working = refl; inside = refl })
 
-    pub done_told : HasTold telling r (with_done op code size r)
+    pub done_told : HasOnlyTold telling r (with_done op code size r)
     done_told = record {
       events = event.Done op code size ∷ [];
       is = refl;
@@ -99,12 +99,12 @@ pub record TellsOn {X : Type 0} (state : X → ReactorState) (told : X → Optio
   pub history : KeepsHistory script telling run drop outside r
   pub turn : IsInTurn state told telling r view
   pub reactor : view.reactor ≡ begun.reactor
-  pub told_so_far : HasTold telling first r
+  pub told_so_far : HasOnlyTold telling first r
 
-pub told-none : (telling : Bool) (r : Recording) → HasTold telling r r
+pub told-none : (telling : Bool) (r : Recording) → HasOnlyTold telling r r
 told-none telling r = record { events = []; is = sym (append-nil r.events); completes = All-nil IsDone; script = refl; stopped = refl; spent = λ n. refl; faults = refl }
 
-pub told-more : (telling : Bool) (first r t : Recording) → HasTold telling first r → HasTold telling r t → HasTold telling first t
+pub told-more : (telling : Bool) (first r t : Recording) → HasOnlyTold telling first r → HasOnlyTold telling r t → HasOnlyTold telling first t
 told-more telling first r t one two = record {
   events = one.events ++ two.events;
   is = two.is ∙ ap (λ es. es ++ two.events) one.is ∙ append_assoc first.events one.events two.events;

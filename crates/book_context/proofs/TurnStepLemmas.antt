@@ -33,8 +33,8 @@ use Rattle.book_context.specs.Order.{IsKept}
 use Rattle.book_context.specs.Recorded.{IsRecorded, recorded_state}
 use Rattle.book_context.specs.Recording.{Recording}
 use Rattle.book_context.specs.Standing.{stands}
-use Rattle.book_context.specs.Steps.{GoesOn}
-use Rattle.book_context.specs.TurnSteps.{CanTurnNow, HasTaken, HasTurned, taken_recording}
+use Rattle.book_context.specs.Steps.{EventIsRecorded}
+use Rattle.book_context.specs.TurnSteps.{CanTurnNow, HasTaken, TurnIsBegun, taken_recording}
 use Rattle.book_context.specs.Work.{is_pending, is_requested}
 use Rattle.book_context.proofs.AccountLemmas.{account_take}
 use Rattle.book_context.proofs.ClockLemmas.{runs-take, settled-ahead, settled-clock}
@@ -79,9 +79,9 @@ kinds_same script s t same kinds = record {
 }
 
 -- a turn that began is told of as its state is
-pub turned : (told : Bool) (r : Recording) (event : Event) (t : Recording) → GoesOn told r event t →
+pub turned : (told : Bool) (r : Recording) (event : Event) (t : Recording) → EventIsRecorded told r event t →
     IsSome (after_event r.script told (recorded_state told r) event).context.turn →
-    (after_event r.script told (recorded_state told r) event).reactor.whole_turn ≡ true → (after_event r.script told (recorded_state told r) event).reactor.failed ≡ false → HasTurned told r event t
+    (after_event r.script told (recorded_state told r) event).reactor.whole_turn ≡ true → (after_event r.script told (recorded_state told r) event).reactor.failed ≡ false → TurnIsBegun told r event t
 turned told r event t goes turn whole works = record {
   goes = goes;
   turn = subst (λ (s : State). IsSome s.context.turn) (sym goes.state) turn;

@@ -57,7 +57,7 @@ pub record HoldsUnspent {H : Type 0} (marks : H → Marks) (told : Bool) (run dr
   pub each : (n : ℕ) → option_map marks (held_at hands n) ≡ unless_spent (not (is_op r.script n) || is_spent_at told r n) (record { run = run n; drop = drop n })
 
 -- the reactor is set up, goes on telling what it told, and its time is that of the history
-pub record IsInStep (told : Bool) (half : ReactorHalf) (state : ReactorState) (outside : Option Outside) : Type 0 where
+pub record ReactorKeepsTime (told : Bool) (half : ReactorHalf) (state : ReactorState) (outside : Option Outside) : Type 0 where
   pub tells : tells outside ≡ told
   pub up : IsTrue state.up
   pub now : state.now ≡ half.now
@@ -79,7 +79,7 @@ pub record IsTurned {X : Type 0} (state : X → ReactorState) (told : X → Opti
 -- a proactor between its turns; the reactor's count of faults is at least the one that is named, and above it where it has failed
 pub record KeepsReactor {X : Type 0} (state : X → ReactorState) (told : X → Option Outside) (faults : X → ℕ) (tells_bytes : Bool) (named : ℕ) (r : Recording) (view : ProactorView X) : Type 0 where
   pub script : view.script ≡ r.script
-  pub in_step : IsInStep tells_bytes (recorded_half tells_bytes r) (state view.reactor) (told view.reactor)
+  pub in_step : ReactorKeepsTime tells_bytes (recorded_half tells_bytes r) (state view.reactor) (told view.reactor)
   pub turned : view.tables.failed ≡ false → IsTurned state told (recorded_half tells_bytes r) view
   pub failed : (recorded_half tells_bytes r).failed ≡ view.tables.failed
   pub faulted : has_fault r.events ≡ view.tables.failed

@@ -29,8 +29,8 @@ abbrev pub is_open_with : Bool → Option Round → Bool
 is_open_with restarted None = false
 is_open_with restarted (Some round) = not round.restart || restarted
 
-abbrev pub is_open : Recording → Bool
-is_open r = is_open_with r.restarted (open_round r)
+abbrev pub is_round_open : Recording → Bool
+is_round_open r = is_open_with r.restarted (open_round r)
 
 -- the round begins with a restart that hasn't come
 abbrev pub wants_with : Bool → Option Round → Bool
@@ -104,15 +104,15 @@ pub record IsIdleRound (script : ScriptModel) (s : State) : Type 0 where
   pub no_tick : runs (this_round script s.context) ≡ true → pending_count s.reactor ≡ 0
 
 -- what a turn did, by what it answered
-abbrev pub Answers : {X : Type 0} → (X → ℕ) → ScriptModel → Bool → (ℕ → ℕ) → BookTurn → BookView X → BookView X → Type 0
-Answers faults script told run turn.Did old new =
+abbrev pub TurnAnswers : {X : Type 0} → (X → ℕ) → ScriptModel → Bool → (ℕ → ℕ) → BookTurn → BookView X → BookView X → Type 0
+TurnAnswers faults script told run turn.Did old new =
     IsGoing script (recorded_state told old.recording) × HasGoneOn script run old.recording new.recording × (faults new.reactor ≡ faults old.reactor)
-Answers faults script told run turn.Fault old new =
+TurnAnswers faults script told run turn.Fault old new =
     IsGoing script (recorded_state told old.recording) × HasFaulted old.recording new.recording × Rose (faults old.reactor) (faults new.reactor)
-Answers faults script told run turn.Stopped old new = (new ≡ old) × ((recorded_state told old.recording).context.stopped ≡ true)
-Answers faults script told run turn.Ended old new =
+TurnAnswers faults script told run turn.Stopped old new = (new ≡ old) × ((recorded_state told old.recording).context.stopped ≡ true)
+TurnAnswers faults script told run turn.Ended old new =
     (new ≡ old) × IsGoing script (recorded_state told old.recording) × (outstanding_work (recorded_state told old.recording) ≡ 0)
-Answers faults script told run turn.Idle old new =
+TurnAnswers faults script told run turn.Idle old new =
     (new ≡ old) × ((recorded_state told old.recording).context.stopped ≡ false)
     × (IsGoing script (recorded_state told old.recording) → IsIdleRound script (recorded_state told old.recording))
 

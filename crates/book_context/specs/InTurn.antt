@@ -13,7 +13,7 @@ use Rattle.proactor_core.specs.Proactor.{ProactorView, after_point}
 use Rattle.strand_core.specs.Hands.{Held}
 use Rattle.book_context.specs.declared.answer.BookTurn.{BookTurn}
 use Rattle.book_context.specs.declared.answer.BookTurn.TheVariants as turn
-use Rattle.book_context.specs.Book.{HoldsUnspent, IsInStep, IsTelling, IsTurned, KeepsHistory, KeepsReactor, has_fault}
+use Rattle.book_context.specs.Book.{HoldsUnspent, ReactorKeepsTime, IsTelling, IsTurned, KeepsHistory, KeepsReactor, has_fault}
 use Rattle.book_context.specs.BookSteps.{BeginsTurn, HasFaulted, HasGoneOn, IsDone, IsIdleRound, IsTurnOf}
 use Rattle.book_context.specs.Recorded.{is_spent_at, recorded_half, recorded_state}
 use Rattle.book_context.specs.Recording.{Recording}
@@ -22,12 +22,12 @@ use Rattle.book_context.specs.Steps.{IsRoundOpen}
 -- a turn is under way: of what completes in it something may be left to tell
 pub record IsInTurn {X : Type 0} (state : X → ReactorState) (told : X → Option Outside) (tells_bytes : Bool) (r : Recording) (view : ProactorView X) : Type 0 where
   pub script : view.script ≡ r.script
-  pub in_step : IsInStep tells_bytes (recorded_half tells_bytes r) (state view.reactor) (told view.reactor)
+  pub in_step : ReactorKeepsTime tells_bytes (recorded_half tells_bytes r) (state view.reactor) (told view.reactor)
   pub telling : IsTelling state told (recorded_half tells_bytes r) view
   pub turn : IsSome (recorded_state tells_bytes r).context.turn
 
 -- completions were told, and nothing else happened
-pub record HasTold (told : Bool) (old new : Recording) : Type 0 where
+pub record HasOnlyTold (told : Bool) (old new : Recording) : Type 0 where
   pub events : List Event
   pub is : new.events ≡ old.events ++ events
   pub completes : All IsDone events
@@ -76,14 +76,14 @@ pub record HasBrokenOff (told : Bool) (old new : Recording) (moved : Option Poin
   pub spent : (n : ℕ) → is_spent_at told new n ≡ is_spent_at told old n
 
 -- one whole turn of the reactor came behind the history
-pub record HasTurned (old new : Recording) : Type 0 where
+pub record HasWholeTurn (old new : Recording) : Type 0 where
   pub events : List Event
   pub is : new.events ≡ old.events ++ events
   pub turn : IsTurnOf events
 
 -- what a turn of the reactor was, by what it answered and by the count of faults before and after
 abbrev pub TurnsReactor : BookTurn → Recording → Recording → ℕ → ℕ → Type 0
-TurnsReactor turn.Did old new before after = HasTurned old new × (after ≡ before)
+TurnsReactor turn.Did old new before after = HasWholeTurn old new × (after ≡ before)
 TurnsReactor turn.Fault old new before after = HasFaulted old new × Rose before after
 TurnsReactor _ old new before after = ⊥
 

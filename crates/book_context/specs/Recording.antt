@@ -93,13 +93,13 @@ outside_calls [] = []
 outside_calls (act ∷ acts) = posted.Call act ∷ posted.Back act ∷ outside_calls acts
 
 -- there is room for the events of these calls, and for what they make ready and ask of the reactor
-pub record HasRoom (r : Recording) (calls : List Posted) : Type 0 where
+pub record HasRoomForCalls (r : Recording) (calls : List Posted) : Type 0 where
   pub events : length (events_of r.script calls) ≤ r.spare
   pub ready : length r.ready + length (postings_of r.script calls) ≤ length r.script.acts
   pub requests : length r.requests + length (requests_of r.script calls) ≤ length r.script.acts
 
 -- the acts of `open` were called
-pub record HasOpened (old new : Recording) : Type 0 where
+pub record HasCalledOpening (old new : Recording) : Type 0 where
   pub calls : List Posted
   pub are : AreCalls old.script AnyMark (opening_of old.script) calls
   pub is : new ≡ with_calls calls old

@@ -5,7 +5,7 @@ use Rattle.history_book.specs.Rounds.{IsDrained, is_held, outstanding_work, rest
 use Rattle.history_book.specs.Time.{pending_count}
 use Rattle.book_context.specs.Recorded.{IsRecorded, recorded_half, recorded_state}
 use Rattle.book_context.specs.Recording.{Recording, with_closing, with_outside_stop, with_restart}
-use Rattle.book_context.specs.Steps.{GoesOn, IsRoundOpen}
+use Rattle.book_context.specs.Steps.{EventIsRecorded, IsRoundOpen}
 use Rattle.book_context.specs.TurnSteps.{CanTurnNow}
 
 -- the outstanding work, by what the context and its reactor hold
@@ -19,7 +19,7 @@ abbrev pub EndsAreRecorded : Type 0
 EndsAreRecorded =
     (told : Bool) (r : Recording) →
     IsRecorded told r → IsRoundOpen r → r.stopped ≡ false → outstanding_work (recorded_state told r) ≡ 0 →
-    GoesOn told r event.Ended (with_closing event.Ended true r)
+    EventIsRecorded told r event.Ended (with_closing event.Ended true r)
 
 -- the context was stopped, and its reactor has nothing left to tell
 pub record IsHalted (told : Bool) (r : Recording) : Type 0 where
@@ -31,7 +31,7 @@ pub record IsHalted (told : Bool) (r : Recording) : Type 0 where
 
 abbrev pub StopsAreRecorded : Type 0
 StopsAreRecorded =
-    (told : Bool) (r : Recording) → IsRecorded told r → IsHalted told r → GoesOn told r event.Stopped (with_closing event.Stopped true r)
+    (told : Bool) (r : Recording) → IsRecorded told r → IsHalted told r → EventIsRecorded told r event.Stopped (with_closing event.Stopped true r)
 
 -- polling has done all that it can without waiting
 pub record IsPolled (told : Bool) (r : Recording) : Type 0 where
@@ -43,7 +43,7 @@ pub record IsPolled (told : Bool) (r : Recording) : Type 0 where
 
 abbrev pub PollsAreRecorded : Type 0
 PollsAreRecorded =
-    (told : Bool) (r : Recording) → IsRecorded told r → IsPolled told r → GoesOn told r event.Polled (with_closing event.Polled false r)
+    (told : Bool) (r : Recording) → IsRecorded told r → IsPolled told r → EventIsRecorded told r event.Polled (with_closing event.Polled false r)
 
 -- the round wants a restart, which hasn't come
 pub record WantsRestart (told : Bool) (r : Recording) : Type 0 where
@@ -54,10 +54,10 @@ pub record WantsRestart (told : Bool) (r : Recording) : Type 0 where
 
 abbrev pub RestartsAreRecorded : Type 0
 RestartsAreRecorded =
-    (told : Bool) (r : Recording) → IsRecorded told r → WantsRestart told r → GoesOn told r event.Restart (with_restart r)
+    (told : Bool) (r : Recording) → IsRecorded told r → WantsRestart told r → EventIsRecorded told r event.Restart (with_restart r)
 
 -- somebody outside stops a context that isn't stopped; room for that is reserved
 abbrev pub OutsideStopsAreRecorded : Type 0
 OutsideStopsAreRecorded =
     (told : Bool) (r : Recording) →
-    IsRecorded told r → IsRoundOpen r → r.stopped ≡ false → GoesOn told r (event.Stop None) (with_outside_stop r)
+    IsRecorded told r → IsRoundOpen r → r.stopped ≡ false → EventIsRecorded told r (event.Stop None) (with_outside_stop r)

@@ -33,7 +33,7 @@ UnspentKeepInline =
     IsRecorded told r → IsInlineOf r.script caller n → is_spent_at told r caller ≡ false → is_spent_at told r n ≡ false
 
 -- one event may come next, there is room for it, and this is recorded after it
-pub record GoesOn (told : Bool) (r : Recording) (event : Event) (t : Recording) : Type 0 where
+pub record EventIsRecorded (told : Bool) (r : Recording) (event : Event) (t : Recording) : Type 0 where
   pub may : MayHappen r.script told (recorded_state told r) event
   pub room : 1 ≤ r.spare
   pub recorded : IsRecorded told t
@@ -44,7 +44,7 @@ abbrev pub opened_recording : ScriptModel → List Posted → Recording
 opened_recording script calls = with_calls calls (new_recording script (most_history script))
 
 -- the calls of `open` are recorded
-pub record HasOpened (told : Bool) (script : ScriptModel) (calls : List Posted) : Type 0 where
+pub record OpeningIsRecorded (told : Bool) (script : ScriptModel) (calls : List Posted) : Type 0 where
   pub room : length (events_of script calls) ≤ most_history script
   pub recorded : IsRecorded told (opened_recording script calls)
   pub reactor : recorded_half told (opened_recording script calls) ≡ first_reactor script told
@@ -53,7 +53,7 @@ pub record HasOpened (told : Bool) (script : ScriptModel) (calls : List Posted) 
 abbrev pub OpeningsAreRecorded : Type 0
 OpeningsAreRecorded =
     (told : Bool) (script : ScriptModel) (calls : List Posted) →
-    IsWellFormed script → AreCalls script AnyMark (opening_of script) calls → HasOpened told script calls
+    IsWellFormed script → AreCalls script AnyMark (opening_of script) calls → OpeningIsRecorded told script calls
 
 -- an operation may execute, and there is room for what it may call
 pub record MayExecute (told : Bool) (r : Recording) (op : ℕ) (code : Code) (size : ℕ) (newer : List (ℕ × Code × ℕ)) : Type 0 where
@@ -69,7 +69,7 @@ abbrev pub executed_recording : Recording → List (ℕ × Code × ℕ) → List
 executed_recording r newer calls = with_calls calls (record r { ready = newer })
 
 -- its execution is recorded
-pub record HasExecuted (told : Bool) (r : Recording) (newer : List (ℕ × Code × ℕ)) (calls : List Posted) : Type 0 where
+pub record ExecutionIsRecorded (told : Bool) (r : Recording) (newer : List (ℕ × Code × ℕ)) (calls : List Posted) : Type 0 where
   pub recorded : IsRecorded told (executed_recording r newer calls)
   pub state : recorded_state told (executed_recording r newer calls) ≡ state_from r.script told (recorded_state told r) (events_of r.script calls)
   pub reactor : recorded_half told (executed_recording r newer calls) ≡ recorded_half told r
@@ -85,4 +85,4 @@ abbrev pub ExecutionsAreRecorded : Type 0
 ExecutionsAreRecorded =
     (told : Bool) (r : Recording) (op : ℕ) (code : Code) (size : ℕ) (newer : List (ℕ × Code × ℕ)) (calls : List Posted) →
     IsRecorded told r → r.ready ≡ (op, code, size) ∷ newer → r.stopped ≡ false → IsRoundOpen r →
-    IsWholeExecution r.script AnyMark op code size calls → HasExecuted told r newer calls
+    IsWholeExecution r.script AnyMark op code size calls → ExecutionIsRecorded told r newer calls

@@ -12,7 +12,7 @@ use Rattle.history_book.specs.State.{phase_at}
 use Rattle.history_book.specs.Time.{next_time, pending_count}
 use Rattle.book_context.specs.Recorded.{IsRecorded, recorded_half, recorded_state}
 use Rattle.book_context.specs.Recording.{Recording, with_done, with_event, with_fault}
-use Rattle.book_context.specs.Steps.{GoesOn, IsRoundOpen}
+use Rattle.book_context.specs.Steps.{EventIsRecorded, IsRoundOpen}
 
 -- the reactor may turn: it works, and has nothing left to tell
 pub record CanTurnNow (told : Bool) (r : Recording) : Type 0 where
@@ -23,8 +23,8 @@ pub record CanTurnNow (told : Bool) (r : Recording) : Type 0 where
   pub drained : IsDrained (recorded_half told r)
 
 -- a turn began with this event
-pub record HasTurned (told : Bool) (r : Recording) (event : Event) (t : Recording) : Type 0 where
-  pub goes : GoesOn told r event t
+pub record TurnIsBegun (told : Bool) (r : Recording) (event : Event) (t : Recording) : Type 0 where
+  pub goes : EventIsRecorded told r event t
   pub turn : IsSome (recorded_state told t).context.turn
   pub whole : (recorded_half told t).whole_turn ≡ true
   pub working : (recorded_half told t).failed ≡ false
@@ -36,7 +36,7 @@ taken_recording r a newer = with_event (event.Take a) (record r { requests = new
 pub record HasTaken (told : Bool) (r : Recording) (a : ℕ) (newer : List ℕ) : Type 0 where
   pub within : a < length r.script.acts
   pub untaken : was_taken (recorded_half told r) a ≡ false
-  pub turned : HasTurned told r (event.Take a) (taken_recording r a newer)
+  pub turned : TurnIsBegun told r (event.Take a) (taken_recording r a newer)
 
 abbrev pub TakesAreRecorded : Type 0
 TakesAreRecorded =
@@ -44,11 +44,11 @@ TakesAreRecorded =
     IsRecorded told r → CanTurnNow told r → r.requests ≡ a ∷ newer → HasTaken told r a newer
 
 -- what may be told is pending, and then ready behind the others
-pub record HasTold (told : Bool) (r : Recording) (op : ℕ) (code : Code) (size : ℕ) : Type 0 where
+pub record CompletionIsRecorded (told : Bool) (r : Recording) (op : ℕ) (code : Code) (size : ℕ) : Type 0 where
   pub requested : phase_at (recorded_state told r).context op ≡ phase.Requested
   pub taken : was_taken (recorded_half told r) op ≡ true
   pub place : length r.ready < length r.script.acts
-  pub goes : GoesOn told r (event.Done op code size) (with_done op code size r)
+  pub goes : EventIsRecorded told r (event.Done op code size) (with_done op code size r)
   pub turn : IsSome (recorded_state told (with_done op code size r)).context.turn
   pub working : (recorded_half told (with_done op code size r)).failed ≡ false
 
@@ -56,7 +56,7 @@ abbrev pub CompletionsAreRecorded : Type 0
 CompletionsAreRecorded =
     (told : Bool) (r : Recording) (op : ℕ) (code : Code) (size : ℕ) →
     IsRecorded told r → (recorded_half told r).failed ≡ false → IsSome (recorded_state told r).context.turn →
-    MayTell r.script told (recorded_half told r) op code size → HasTold told r op code size
+    MayTell r.script told (recorded_half told r) op code size → CompletionIsRecorded told r op code size
 
 -- nothing is left to do but to wait for the outside
 pub record IsWaiting (told : Bool) (r : Recording) : Type 0 where
@@ -70,17 +70,17 @@ abbrev pub TicksAreRecorded : Type 0
 TicksAreRecorded =
     (told : Bool) (r : Recording) (now : ℕ) →
     IsRecorded told r → IsWaiting told r → next_time r.script (recorded_half told r) ≡ point.Time now →
-    HasTurned told r (event.Tick now) (with_event (event.Tick now) r)
+    TurnIsBegun told r (event.Tick now) (with_event (event.Tick now) r)
 
 abbrev pub LastIsRecorded : Type 0
 LastIsRecorded =
     (told : Bool) (r : Recording) →
     IsRecorded told r → IsWaiting told r → next_time r.script (recorded_half told r) ≡ point.Last →
-    HasTurned told r event.Last (with_event event.Last r)
+    TurnIsBegun told r event.Last (with_event event.Last r)
 
 -- the reactor has failed
 pub record HasFailed (told : Bool) (r : Recording) : Type 0 where
-  pub goes : GoesOn told r event.Fault (with_fault r)
+  pub goes : EventIsRecorded told r event.Fault (with_fault r)
   pub failed : (recorded_half told (with_fault r)).failed ≡ true
 
 -- before any of a turn was told, or between two turns

@@ -3,7 +3,7 @@ ghost use Rattle.strand_core.specs.Answer.{CanExecute};
 ghost use Rattle.strand_core.specs.Execution.{AnyMark, IsWholeExecution};
 ghost use Rattle.strand_core.specs.declared.posted.Posted.{Posted};
 ghost use Rattle.book_context.specs.Left.{most_history};
-ghost use Rattle.book_context.specs.Recording.{HasOpened, HasRecorded, HasRoom, new_recording, with_closing, with_done, with_event, with_fault, with_outside_stop, with_restart};
+ghost use Rattle.book_context.specs.Recording.{HasCalledOpening, HasRecorded, HasRoomForCalls, new_recording, with_closing, with_done, with_event, with_fault, with_outside_stop, with_restart};
 
 mod calls;
 mod lists;
@@ -94,7 +94,7 @@ impl<'a> Record<'a> {
     pub(crate) fn open(&mut self)
         requires new { self.old ≡ new_recording self.old.script self.old.spare }
         requires room { most_history self.old.script ≤ self.old.spare }
-        ensures { HasOpened self.old self.new }
+        ensures { HasCalledOpening self.old self.new }
     {
         scripts_are_well_formed(self.script);
         executions_are_bounded();
@@ -120,7 +120,7 @@ impl<'a> Record<'a> {
         requires script { hands.old.script ≡ self.old.script }
         requires can { CanExecute hands.old op }
         requires room { (calls : List Posted) →
-            IsWholeExecution self.old.script AnyMark op code size calls → HasRoom self.old calls }
+            IsWholeExecution self.old.script AnyMark op code size calls → HasRoomForCalls self.old calls }
         ensures { HasRecorded H.marks op code size self.old self.new hands.old hands.new }
     {
         scripts_are_well_formed(self.script);

@@ -1,6 +1,6 @@
 ghost use Rattle.std.specs.Prelude.{◌≡◌, length};
 ghost use Rattle.history_book.specs.Rounds.{runs};
-ghost use Rattle.book_context.specs.BookSteps.{are_closed, is_open, open_round, wants_restart};
+ghost use Rattle.book_context.specs.BookSteps.{are_closed, is_round_open, open_round, wants_restart};
 
 use crate::record::Record;
 use session_script::{Pace, Round};
@@ -15,7 +15,7 @@ fn open_round(record: &Record<'_>) -> Option<Round>
 
 /// Whether a round is left, and its restart has come.
 pub(crate) fn is_open(record: &Record<'_>) -> bool
-    ensures { result ≡ is_open record.now }
+    ensures { result ≡ is_round_open record.now }
 {
     match open_round(record) {
         Some(round) => !round.restart || record.restarted(),

@@ -23,7 +23,7 @@ use Rattle.history_book.specs.State.{ReactorHalf, StreamQueues, Wait, no_queues}
 use Rattle.history_book.specs.Time.{pending_count}
 use Rattle.history_book.specs.Turns.{AllAhead}
 use Rattle.history_book.specs.Kinds.{stream_of}
-use Rattle.history_book.specs.QueueRoom.{size_at, stream_in}
+use Rattle.history_book.specs.QueueRoom.{size_at, stream_asked}
 use Rattle.history_book.proofs.QueueRoomLemmas.{each_size, one-here, one_at, sizes-set}
 use Rattle.history_book.proofs.QueuesLemmas.{length-all_of_stream, left-aborted}
 use Rattle.history_book.proofs.RoomLemmas.{pending-completed}
@@ -287,6 +287,6 @@ performs-act script a (act.Defer strand) r fits = performs-same (limits_of scrip
 performs-act script a (act.Dispatch strand) r fits = performs-same (limits_of script.version).time None r
 performs-act script a act.Stop r fits = performs-same (limits_of script.version).time None r
 
-pub performs-by : (script : ScriptModel) (a : ℕ) (given : Option Act) (r : ReactorHalf) → ((it : Act) → given ≡ Some it → FitsAct (header_of script) it) → Performs (limits_of script.version).time (stream_in given) r (performed_by script a given r)
+pub performs-by : (script : ScriptModel) (a : ℕ) (given : Option Act) (r : ReactorHalf) → ((it : Act) → given ≡ Some it → FitsAct (header_of script) it) → Performs (limits_of script.version).time (stream_asked given) r (performed_by script a given r)
 performs-by script a None r fits = performs-same (limits_of script.version).time None r
 performs-by script a (Some given) r fits = performs-act script a given r (fits given refl)

@@ -4,7 +4,7 @@ use Rattle.std.proofs.lemmas.List.{get_or-set_same, get_or-set_other, set_past}
 use Rattle.std.proofs.lemmas.Bool.{cases_eq, cases_lt}
 use Rattle.std.proofs.lemmas.Bool.Decides.{nat_tests}
 use Rattle.session_script.specs.Script.{ScriptModel, act_of}
-use Rattle.history_book.specs.QueueRoom.{count_below, is_on, is_this, ops_on, stream_in, taken_on}
+use Rattle.history_book.specs.QueueRoom.{count_passing, is_on, is_this, ops_on, stream_asked, taken_on}
 use Rattle.history_book.specs.State.{StreamQueues, no_queues}
 
 -- one for the stream that an operation is on
@@ -40,14 +40,14 @@ bit-mono false c step = omega arith
 bit-mono true c step = rw (step refl) (omega arith)
 
 -- more numbers pass a weaker test
-count-mono : (p q : ℕ → Bool) (n : ℕ) → ((k : ℕ) → p k ≡ true → q k ≡ true) → count_below p n ≤ count_below q n
+count-mono : (p q : ℕ → Bool) (n : ℕ) → ((k : ℕ) → p k ≡ true → q k ≡ true) → count_passing p n ≤ count_passing q n
 count-mono p q zero step = omega arith
 count-mono p q (suc n) step =
     let rest = count-mono p q n step in
     let here = bit-mono (p n) (q n) (step n) in
     omega arith
 
-count-more : (p q : ℕ → Bool) (n a : ℕ) → ((k : ℕ) → p k ≡ true → q k ≡ true) → a < n → p a ≡ false → q a ≡ true → count_below p n + 1 ≤ count_below q n
+count-more : (p q : ℕ → Bool) (n a : ℕ) → ((k : ℕ) → p k ≡ true → q k ≡ true) → a < n → p a ≡ false → q a ≡ true → count_passing p n + 1 ≤ count_passing q n
 count-more p q zero a step b out within = absurd (omega arith)
 count-more p q (suc n) a step b out within =
     elim (cases_eq a n) [
@@ -62,7 +62,7 @@ count-more p q (suc n) a step b out within =
           omega arith
     ]
 
-pub count-within : (p : ℕ → Bool) (n : ℕ) → count_below p n ≤ n
+pub count-within : (p : ℕ → Bool) (n : ℕ) → count_passing p n ≤ n
 count-within p zero = omega arith
 count-within p (suc n) =
     let rest = count-within p n in
@@ -82,7 +82,7 @@ and-kept true c d step h = step h
 and-kept false c d step h = h
 
 -- an operation that wasn't taken has a place
-pub taken-below : (script : ScriptModel) (taken : List Bool) (a stream : ℕ) → a < length script.acts → get_or taken a false ≡ false → stream_in (act_of script a) ≡ Some stream → taken_on script taken stream < ops_on script stream
+pub taken-below : (script : ScriptModel) (taken : List Bool) (a stream : ℕ) → a < length script.acts → get_or taken a false ≡ false → stream_asked (act_of script a) ≡ Some stream → taken_on script taken stream < ops_on script stream
 taken-below script taken a stream b untaken on =
     let out : (is_on script stream a && get_or taken a false) ≡ false = rw untaken (and-none (is_on script stream a)) in
     let here : is_on script stream a ≡ true = ap (is_this stream) on ∙ is-same stream in
@@ -104,5 +104,5 @@ taken-step script taken a stream false on b there untaken =
     omega arith
 
 -- one more was taken of the stream that the act is on
-pub taken-more : (script : ScriptModel) (taken : List Bool) (a stream : ℕ) → a < length script.acts → a < length taken → get_or taken a false ≡ false → taken_on script taken stream + one_at stream (stream_in (act_of script a)) ≤ taken_on script (set taken a true) stream
+pub taken-more : (script : ScriptModel) (taken : List Bool) (a stream : ℕ) → a < length script.acts → a < length taken → get_or taken a false ≡ false → taken_on script taken stream + one_at stream (stream_asked (act_of script a)) ≤ taken_on script (set taken a true) stream
 taken-more script taken a stream b there untaken = taken-step script taken a stream (is_on script stream a) refl b there untaken

@@ -24,7 +24,7 @@ use Rattle.stream_rules.specs.World.{stream_at, times_after}
 use Rattle.history_book.specs.Performing.{performed, performed_by, queues_at, with_queues}
 use Rattle.history_book.specs.Requests.{disconnected, reactor_after_done, reactor_after_take, slot_in, told_off}
 use Rattle.history_book.specs.Untold.{gone, read_gone, reading_place, write_gone, writing_place}
-use Rattle.history_book.specs.QueueRoom.{size_at, stream_in, taken_on, HasPlace}
+use Rattle.history_book.specs.QueueRoom.{size_at, stream_asked, taken_on, HasPlace}
 use Rattle.history_book.specs.Rounds.{is_held}
 use Rattle.history_book.specs.Settling.{expiry_of, is_due, served_at, served_below, served_stream, settled, with_streams_served, with_waits_served, AreDueTogether}
 use Rattle.history_book.specs.State.{ReactorHalf, StreamQueues, Wait, first_reactor, no_queues}
@@ -153,7 +153,7 @@ room-left script r a settled b is =
     (omega arith, omega arith)
 
 -- and a place in the queues of its stream
-pub has-place : (script : ScriptModel) (r : ReactorHalf) (a : ℕ) → IsSettled script r → a < length script.acts → get_or r.taken a false ≡ false → HasPlace script r (stream_in (act_of script a))
+pub has-place : (script : ScriptModel) (r : ReactorHalf) (a : ℕ) → IsSettled script r → a < length script.acts → get_or r.taken a false ≡ false → HasPlace script r (stream_asked (act_of script a))
 has-place script r a settled b is = λ stream on.
     let held = settled.queued stream in
     let below = taken-below script r.taken a stream b is on in

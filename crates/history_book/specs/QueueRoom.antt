@@ -8,13 +8,13 @@ use Rattle.history_book.specs.Performing.{queues_at}
 use Rattle.history_book.specs.State.{ReactorHalf}
 
 -- how many of the first numbers pass the test
-abbrev pub count_below : (ℕ → Bool) → ℕ → ℕ
-count_below test zero = 0
-count_below test (suc n) = count_below test n + (if test n then 1 else 0)
+abbrev pub count_passing : (ℕ → Bool) → ℕ → ℕ
+count_passing test zero = 0
+count_passing test (suc n) = count_passing test n + (if test n then 1 else 0)
 
-abbrev pub stream_in : Option Act → Option ℕ
-stream_in None = None
-stream_in (Some act) = stream_of act
+abbrev pub stream_asked : Option Act → Option ℕ
+stream_asked None = None
+stream_asked (Some act) = stream_of act
 
 abbrev pub is_this : ℕ → Option ℕ → Bool
 is_this stream None = false
@@ -22,16 +22,16 @@ is_this stream (Some other) = other == stream
 
 -- the act with this number is an operation on this stream
 abbrev pub is_on : ScriptModel → ℕ → ℕ → Bool
-is_on script stream op = is_this stream (stream_in (act_of script op))
+is_on script stream op = is_this stream (stream_asked (act_of script op))
 
 -- how many operations the script has on a stream
 abbrev pub ops_on : ScriptModel → ℕ → ℕ
-ops_on script stream = count_below (is_on script stream) (length script.acts)
+ops_on script stream = count_passing (is_on script stream) (length script.acts)
 
 -- how many of them were taken
 abbrev pub taken_on : ScriptModel → List Bool → ℕ → ℕ
 taken_on script taken stream =
-    count_below (λ op. is_on script stream op && slice_index_or taken op false) (length script.acts)
+    count_passing (λ op. is_on script stream op && slice_index_or taken op false) (length script.acts)
 
 -- how many operations of a stream are pending
 abbrev pub size_at : ReactorHalf → ℕ → ℕ

@@ -3,7 +3,7 @@ ghost use Rattle.session_script.specs.Script.{act_of};
 ghost use Rattle.history_book.specs.Asking.{IsReading, IsWriting, asked_reading, asked_writing};
 ghost use Rattle.history_book.specs.Kinds.{filter_of, supported_by};
 ghost use Rattle.history_book.specs.Performing.{bad, closed_at, queues_at, shut_at, connected, emitted, emitted_to, expiry_set, guard_released, is_reached, is_wait_for, is_wait_of, one_of_stream_cancelled, one_wait_cancelled, operation_cancelled, performed_by, read_accepted, wait_accepted, waits_cancelled, write_accepted};
-ghost use Rattle.history_book.specs.QueueRoom.{HasPlace, stream_in};
+ghost use Rattle.history_book.specs.QueueRoom.{HasPlace, stream_asked};
 ghost use Rattle.history_book.specs.Time.{pending_count};
 
 use crate::queues::{abort_all, abort_in};
@@ -274,7 +274,7 @@ impl<'a> ReactorWorks<'a> {
     /// Performs the act with this number.
     pub(crate) fn perform(&mut self, a: ActNo)
         requires there { a < length self.old.script.acts }
-        requires place { HasPlace self.old.script self.old.half (stream_in (act_of self.old.script a)) }
+        requires place { HasPlace self.old.script self.old.half (stream_asked (act_of self.old.script a)) }
         requires room { pending_count self.old.half < length self.old.script.acts }
         requires soon { self.old.half.now < 2 ^ 63 }
         ensures { self.new ≡ record self.old { half = performed_by self.old.script a (act_of self.old.script a) self.old.half } }

@@ -2,7 +2,7 @@ ghost use Rattle.std.specs.Prelude.{◌≡◌, ◌+◌, ◌-◌, ◌*◌, ◌<�
 ghost use Rattle.session_script.specs.Script.{act_of};
 ghost use Rattle.history_book.specs.Kinds.{slot_of};
 ghost use Rattle.history_book.specs.Performing.{performed, performed_by, with_taken};
-ghost use Rattle.history_book.specs.QueueRoom.{HasPlace, stream_in};
+ghost use Rattle.history_book.specs.QueueRoom.{HasPlace, stream_asked};
 ghost use Rattle.history_book.specs.Requests.{disconnected, reactor_after_done, reactor_after_take, slot_in, told_off};
 ghost use Rattle.history_book.specs.Settling.{AreDueTogether};
 ghost use Rattle.history_book.specs.Time.{at_last, at_time, next_time, pending_count, reactor_after_fault, reactor_after_last, reactor_after_tick};
@@ -43,7 +43,7 @@ impl<'a> ReactorWorks<'a> {
     /// The act is taken and performed, and what completes by it is due.
     pub(crate) fn take(&mut self, a: ActNo)
         requires there { a < length self.old.script.acts }
-        requires place { HasPlace self.old.script self.old.half (stream_in (act_of self.old.script a)) }
+        requires place { HasPlace self.old.script self.old.half (stream_asked (act_of self.old.script a)) }
         requires room { pending_count self.old.half < length self.old.script.acts }
         requires soon { self.old.half.now < 2 ^ 63 }
         requires accepted { self.old.half.accepted < 2 ^ 31 }

@@ -8,7 +8,7 @@ use Rattle.lane_clock.specs.declared.note.Note.{Note}
 use Rattle.lane_clock.specs.declared.step.Step.{Step}
 use Rattle.lane_clock.specs.declared.step.Step.TheVariants.{Draw, Load, Place, Put, Look, Join}
 use Rattle.lane_clock.specs.Rule.{Places, Puts}
-use Rattle.lane_clock.specs.History.{Event, steps_under, places_after, places_with, cell_after, cell_with, Fits, IsSound}
+use Rattle.lane_clock.specs.History.{Event, steps_under, places_after, places_with, cell_after, cell_with, Fits, IsSoundHistory}
 use Rattle.lane_clock.proofs.KnownLemmas.{event, under_same}
 use Rattle.lane_clock.proofs.MomentLemmas.{Tail, tail_refl, at_later}
 use Rattle.lane_clock.proofs.CountLemmas.{places_step}
@@ -52,7 +52,7 @@ cell_step g es lane place n x (Put at p note) fits h = full_once lane place at p
 cell_step g es lane place n x (Look at p held) fits h = h
 cell_step g es lane place n x (Join counts) fits h = h
 
-pub cell_stays : (guards seats : ℕ) (lane place : ℕ) (x : Note) (a es : List Event) → Tail a es → IsSound guards seats es → cell_after lane place a ≡ Some x → cell_after lane place es ≡ Some x
+pub cell_stays : (guards seats : ℕ) (lane place : ℕ) (x : Note) (a es : List Event) → Tail a es → IsSoundHistory guards seats es → cell_after lane place a ≡ Some x → cell_after lane place es ≡ Some x
 cell_stays g s lane place x a [] h sound full = subst (λ y. cell_after lane place y ≡ Some x) h full
 cell_stays g s lane place x a (e ∷ es) (inl h) sound full = subst (λ y. cell_after lane place y ≡ Some x) h full
 cell_stays g s lane place x a (e ∷ es) (inr h) sound full = cell_step g es lane place e.by x e.step sound.2 (cell_stays g s lane place x a es h sound.0 full)
@@ -87,7 +87,7 @@ each_put lane place x (e ∷ es) h = go (each_put lane place x es) e.step h
     go back (Join counts) q = lift (Join counts) (back q)
 
 -- each place below was drawn
-pub each_placed : (guards seats : ℕ) (es : List Event) → IsSound guards seats es → (lane k : ℕ) → k < places_after lane es → (m : ℕ) × (i : ℕ) × Places (λ n. steps_under n es) m i lane k
+pub each_placed : (guards seats : ℕ) (es : List Event) → IsSoundHistory guards seats es → (lane k : ℕ) → k < places_after lane es → (m : ℕ) × (i : ℕ) × Places (λ n. steps_under n es) m i lane k
 each_placed g s [] sound lane k lt = absurd (omega arith)
 each_placed g s (e ∷ es) sound lane k lt = go (each_placed g s es sound.0 lane k) e.step sound.2 lt
   where

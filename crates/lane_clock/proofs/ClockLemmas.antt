@@ -7,7 +7,7 @@ use Rattle.lane_clock.specs.declared.step.Step.{Step}
 use Rattle.lane_clock.specs.declared.step.Step.TheVariants.{Draw, Load, Place, Put, Look, Join}
 use Rattle.lane_clock.specs.ClockWord.{amount, found_of, word_of}
 use Rattle.lane_clock.specs.Steps.{draw_count}
-use Rattle.lane_clock.specs.History.{Event, word_with, word_after, drawn, IsSound}
+use Rattle.lane_clock.specs.History.{Event, word_with, word_after, drawn, IsSoundHistory}
 use Rattle.lane_clock.proofs.MomentLemmas.{Tail}
 use Rattle.lane_clock.proofs.CountLemmas.{few_drawn}
 
@@ -70,7 +70,7 @@ clock_counts g (e ∷ es) l = go e.step (clock_counts g es (omega arith)) l
     go (Look lane place held) h m = h ∙ omega arith
     go (Join counts) h m = h ∙ omega arith
 
-module _ (guards seats : ℕ) (es : List Event) (few : seats ≤ 2 ^ 15) (sound : IsSound guards seats es) where
+module _ (guards seats : ℕ) (es : List Event) (few : seats ≤ 2 ^ 15) (sound : IsSoundHistory guards seats es) where
   pub clock_is : word_after guards es % 2 ^ 32 ≡ drawn es
   clock_is = let h : drawn es ≤ 2 ^ 31 = few_drawn guards seats es few sound in clock_counts guards es (omega arith)
 

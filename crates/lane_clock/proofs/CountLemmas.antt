@@ -6,7 +6,7 @@ use Rattle.lane_clock.specs.declared.step.Step.{Step}
 use Rattle.lane_clock.specs.declared.step.Step.TheVariants.{Draw, Load, Place, Put, Look, Join}
 use Rattle.lane_clock.specs.Steps.{draw_count, place_count, counted}
 use Rattle.lane_clock.specs.Changes.{sum_below}
-use Rattle.lane_clock.specs.History.{Event, steps_under, drawn, places_with, places_after, Fits, IsSound}
+use Rattle.lane_clock.specs.History.{Event, steps_under, drawn, places_with, places_after, Fits, IsSoundHistory}
 use Rattle.lane_clock.proofs.KnownLemmas.{event, under_same, under_other}
 
 same_below : (f g : ℕ → ℕ) (n : ℕ) → ((k : ℕ) → k < n → g k ≡ f k) → sum_below g n ≡ sum_below f n
@@ -43,7 +43,7 @@ counted_nil f (suc n) = let h : sum_below (λ k. counted f (steps_under k [])) n
 under_counted : (f : Step → ℕ) (es : List Event) (n : ℕ) (st : Step) → counted f (steps_under n (event n st ∷ es)) ≡ counted f (steps_under n es) + f st
 under_counted f es n st = ap (counted f) (under_same es n st) ∙ counted_push f (steps_under n es) st
 
-counted_in_lists : (f : Step → ℕ) (guards seats : ℕ) (es : List Event) → IsSound guards seats es → counted_in f es ≡ sum_below (λ k. counted f (steps_under k es)) seats
+counted_in_lists : (f : Step → ℕ) (guards seats : ℕ) (es : List Event) → IsSoundHistory guards seats es → counted_in f es ≡ sum_below (λ k. counted f (steps_under k es)) seats
 counted_in_lists f g n [] s = sym (counted_nil f n)
 counted_in_lists f g n (e ∷ es) s =
     let h : counted_in f es ≡ sum_below (λ k. counted f (steps_under k es)) n = counted_in_lists f g n es s.0 in
@@ -72,7 +72,7 @@ place_rooms g es n (Put lane place note) h = inl refl
 place_rooms g es n (Look lane place held) h = inl refl
 place_rooms g es n (Join counts) h = inl refl
 
-bounded_list : (f : Step → ℕ) (guards seats : ℕ) → Rooms f guards → (es : List Event) → IsSound guards seats es → (k : ℕ) → counted f (steps_under k es) ≤ 65536
+bounded_list : (f : Step → ℕ) (guards seats : ℕ) → Rooms f guards → (es : List Event) → IsSoundHistory guards seats es → (k : ℕ) → counted f (steps_under k es) ≤ 65536
 bounded_list f g n rooms [] s k = omega arith
 bounded_list f g n rooms (e ∷ es) s k =
     let h : counted f (steps_under k es) ≤ 65536 = bounded_list f g n rooms es s.0 k in
@@ -87,7 +87,7 @@ bounded_list f g n rooms (e ∷ es) s k =
     (rooms es e.by e.step s.2))
     (λ (ne : k ≢ e.by). subst (λ l. counted f l ≤ 65536) (sym (under_other es k e.by e.step ne)) h)
 
-few_in : (f : Step → ℕ) (guards seats : ℕ) → Rooms f guards → (es : List Event) → IsSound guards seats es → counted_in f es ≤ seats * 65536
+few_in : (f : Step → ℕ) (guards seats : ℕ) → Rooms f guards → (es : List Event) → IsSoundHistory guards seats es → counted_in f es ≤ seats * 65536
 few_in f g n rooms es s =
     let e : counted_in f es ≡ sum_below (λ k. counted f (steps_under k es)) n = counted_in_lists f g n es s in
     let b : sum_below (λ k. counted f (steps_under k es)) n ≤ n * 65536 = bounded_below (λ k. counted f (steps_under k es)) n (bounded_list f g n rooms es s) in
@@ -98,7 +98,7 @@ drawn_counted [] = refl
 drawn_counted (e ∷ es) = let h : drawn es ≡ counted_in draw_count es = drawn_counted es in omega arith
 
 -- so few positions are drawn that the clock never wraps
-pub few_drawn : (guards seats : ℕ) (es : List Event) → seats ≤ 2 ^ 15 → IsSound guards seats es → drawn es ≤ 2 ^ 31
+pub few_drawn : (guards seats : ℕ) (es : List Event) → seats ≤ 2 ^ 15 → IsSoundHistory guards seats es → drawn es ≤ 2 ^ 31
 few_drawn g n es few s = let a : drawn es ≡ counted_in draw_count es = drawn_counted es in let b : counted_in draw_count es ≤ n * 65536 = few_in draw_count g n (draw_rooms g) es s in omega arith
 
 pub places_step : (lane k : ℕ) (st : Step) → (places_with lane st k ≡ k) ⊎ ((places_with lane st k ≡ k + 1) × (place_count st ≡ 1))
@@ -122,5 +122,5 @@ places_counted lane (e ∷ es) = let h : places_after lane es ≤ counted_in pla
     (λ (z : (places_with lane e.step (places_after lane es) ≡ places_after lane es + 1) × (place_count e.step ≡ 1)). let a = z.0 in let b = z.1 in omega arith)
     (places_step lane (places_after lane es) e.step)
 
-pub few_placed : (guards seats : ℕ) (es : List Event) (lane : ℕ) → seats ≤ 2 ^ 15 → IsSound guards seats es → places_after lane es ≤ 2 ^ 31
+pub few_placed : (guards seats : ℕ) (es : List Event) (lane : ℕ) → seats ≤ 2 ^ 15 → IsSoundHistory guards seats es → places_after lane es ≤ 2 ^ 31
 few_placed g n es lane few s = let a : places_after lane es ≤ counted_in place_count es = places_counted lane es in let b : counted_in place_count es ≤ n * 65536 = few_in place_count g n (place_rooms g) es s in omega arith

@@ -11,7 +11,7 @@ use Rattle.lane_clock.specs.declared.step.View.{View}
 use Rattle.lane_clock.specs.Layout.{Layout, total, place_word, cell_word}
 use Rattle.lane_clock.specs.Knowledge.{known, unknown, known_at, steps_at, owns_below}
 use Rattle.lane_clock.specs.Rule.{Words, ClockRule}
-use Rattle.lane_clock.specs.History.{Event, steps_under, IsSound, AreWords, Knows, IsKept, giver, words_after, first_words}
+use Rattle.lane_clock.specs.History.{Event, steps_under, IsSoundHistory, AreWords, KnowsHistory, HasOneHistory, giver, words_after, first_words}
 use Rattle.lane_clock.proofs.KnownLemmas.{mine_within, under_other}
 use Rattle.lane_clock.proofs.ClockLemmas.{word_bounded}
 use Rattle.lane_clock.proofs.PartLemmas.{rule_of}
@@ -44,7 +44,7 @@ owned (suc n) m (suc k) = owned n m k
 giver_long : (n : ℕ) → length (owns_below n n) ≡ n
 giver_long n = length-append (replicate n (known true [])) (replicate (n - n) unknown) ∙ (let a = length-replicate n (known true []) in let b = length-replicate (n - n) unknown in omega arith)
 
-giver_knows : (plan : Layout) → Knows plan [] (giver plan)
+giver_knows : (plan : Layout) → KnowsHistory plan [] (giver plan)
 giver_knows plan = record {
   short = let h = giver_long plan.seats in omega arith;
   told = λ n. ([], sym (Rattle.std.proofs.lemmas.List.append-nil _ ∙ owned plan.seats (plan.seats - plan.seats) n));
@@ -56,27 +56,27 @@ alone : (v : View) (i : ℕ) (u : View) → get_elem? (v ∷ []) i ≡ some u �
 alone v zero u e = (refl, some-injective v u e)
 alone v (suc i) u e = absurd (some-ne-none u (sym e))
 
-pub starts : (plan : Layout) {S : Type 0} → plan.seats ≤ 2 ^ 15 → plan.guards < 2 ^ 15 → IsKept plan {S = S} (opening (first_words plan) [] (giver plan))
+pub starts : (plan : Layout) {S : Type 0} → plan.seats ≤ 2 ^ 15 → plan.guards < 2 ^ 15 → HasOneHistory plan {S = S} (opening (first_words plan) [] (giver plan))
 starts plan few small = record {
   history = [];
   few = (few, small);
   sound = tt;
   words = first_are plan;
-  each = λ i v e. subst (Knows plan []) (alone (giver plan) i v e).1 (giver_knows plan);
+  each = λ i v e. subst (KnowsHistory plan []) (alone (giver plan) i v e).1 (giver_knows plan);
   apart = λ i j n v w ei ej mi mj. (alone (giver plan) i v ei).0 ∙ sym (alone (giver plan) j w ej).0;
 }
 
 -- nobody steps under a number that isn't a seat's
-none_under : (guards seats : ℕ) (es : List Event) → IsSound guards seats es → (n : ℕ) → seats ≤ n → steps_under n es ≡ []
+none_under : (guards seats : ℕ) (es : List Event) → IsSoundHistory guards seats es → (n : ℕ) → seats ≤ n → steps_under n es ≡ []
 none_under g s [] sound n h = refl
 none_under g s (e ∷ es) sound n h = under_other es n e.by e.step (λ q. let l : e.by < s = sound.1 in absurd (omega arith)) ∙ none_under g s es sound.0 n h
 
-pub all_known : (plan : Layout) {S : Type 0} (id n : ℕ) (v : View) (s : State S View) (kept : IsKept plan {S = S} s) → get_elem? s.views id ≡ some v → (known_at v.known n).mine ≡ true
+pub all_known : (plan : Layout) {S : Type 0} (id n : ℕ) (v : View) (s : State S View) (kept : HasOneHistory plan {S = S} s) → get_elem? s.views id ≡ some v → (known_at v.known n).mine ≡ true
     → ((m : ℕ) → m < v.plan.seats → (known_at v.known m).mine ≡ true)
     → ◌≡◌ {A = ℕ → List Step} (λ m. steps_at v.known m) (λ m. steps_under m kept.history)
 all_known plan id n v s kept at mine all = λ i m. each m i
   where
-    knows : Knows plan kept.history v
+    knows : KnowsHistory plan kept.history v
     knows = kept.each id v at
 
     each : (m : ℕ) → steps_at v.known m ≡ steps_under m kept.history
@@ -87,7 +87,7 @@ all_known plan id n v s kept at mine all = λ i m. each m i
         (cases_lt m plan.seats)
 
 -- what the last words say, where the seat with all numbers closes
-pub closes : (plan : Layout) {S : Type 0} (id n : ℕ) (v : View) (ws : List ℕ) (xs : List S) → Final (Seen (λ s. IsKept plan {S = S} s) id v) ws xs → (known_at v.known n).mine ≡ true
+pub closes : (plan : Layout) {S : Type 0} (id n : ℕ) (v : View) (ws : List ℕ) (xs : List S) → Final (Seen (λ s. HasOneHistory plan {S = S} s) id v) ws xs → (known_at v.known n).mine ≡ true
     → ((m : ℕ) → m < v.plan.seats → (known_at v.known m).mine ≡ true)
     → (words : Words) × (words.clock_word ≡ slice_index ws 0) × (words.clock_word < 2 ^ 64) × ClockRule (λ m. steps_at v.known m) words plan.guards × (plan.guards < 2 ^ 15)
 closes plan {S} id n v ws xs final mine all =

@@ -8,17 +8,17 @@ use Rattle.lane_clock.specs.declared.step.Step.{Step}
 use Rattle.lane_clock.specs.declared.step.Step.TheVariants.{Draw, Load}
 use Rattle.lane_clock.specs.ClockWord.{found_of}
 use Rattle.lane_clock.specs.Rule.{clock_in, IsFinding, by_draw, by_load, Draws, Finds, Precedes}
-use Rattle.lane_clock.specs.History.{Event, steps_under, word_after, drawn, IsSound, words_after}
+use Rattle.lane_clock.specs.History.{Event, steps_under, word_after, drawn, IsSoundHistory, words_after}
 use Rattle.lane_clock.proofs.KnownLemmas.{event}
 use Rattle.lane_clock.proofs.MomentLemmas.{Tail, tail_more, tail_trans, sound_tail, Moment, moment_of, One, Before, order_of, in_order}
 use Rattle.lane_clock.proofs.ClockLemmas.{drawn_grows, clock_is, found_clock}
 
-module _ (guards seats : ℕ) (small : guards < 2 ^ 15) (few : seats ≤ 2 ^ 15) (es : List Event) (sound : IsSound guards seats es) where
+module _ (guards seats : ℕ) (small : guards < 2 ^ 15) (few : seats ≤ 2 ^ 15) (es : List Event) (sound : IsSoundHistory guards seats es) where
   abbrev pub lists : ℕ → List Step
   lists n = steps_under n es
 
   -- at each moment the history was sound, and the step fitted it
-  pub sound_at : (m i : ℕ) (st : Step) (p : Moment es m i st) → IsSound guards seats (event m st ∷ p.older)
+  pub sound_at : (m i : ℕ) (st : Step) (p : Moment es m i st) → IsSoundHistory guards seats (event m st ∷ p.older)
   sound_at m i st p = sound_tail guards seats (event m st ∷ p.older) es p.tail sound
 
   pub older_tail : (m i : ℕ) (st : Step) (p : Moment es m i st) → Tail p.older es

@@ -15,7 +15,7 @@ use Rattle.lane_clock.specs.declared.step.Known.{Known}
 use Rattle.lane_clock.specs.declared.step.View.{View}
 use Rattle.lane_clock.specs.Layout.{Layout}
 use Rattle.lane_clock.specs.Knowledge.{known, unknown, known_at, steps_at, more_of, joined, counts}
-use Rattle.lane_clock.specs.History.{Event, steps_under, StartOf, Knows, IsKept}
+use Rattle.lane_clock.specs.History.{Event, steps_under, StartOf, KnowsHistory, HasOneHistory}
 use Rattle.lane_clock.specs.Plays.{view_with, join_view, spent}
 use Rattle.lane_clock.proofs.KnownLemmas.{at_within, mine_within, stepped_mine}
 use Rattle.lane_clock.proofs.KeepLemmas.{steps_keep}
@@ -86,14 +86,14 @@ joined_long [] bs = omega arith
 joined_long (a ∷ as_) [] = omega arith
 joined_long (a ∷ as_) (b ∷ bs) = let h : length as_ ≤ length (joined as_ bs) = joined_long as_ bs in omega arith
 
-module _ (plan : Layout) (es : List Event) (v w : View) (kv : Knows plan es v) (kw : Knows plan es w) (own : v.plan ≡ plan) (wide : length v.known ≡ plan.seats) where
+module _ (plan : Layout) (es : List Event) (v w : View) (kv : KnowsHistory plan es v) (kw : KnowsHistory plan es w) (own : v.plan ≡ plan) (wide : length v.known ≡ plan.seats) where
   abbrev both : View
   both = view_with v (joined v.known w.known)
 
   mine_of : (n : ℕ) → (known_at both.known n).mine ≡ true → ((known_at v.known n).mine || (known_at w.known n).mine) ≡ true
   mine_of n m = ap (λ (x : Known). x.mine) (sym (joined_at v.known w.known n)) ∙ m
 
-  joined_knows : Knows plan es both
+  joined_knows : KnowsHistory plan es both
   joined_knows =
       let long : length (joined v.known w.known) ≡ plan.seats = let a = joined_short v.known w.known plan.seats kv.short kw.short in let b = joined_long v.known w.known in omega arith in record {
         short = joined_short v.known w.known plan.seats kv.short kw.short;
@@ -104,7 +104,7 @@ module _ (plan : Layout) (es : List Event) (v w : View) (kv : Knows plan es v) (
         width = λ n m. (⊎_elim (λ h. (kv.width n h).0) (λ h. (kw.width n h).0) (from_either _ _ (mine_of n m)), long, own);
       }
 
-spent_knows : (plan : Layout) (es : List Event) → Knows plan es spent
+spent_knows : (plan : Layout) (es : List Event) → KnowsHistory plan es spent
 spent_knows plan es = record {
   short = omega arith;
   told = λ n. (steps_under n es, refl);
@@ -112,7 +112,7 @@ spent_knows plan es = record {
   width = λ n m. absurd (false≢true m);
 }
 
-module _ (plan : Layout) {S : Type 0} (id : ℕ) (v : View) (other : ℕ) (w : View) (mine : (known_at v.known v.number).mine ≡ true) (s : State S View) (kept : IsKept plan {S = S} s)
+module _ (plan : Layout) {S : Type 0} (id : ℕ) (v : View) (other : ℕ) (w : View) (mine : (known_at v.known v.number).mine ≡ true) (s : State S View) (kept : HasOneHistory plan {S = S} s)
     (at : get_elem? s.views id ≡ some v) (apart : other ≢ id) (there : get_elem? s.views other ≡ some w) where
   abbrev together : View
   together = view_with v (joined v.known w.known)
@@ -156,7 +156,7 @@ module _ (plan : Layout) {S : Type 0} (id : ℕ) (v : View) (other : ℕ) (w : V
       more)
       (cases j u e)
 
-  abbrev merge_keeps : IsKept plan {S = S} record { words = s.words; homes = s.homes; views = merged }
+  abbrev merge_keeps : HasOneHistory plan {S = S} record { words = s.words; homes = s.homes; views = merged }
   merge_keeps =
       let width = (kept.each id v at).width v.number mine in record {
         history = kept.history;
@@ -164,9 +164,9 @@ module _ (plan : Layout) {S : Type 0} (id : ℕ) (v : View) (other : ℕ) (w : V
         sound = kept.sound;
         words = kept.words;
         each = λ j u e. ⊎_elim
-            (λ (h : (j ≡ other) × (spent ≡ u)). subst (Knows plan kept.history) h.1 (spent_knows plan kept.history))
+            (λ (h : (j ≡ other) × (spent ≡ u)). subst (KnowsHistory plan kept.history) h.1 (spent_knows plan kept.history))
             (λ more. ⊎_elim
-            (λ (h : (j ≡ id) × (together ≡ u)). subst (Knows plan kept.history) h.1 (joined_knows plan kept.history v w (kept.each id v at) (kept.each other w there) width.2 width.1))
+            (λ (h : (j ≡ id) × (together ≡ u)). subst (KnowsHistory plan kept.history) h.1 (joined_knows plan kept.history v w (kept.each id v at) (kept.each other w there) width.2 width.1))
             (λ (h : (j ≢ other) × (j ≢ id) × (get_elem? s.views j ≡ some u)). kept.each j u h.2)
             more)
             (cases j u e);
@@ -175,7 +175,7 @@ module _ (plan : Layout) {S : Type 0} (id : ℕ) (v : View) (other : ℕ) (w : V
             a.4 ∙ (ap heir (kept.apart a.0 b.0 n a.1 b.1 a.2 b.2 a.3 b.3) ∙ sym b.4);
       }
 
-pub may_join : (plan : Layout) {S : Type 0} (id : ℕ) (v : View) (other : ℕ) (w : View) → (known_at v.known v.number).mine ≡ true → Joins (λ s. IsKept plan {S = S} s) id v other w (join_view v w.known) spent
+pub may_join : (plan : Layout) {S : Type 0} (id : ℕ) (v : View) (other : ℕ) (w : View) → (known_at v.known v.number).mine ≡ true → Joins (λ s. HasOneHistory plan {S = S} s) id v other w (join_view v w.known) spent
 may_join plan {S} id v other w mine s kept at apart later =
     let there : get_elem? s.views other ≡ some w = sym (set_else s.views id other (join_view v w.known) apart) ∙ later in
     let v' : View = view_with v (joined v.known w.known) in
@@ -188,7 +188,7 @@ may_join plan {S} id v other w mine s kept at apart later =
     let done = steps_keep plan record { words = s.words; homes = s.homes; views = merged } kept' id v' here (Join (counts w.known)) s.words s.homes mine' fits (joined_words plan kept.history s.words kept.words v.number (counts w.known)) in
     let views : set merged id (join_view v w.known) ≡ set (set s.views id (join_view v w.known)) other spent
     = set_comm (set s.views id v') other id spent (join_view v w.known) apart ∙ ap (λ vs. set vs other spent) (set-set s.views id v' (join_view v w.known)) in
-    subst (λ (vs : List View). IsKept plan {S = S} record { words = s.words; homes = s.homes; views = vs }) views done
+    subst (λ (vs : List View). HasOneHistory plan {S = S} record { words = s.words; homes = s.homes; views = vs }) views done
 
 -- the seat that takes in another keeps its own number
 pub join_mine : (v : View) (ks : List Known) → (known_at v.known v.number).mine ≡ true → (known_at (join_view v ks).known v.number).mine ≡ true

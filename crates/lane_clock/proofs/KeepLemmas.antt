@@ -12,7 +12,7 @@ use Rattle.lane_clock.specs.declared.step.Known.{Known}
 use Rattle.lane_clock.specs.declared.step.View.{View}
 use Rattle.lane_clock.specs.Layout.{Layout}
 use Rattle.lane_clock.specs.Knowledge.{known_at, steps_at, stepped_at}
-use Rattle.lane_clock.specs.History.{Event, steps_under, Fits, StartOf, AreWords, Knows, IsKept}
+use Rattle.lane_clock.specs.History.{Event, steps_under, Fits, StartOf, AreWords, KnowsHistory, HasOneHistory}
 use Rattle.lane_clock.specs.Plays.{step_view}
 use Rattle.lane_clock.proofs.KnownLemmas.{mine_within, stepped_here, stepped_other, stepped_mine, event, under_same, under_other}
 
@@ -28,9 +28,9 @@ start_under xs es n m st h = dite (ℕ_discrete n m)
     (λ (e : n ≡ m). subst (λ (k : ℕ). StartOf xs (steps_under n (event k st ∷ es))) e (subst (StartOf xs) (sym (under_same es n st)) (start_longer xs (steps_under n es) st h)))
     (λ ne. subst (StartOf xs) (sym (under_other es n m st ne)) h)
 
-module _ (plan : Layout) (es : List Event) (v : View) (st : Step) (knows : Knows plan es v) where
+module _ (plan : Layout) (es : List Event) (v : View) (st : Step) (knows : KnowsHistory plan es v) where
   -- who made no step knows what it knew
-  pub others_know : (n : ℕ) → ((known_at v.known n).mine ≡ true → ⊥) → Knows plan (event n st ∷ es) v
+  pub others_know : (n : ℕ) → ((known_at v.known n).mine ≡ true → ⊥) → KnowsHistory plan (event n st ∷ es) v
   others_know n not_mine = record {
     short = knows.short;
     told = λ m. start_under (steps_at v.known m) es m n st (knows.told m);
@@ -39,7 +39,7 @@ module _ (plan : Layout) (es : List Event) (v : View) (st : Step) (knows : Knows
   }
 
   -- who made the step knows it too
-  pub own_known : (known_at v.known v.number).mine ≡ true → Knows plan (event v.number st ∷ es) (step_view v st)
+  pub own_known : (known_at v.known v.number).mine ≡ true → KnowsHistory plan (event v.number st ∷ es) (step_view v st)
   own_known mine =
       let i : v.number < length v.known = mine_within v.known v.number mine in
       let here : steps_at (stepped_at v.known v.number st) v.number ≡ steps_under v.number (event v.number st ∷ es) = ap (λ (k : Known). k.steps) (stepped_here v.known v.number st i) ∙ (ap (λ xs. xs ++ st ∷ []) (knows.whole v.number mine) ∙ sym (under_same es v.number st)) in
@@ -55,7 +55,7 @@ module _ (plan : Layout) (es : List Event) (v : View) (st : Step) (knows : Knows
         width = λ m h. let w = knows.width m (was m h) in (w.0, length-set v.known v.number _ ∙ w.1, w.2);
       }
 
-module _ (plan : Layout) {S : Type 0} (s : State S View) (kept : IsKept plan s) (id : ℕ) (v : View) (at : get_elem? s.views id ≡ some v) where
+module _ (plan : Layout) {S : Type 0} (s : State S View) (kept : HasOneHistory plan s) (id : ℕ) (v : View) (at : get_elem? s.views id ≡ some v) where
   -- no other seat has a number of this one
   pub not_theirs : (j n : ℕ) (u : View) → j ≢ id → get_elem? s.views j ≡ some u → (known_at v.known n).mine ≡ true → (known_at u.known n).mine ≡ true → ⊥
   not_theirs j n u ne there mine theirs = ne (kept.apart j id n u v there at theirs mine)
@@ -63,7 +63,7 @@ module _ (plan : Layout) {S : Type 0} (s : State S View) (kept : IsKept plan s) 
   pub steps_keep : (st : Step) (ws : List ℕ) (hs : List (Option S)) → (known_at v.known v.number).mine ≡ true
       → Fits plan.guards kept.history v.number st
       → AreWords plan (event v.number st ∷ kept.history) ws
-      → IsKept plan {S = S} record { words = ws; homes = hs; views = set s.views id (step_view v st) }
+      → HasOneHistory plan {S = S} record { words = ws; homes = hs; views = set s.views id (step_view v st) }
   steps_keep st ws hs mine fits words =
       let knows = kept.each id v at in
       let i : v.number < length v.known = mine_within v.known v.number mine in
@@ -78,7 +78,7 @@ module _ (plan : Layout) {S : Type 0} (s : State S View) (kept : IsKept plan s) 
         sound = (kept.sound, (knows.width v.number mine).0, fits);
         words = words;
         each = λ j u e. ⊎_elim
-            (λ (t : (j ≡ id) × (step_view v st ≡ u)). subst (Knows plan (event v.number st ∷ kept.history)) t.1 (own_known plan kept.history v st knows mine))
+            (λ (t : (j ≡ id) × (step_view v st ≡ u)). subst (KnowsHistory plan (event v.number st ∷ kept.history)) t.1 (own_known plan kept.history v st knows mine))
             (λ (t : (j ≢ id) × (get_elem? s.views j ≡ some u)). others_know plan kept.history u st (kept.each j u t.1) v.number (not_theirs j v.number u t.0 t.1 mine))
             (at_set s.views id j (step_view v st) u e);
         apart = λ a b n x y ea eb ma mb.

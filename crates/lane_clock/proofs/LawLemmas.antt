@@ -9,7 +9,7 @@ use Rattle.lane_clock.specs.declared.found.Change.TheVariants.{Same, Up, Down, D
 use Rattle.lane_clock.specs.declared.step.Step.{Step}
 use Rattle.lane_clock.specs.ClockWord.{amount, word_of, IsParted}
 use Rattle.lane_clock.specs.Rule.{clock_in, IsFinding, by_draw, by_load, Draws, Loads, Finds, Closed}
-use Rattle.lane_clock.specs.Changes.{sum_below, up_of, down_of, stop_of, ups_below, downs_below, stops_below, ChangesAre, HasRoom, AddsUp}
+use Rattle.lane_clock.specs.Changes.{sum_below, up_of, down_of, stop_of, ups_below, downs_below, stops_below, ChangesAre, ChangesFit, AddsUp}
 use Rattle.lane_clock.specs.History.{steps_under, words_after}
 use Rattle.lane_clock.specs.Laws.{HoldsBetweenSteps, ChangesStand, WorkAddsUp, NotesAreOlder}
 use Rattle.lane_clock.proofs.PartLemmas.{rule_of}
@@ -126,7 +126,7 @@ module _ (lists : ℕ → List Step) (guards : ℕ) (last : Found) (c : Closed l
       go _ at _ (by_draw d g) q = draws_sum n are m i d g at q
       go _ at _ (by_load g) q = load g at q (cases_lt n last.clock)
 
-  adds_up : (n : ℕ) (f : Found) → IsParted f → f.clock ≡ n → HasRoom guards changes n → word_of f ≡ whole n → AddsUp guards changes n f
+  adds_up : (n : ℕ) (f : Found) → IsParted f → f.clock ≡ n → ChangesFit guards changes n → word_of f ≡ whole n → AddsUp guards changes n f
   adds_up n f parts e room is =
       let s : amounts changes n + 2 ^ 32 * downs_below changes n ≡ n + 2 ^ 32 * ups_below changes n + 2 ^ 48 * stops_below changes n + 2 ^ 64 * sum_below (λ k. borrow_of (changes k)) n = sums changes n in
       let p = parted f.clock f.work f.stops n guards (amounts changes n) (ups_below changes n) (downs_below changes n) (stops_below changes n) (sum_below (λ k. borrow_of (changes k)) n) is s e parts.0 parts.1 parts.2 room.down room.work room.stops in

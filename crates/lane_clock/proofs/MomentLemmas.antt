@@ -7,7 +7,7 @@ use native.Mathlib.Decide.{ℕ_discrete}
 use lib.ListN.{get_elem?}
 use Rattle.atomic_table.proofs.Lists.{at_longer}
 use Rattle.lane_clock.specs.declared.step.Step.{Step}
-use Rattle.lane_clock.specs.History.{Event, steps_under, IsSound, StartOf}
+use Rattle.lane_clock.specs.History.{Event, steps_under, IsSoundHistory, StartOf}
 use Rattle.lane_clock.proofs.KnownLemmas.{at_push, event, under_same, under_other}
 use Rattle.lane_clock.proofs.KeepLemmas.{start_under, start_same}
 
@@ -61,9 +61,9 @@ grows P more a [] h p = subst P h p
 grows P more a (x ∷ es) (inl h) p = subst P h p
 grows P more a (x ∷ es) (inr h) p = more x es (grows P more a es h p)
 
-pub sound_tail : (guards seats : ℕ) (a es : List Event) → Tail a es → IsSound guards seats es → IsSound guards seats a
-sound_tail g n a [] h s = subst (IsSound g n) (sym h) s
-sound_tail g n a (x ∷ es) (inl h) s = subst (IsSound g n) (sym h) s
+pub sound_tail : (guards seats : ℕ) (a es : List Event) → Tail a es → IsSoundHistory guards seats es → IsSoundHistory guards seats a
+sound_tail g n a [] h s = subst (IsSoundHistory g n) (sym h) s
+sound_tail g n a (x ∷ es) (inl h) s = subst (IsSoundHistory g n) (sym h) s
 sound_tail g n a (x ∷ es) (inr h) s = sound_tail g n a es h s.0
 
 pub under_grows : (n : ℕ) (a es : List Event) → Tail a es → StartOf (steps_under n a) (steps_under n es)

@@ -5,7 +5,7 @@ use Rattle.lane_clock.specs.declared.note.Note.{Note}
 use Rattle.lane_clock.specs.declared.step.Step.{Step}
 use Rattle.lane_clock.specs.declared.step.Step.TheVariants.{Draw, Place, Put, Look, Join}
 use Rattle.lane_clock.specs.Rule.{Puts, Looks, Precedes, PlacesOnce, CellsOnce, PlacesInOrder, JoinsBefore, EmptyLooks, ClockRule}
-use Rattle.lane_clock.specs.History.{Event, steps_under, places_after, cell_after, IsSound, words_after}
+use Rattle.lane_clock.specs.History.{Event, steps_under, places_after, cell_after, IsSoundHistory, words_after}
 use Rattle.lane_clock.proofs.KnownLemmas.{at_within, event}
 use Rattle.lane_clock.proofs.MomentLemmas.{Tail, tail_more, tail_trans, under_length, at_later, Moment, moment_of, moment_in, One, Before, order_of, within_before, in_order, before_index}
 use Rattle.lane_clock.proofs.FindingLemmas.{sound_at, older_tail, precedes_by, precedes}
@@ -16,7 +16,7 @@ use Rattle.lane_clock.proofs.CellLemmas.{places_grow, placed_here, put_here, cel
 put_or_look : (a b c d : ℕ) (x : Note) (y : Option Note) → Put a b x ≡ Look c d y → ⊥
 put_or_look a b c d x y h = cc
 
-module _ (guards seats : ℕ) (small : guards < 2 ^ 15) (few : seats ≤ 2 ^ 15) (es : List Event) (sound : IsSound guards seats es) where
+module _ (guards seats : ℕ) (small : guards < 2 ^ 15) (few : seats ≤ 2 ^ 15) (es : List Event) (sound : IsSoundHistory guards seats es) where
   abbrev lists : ℕ → List Step
   lists n = steps_under n es
 
@@ -69,7 +69,7 @@ module _ (guards seats : ℕ) (small : guards < 2 ^ 15) (few : seats ≤ 2 ^ 15)
       (tail_more x.older (event m (Place lane p)) y.older (place_order m i n j lane p q x y lt))
 
   -- once put, a cell holds its note
-  holds_at : (m i lane place : ℕ) (note : Note) (p : Moment es m i (Put lane place note)) (xs : List Event) → Tail (event m (Put lane place note) ∷ p.older) xs → IsSound guards seats xs → cell_after lane place xs ≡ Some note
+  holds_at : (m i lane place : ℕ) (note : Note) (p : Moment es m i (Put lane place note)) (xs : List Event) → Tail (event m (Put lane place note) ∷ p.older) xs → IsSoundHistory guards seats xs → cell_after lane place xs ≡ Some note
   holds_at m i lane place note p xs h s = cell_stays guards seats lane place note (event m (Put lane place note) ∷ p.older) xs h s (put_here p.older m lane place note)
 
   was_empty : (m i lane place : ℕ) (note : Note) (p : Moment es m i (Put lane place note)) → cell_after lane place p.older ≡ None

@@ -12,7 +12,7 @@ use Rattle.lane_clock.specs.NoteWord.{IsNote, note_word, note_of}
 use Rattle.lane_clock.specs.Layout.{Layout, cell_word, lane_of_place, lane_of_cell, place_of_cell, slot, slot_lane, slot_place}
 use Rattle.lane_clock.specs.Knowledge.{known_at, steps_at}
 use Rattle.lane_clock.specs.Steps.{place_count, counted, is_place, is_put, has_drawn, has_put}
-use Rattle.lane_clock.specs.History.{Event, IsKept, IsSound, Fits, cell_after, cell_with, places_after, steps_under}
+use Rattle.lane_clock.specs.History.{Event, HasOneHistory, IsSoundHistory, Fits, cell_after, cell_with, places_after, steps_under}
 use Rattle.lane_clock.specs.Plays.{step_view, places, puts, looks}
 use Rattle.lane_clock.proofs.KeepLemmas.{steps_keep}
 use Rattle.lane_clock.proofs.WordLemmas.{slot_lane-slot, slot_place-slot, placed_words, put_words, looked}
@@ -73,7 +73,7 @@ put_at lane place (s ∷ ss) h = go (put_at lane place ss) s (is_put lane place 
     go back t false e q = let r = back q in (suc r.0, r.1, r.2)
 
 -- a cell holds a note that it can hold
-pub held_is : (guards seats lane place : ℕ) (es : List Event) → IsSound guards seats es → IsHeld (cell_after lane place es)
+pub held_is : (guards seats lane place : ℕ) (es : List Event) → IsSoundHistory guards seats es → IsHeld (cell_after lane place es)
 held_is g s lane place [] sound = tt
 held_is g s lane place (e ∷ es) sound = go e.step sound.2 (held_is g s lane place es sound.0)
   where
@@ -89,7 +89,7 @@ held_is g s lane place (e ∷ es) sound = go e.step sound.2 (held_is g s lane pl
     go (Look at p held) fits h = h
     go (Join counts) fits h = h
 
-module _ (plan : Layout) {S : Type 0} (s : State S View) (kept : IsKept plan {S = S} s) where
+module _ (plan : Layout) {S : Type 0} (s : State S View) (kept : HasOneHistory plan {S = S} s) where
   -- a cell whose place was drawn under a number and not put under it is empty
   empty_yet : (n lane place : ℕ) → has_drawn lane place (steps_under n kept.history) ≡ true → has_put lane place (steps_under n kept.history) ≡ false → (held : Option Note) → cell_after lane place kept.history ≡ held → held ≡ None
   empty_yet n lane place drew fresh None e = refl
@@ -115,7 +115,7 @@ module _ (plan : Layout) {S : Type 0} (s : State S View) (kept : IsKept plan {S 
 
 module _ (plan : Layout) {S : Type 0} (slots id : ℕ) (me : Me S View) (mine : (known_at me.0.known me.0.number).mine ≡ true) where
   pub may_place : (lane : ℕ) → lane < length plan.cells → counted place_count (steps_at me.0.known me.0.number) < 65536
-      → Allows (λ s. IsKept plan {S = S} s) slots id me (1 + lane) (λ n. (n + 1) % 2 ^ 64) (places (step slots (1 + lane) 1 0 none) me)
+      → Allows (λ s. HasOneHistory plan {S = S} s) slots id me (1 + lane) (λ n. (n + 1) % 2 ^ 64) (places (step slots (1 + lane) 1 0 none) me)
   may_place lane inside room s kept homes at small =
       let found : ℕ = slice_index s.words (1 + lane) in
       let whole = (kept.each id me.0 at).whole me.0.number mine in
@@ -146,7 +146,7 @@ module _ (plan : Layout) {S : Type 0} (slots id : ℕ) (me : Me S View) (mine : 
       ap (slot_place plan.cells) e ∙ slot_place-slot plan.cells lane place inside
 
   pub may_look : (lane place word : ℕ) → place < slice_index plan.cells lane → word ≡ cell_word plan.cells lane place → me.0.plan ≡ plan
-      → Allows (λ s. IsKept plan {S = S} s) slots id me word (λ n. n) (looks (step slots word 0 0 none) me)
+      → Allows (λ s. HasOneHistory plan {S = S} s) slots id me word (λ n. n) (looks (step slots word 0 0 none) me)
   may_look lane place word inside is own s kept homes at small =
       let found : ℕ = slice_index s.words word in
       let holds : found ≡ note_word (cell_after lane place kept.history) = ap (slice_index s.words) is ∙ kept.words.cells lane place inside in
@@ -164,7 +164,7 @@ module _ (plan : Layout) {S : Type 0} (slots id : ℕ) (me : Me S View) (mine : 
   pub may_put : (lane place word new : ℕ) (note : Note) → place < slice_index plan.cells lane → word ≡ cell_word plan.cells lane place → me.0.plan ≡ plan
       → IsNote note → new ≡ note_word (Some note)
       → has_drawn lane place (steps_at me.0.known me.0.number) ≡ true → has_put lane place (steps_at me.0.known me.0.number) ≡ false
-      → Allows (λ s. IsKept plan {S = S} s) slots id me word (λ _. new) (λ _. puts (step slots word new 0 none) me new)
+      → Allows (λ s. HasOneHistory plan {S = S} s) slots id me word (λ _. new) (λ _. puts (step slots word new 0 none) me new)
   may_put lane place word new note inside is own fine made drew fresh s kept homes at small =
       let whole = (kept.each id me.0 at).whole me.0.number mine in
       let drew' : has_drawn lane place (steps_under me.0.number kept.history) ≡ true = subst (λ ss. has_drawn lane place ss ≡ true) whole drew in

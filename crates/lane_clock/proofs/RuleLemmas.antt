@@ -10,14 +10,14 @@ use Rattle.lane_clock.specs.declared.step.Step.{Step}
 use Rattle.lane_clock.specs.declared.step.Step.TheVariants.{Draw, Load, Place, Put, Look, Join}
 use Rattle.lane_clock.specs.ClockWord.{amount, found_of, word_of, IsParted}
 use Rattle.lane_clock.specs.Rule.{clock_in, Draws, DrawsOnce, ChangesAddUp, LoadsAgree}
-use Rattle.lane_clock.specs.History.{Event, steps_under, word_after, drawn, Fits, IsSound, words_after}
+use Rattle.lane_clock.specs.History.{Event, steps_under, word_after, drawn, Fits, IsSoundHistory, words_after}
 use Rattle.lane_clock.proofs.KnownLemmas.{event, under_same}
 use Rattle.lane_clock.proofs.MomentLemmas.{Tail, tail_refl, tail_more, at_later, Moment, moment_of, One, order_of, in_order}
 use Rattle.lane_clock.proofs.ClockLemmas.{drawn_grows, word_stays, found_clock, found_word, word_bounded}
 use Rattle.lane_clock.proofs.FindingLemmas.{sound_at, older_tail, draw_clock, load_clock, finding, the_clock, drawn_once}
 
 -- each clock below was drawn
-each_drawn : (guards seats : ℕ) → seats ≤ 2 ^ 15 → (es : List Event) → IsSound guards seats es → (k : ℕ) → k < drawn es
+each_drawn : (guards seats : ℕ) → seats ≤ 2 ^ 15 → (es : List Event) → IsSoundHistory guards seats es → (k : ℕ) → k < drawn es
     → (m : ℕ) × (i : ℕ) × (change : Change) × (found : Found) × Draws (λ n. steps_under n es) m i change found × (found.clock ≡ k)
 each_drawn g s few [] sound k lt = absurd (omega arith)
 each_drawn g s few (e ∷ es) sound k lt = go e.step sound.2 (λ (old : k < drawn es). lift (each_drawn g s few es sound.0 k old)) lt
@@ -46,7 +46,7 @@ each_drawn g s few (e ∷ es) sound k lt = go e.step sound.2 (λ (old : k < draw
     go (Look lane place held) fits old l = old (omega arith)
     go (Join counts) fits old l = old (omega arith)
 
-module _ (guards seats : ℕ) (small : guards < 2 ^ 15) (few : seats ≤ 2 ^ 15) (es : List Event) (sound : IsSound guards seats es) where
+module _ (guards seats : ℕ) (small : guards < 2 ^ 15) (few : seats ≤ 2 ^ 15) (es : List Event) (sound : IsSoundHistory guards seats es) where
   pub draws_once : DrawsOnce (λ n. steps_under n es) (words_after guards es)
   draws_once =
       let the : clock_in (words_after guards es) ≡ drawn es = the_clock guards seats small few es sound in record {

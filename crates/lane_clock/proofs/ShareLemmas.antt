@@ -14,7 +14,7 @@ use Rattle.lane_clock.specs.declared.step.Known.{Known}
 use Rattle.lane_clock.specs.declared.step.View.{View}
 use Rattle.lane_clock.specs.Layout.{Layout}
 use Rattle.lane_clock.specs.Knowledge.{unknown, known_at, steps_at, copied, copy_of}
-use Rattle.lane_clock.specs.History.{Event, steps_under, StartOf, Knows, IsKept}
+use Rattle.lane_clock.specs.History.{Event, steps_under, StartOf, KnowsHistory, HasOneHistory}
 use Rattle.lane_clock.specs.Plays.{copy_view, giver_after, given}
 use Rattle.lane_clock.proofs.KnownLemmas.{mine_within, at_push}
 
@@ -27,7 +27,7 @@ not_mine e = false≢true e
 pub copied_at : (ks : List Known) (n : ℕ) → known_at (copy_of ks) n ≡ copied (known_at ks n)
 copied_at ks n = get_or-map copied ks n unknown
 
-copy_knows : (plan : Layout) (es : List Event) (v : View) → Knows plan es v → Knows plan es (copy_view v)
+copy_knows : (plan : Layout) (es : List Event) (v : View) → KnowsHistory plan es v → KnowsHistory plan es (copy_view v)
 copy_knows plan es v k =
     let no : (n : ℕ) → (known_at (copy_of v.known) n).mine ≡ true → ⊥ = λ n h. not_mine (sym (ap (λ (x : Known). x.mine) (copied_at v.known n)) ∙ h) in record {
       short = subst (λ n. n ≤ plan.seats) (sym (Rattle.std.proofs.lemmas.List.length-map v.known copied)) k.short;
@@ -37,7 +37,7 @@ copy_knows plan es v k =
     }
 
 module _ (plan : Layout) {S : Type 0} (id : ℕ) (v : View) where
-  pub may_copy : Splits (λ s. IsKept plan {S = S} s) id v v (copy_view v)
+  pub may_copy : Splits (λ s. HasOneHistory plan {S = S} s) id v v (copy_view v)
   may_copy s kept at =
       let same : set s.views id v ≡ s.views = set_again s.views id v at in
       let old : (j : ℕ) (u : View) → get_elem? (set s.views id v ++ copy_view v ∷ []) j ≡ some u → (get_elem? s.views j ≡ some u) ⊎ (copy_view v ≡ u)
@@ -49,7 +49,7 @@ module _ (plan : Layout) {S : Type 0} (id : ℕ) (v : View) where
         few = kept.few;
         sound = kept.sound;
         words = kept.words;
-        each = λ j u e. ⊎_elim (λ h. kept.each j u h) (λ (h : copy_view v ≡ u). subst (Knows plan kept.history) h (copy_knows plan kept.history v (kept.each id v at))) (old j u e);
+        each = λ j u e. ⊎_elim (λ h. kept.each j u h) (λ (h : copy_view v ≡ u). subst (KnowsHistory plan kept.history) h (copy_knows plan kept.history v (kept.each id v at))) (old j u e);
         apart = λ i j n x y ei ej mi mj. kept.apart i j n x y (there i n x ei mi) (there j n y ej mj) mi mj;
       }
 
@@ -86,7 +86,7 @@ module _ (plan : Layout) (v : View) (k : ℕ) (mine : (known_at v.known k).mine 
   gone_mine : (n : ℕ) → (known_at gone_known n).mine ≡ true → n ≡ k
   gone_mine n h = dite (ℕ_discrete n k) (λ (e : n ≡ k). e) (λ ne. absurd (not_mine (sym (ap (λ (x : Known). x.mine) (gone_other n ne)) ∙ h)))
 
-  left_knows : (es : List Event) (number : ℕ) → Knows plan es v → Knows plan es record { plan = v.plan; number = number; known = left_known }
+  left_knows : (es : List Event) (number : ℕ) → KnowsHistory plan es v → KnowsHistory plan es record { plan = v.plan; number = number; known = left_known }
   left_knows es number h = record {
     short = subst (λ n. n ≤ plan.seats) (sym (length-set v.known k unknown)) h.short;
     told = λ n. dite (ℕ_discrete n k)
@@ -96,7 +96,7 @@ module _ (plan : Layout) (v : View) (k : ℕ) (mine : (known_at v.known k).mine 
     width = λ n m. let w = h.width n (left_mine n m).1 in (w.0, length-set v.known k unknown ∙ w.1, w.2);
   }
 
-  gone_knows : (es : List Event) (number : ℕ) → Knows plan es v → Knows plan es record { plan = v.plan; number = number; known = gone_known }
+  gone_knows : (es : List Event) (number : ℕ) → KnowsHistory plan es v → KnowsHistory plan es record { plan = v.plan; number = number; known = gone_known }
   gone_knows es number h =
       let long : length gone_known ≡ length v.known = length-set (replicate (length v.known) unknown) k (known_at v.known k) ∙ length-replicate (length v.known) unknown in record {
         short = subst (λ n. n ≤ plan.seats) (sym long) h.short;
@@ -108,7 +108,7 @@ module _ (plan : Layout) (v : View) (k : ℕ) (mine : (known_at v.known k).mine 
       }
 
   -- the giver keeps its other numbers, and the new seat has this one
-  module _ {S : Type 0} (id number : ℕ) (s : State S View) (kept : IsKept plan {S = S} s) (at : get_elem? s.views id ≡ some v) where
+  module _ {S : Type 0} (id number : ℕ) (s : State S View) (kept : HasOneHistory plan {S = S} s) (at : get_elem? s.views id ≡ some v) where
     abbrev left : View
     left = record { plan = v.plan; number = number; known = left_known }
 
@@ -144,7 +144,7 @@ module _ (plan : Layout) (v : View) (k : ℕ) (mine : (known_at v.known k).mine 
         more)
         (cases j u e)
 
-    given_keeps : IsKept plan {S = S} record { words = s.words; homes = s.homes; views = views }
+    given_keeps : HasOneHistory plan {S = S} record { words = s.words; homes = s.homes; views = views }
     given_keeps =
         let knows = kept.each id v at in record {
           history = kept.history;
@@ -152,10 +152,10 @@ module _ (plan : Layout) (v : View) (k : ℕ) (mine : (known_at v.known k).mine 
           sound = kept.sound;
           words = kept.words;
           each = λ j u e. ⊎_elim
-              (λ (h : (j ≡ id) × (left ≡ u)). subst (Knows plan kept.history) h.1 (left_knows kept.history number knows))
+              (λ (h : (j ≡ id) × (left ≡ u)). subst (KnowsHistory plan kept.history) h.1 (left_knows kept.history number knows))
               (λ more. ⊎_elim
               (λ (h : (j ≢ id) × (get_elem? s.views j ≡ some u)). kept.each j u h.1)
-              (λ (h : (j ≡ length s.views) × (gone ≡ u)). subst (Knows plan kept.history) h.1 (gone_knows kept.history k knows))
+              (λ (h : (j ≡ length s.views) × (gone ≡ u)). subst (KnowsHistory plan kept.history) h.1 (gone_knows kept.history k knows))
               more)
               (cases j u e);
           apart = λ i j n x y ei ej mi mj. dite (ℕ_discrete n k)
@@ -163,5 +163,5 @@ module _ (plan : Layout) (v : View) (k : ℕ) (mine : (known_at v.known k).mine 
               (λ ne. let a = off_k i n x ne ei mi in let b = off_k j n y ne ej mj in kept.apart i j n a.0 b.0 a.1 b.1 a.2 b.2);
         }
 
-pub may_give : (plan : Layout) {S : Type 0} (id : ℕ) (v : View) → (known_at v.known (v.number - 1)).mine ≡ true → Splits (λ s. IsKept plan {S = S} s) id v (giver_after v) (given v)
+pub may_give : (plan : Layout) {S : Type 0} (id : ℕ) (v : View) → (known_at v.known (v.number - 1)).mine ≡ true → Splits (λ s. HasOneHistory plan {S = S} s) id v (giver_after v) (given v)
 may_give plan id v mine s kept at = given_keeps plan v (v.number - 1) mine id (v.number - 1) s kept at

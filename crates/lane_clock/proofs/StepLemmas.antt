@@ -9,13 +9,13 @@ use Rattle.lane_clock.specs.ClockWord.{amount, found_of}
 use Rattle.lane_clock.specs.Layout.{Layout}
 use Rattle.lane_clock.specs.Knowledge.{known_at, steps_at}
 use Rattle.lane_clock.specs.Steps.{draw_count, counted}
-use Rattle.lane_clock.specs.History.{IsKept}
+use Rattle.lane_clock.specs.History.{HasOneHistory}
 use Rattle.lane_clock.specs.Plays.{step_view, draws, loads}
 use Rattle.lane_clock.proofs.KeepLemmas.{steps_keep}
 use Rattle.lane_clock.proofs.WordLemmas.{change_of-amount, loaded, drawn_words}
 
 module _ (plan : Layout) {S : Type 0} (slots id : ℕ) (me : Me S View) (mine : (known_at me.0.known me.0.number).mine ≡ true) where
-  pub may_load : Allows (λ s. IsKept plan {S = S} s) slots id me 0 (λ n. n) (loads (step slots 0 0 0 none) me)
+  pub may_load : Allows (λ s. HasOneHistory plan {S = S} s) slots id me 0 (λ n. n) (loads (step slots 0 0 0 none) me)
   may_load s kept homes at small =
       let st = Load (found_of (slice_index s.words 0)) in (
         step_view me.0 st,
@@ -25,7 +25,7 @@ module _ (plan : Layout) {S : Type 0} (slots id : ℕ) (me : Me S View) (mine : 
         refl,
       )
 
-  drawing : (c : Change) → counted draw_count (steps_at me.0.known me.0.number) < 65536 → Allows (λ s. IsKept plan {S = S} s) slots id me 0 (λ n. (n + amount c) % 2 ^ 64) (draws (step slots 0 (amount c) 0 none) me)
+  drawing : (c : Change) → counted draw_count (steps_at me.0.known me.0.number) < 65536 → Allows (λ s. HasOneHistory plan {S = S} s) slots id me 0 (λ n. (n + amount c) % 2 ^ 64) (draws (step slots 0 (amount c) 0 none) me)
   drawing c few s kept homes at small =
       let found = found_of (slice_index s.words 0) in
       let st = Draw c found in
@@ -40,5 +40,5 @@ module _ (plan : Layout) {S : Type 0} (slots id : ℕ) (me : Me S View) (mine : 
       )
 
   pub may_draw : (c : Change) (k : ℕ) → k ≡ amount c → counted draw_count (steps_at me.0.known me.0.number) < 65536
-      → Allows (λ s. IsKept plan {S = S} s) slots id me 0 (λ n. (n + k) % 2 ^ 64) (draws (step slots 0 k 0 none) me)
-  may_draw c k e few = subst (λ k. Allows (λ s. IsKept plan {S = S} s) slots id me 0 (λ n. (n + k) % 2 ^ 64) (draws (step slots 0 k 0 none) me)) (sym e) (drawing c few)
+      → Allows (λ s. HasOneHistory plan {S = S} s) slots id me 0 (λ n. (n + k) % 2 ^ 64) (draws (step slots 0 k 0 none) me)
+  may_draw c k e few = subst (λ k. Allows (λ s. HasOneHistory plan {S = S} s) slots id me 0 (λ n. (n + k) % 2 ^ 64) (draws (step slots 0 k 0 none) me)) (sym e) (drawing c few)

@@ -48,7 +48,7 @@ abbrev pub stops_below : (ℕ → Change) → ℕ → ℕ
 stops_below changes n = sum_below (λ k. stop_of (changes k)) n
 
 -- Work and stops of the first n changes fit their parts of the word
-pub record HasRoom (guards : ℕ) (changes : ℕ → Change) (n : ℕ) : Type 0 where
+pub record ChangesFit (guards : ℕ) (changes : ℕ → Change) (n : ℕ) : Type 0 where
   pub down : downs_below changes n ≤ guards + ups_below changes n
   pub work : guards + ups_below changes n - downs_below changes n < 2 ^ 16
   pub stops : stops_below changes n < 2 ^ 16

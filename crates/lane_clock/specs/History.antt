@@ -78,9 +78,9 @@ Fits guards es n (Put lane place note) = ((i : ℕ) × (get_elem? (steps_under n
 Fits guards es n (Look lane place note) = note ≡ cell_after lane place es
 Fits guards es n (Join counts) = (m : ℕ) → slice_index counts m ≤ length (steps_under m es)
 
-abbrev pub IsSound : ℕ → ℕ → List Event → Type 0
-IsSound guards seats [] = Unit {0}
-IsSound guards seats (e ∷ es) = IsSound guards seats es × (e.by < seats) × Fits guards es e.by e.step
+abbrev pub IsSoundHistory : ℕ → ℕ → List Event → Type 0
+IsSoundHistory guards seats [] = Unit {0}
+IsSoundHistory guards seats (e ∷ es) = IsSoundHistory guards seats es × (e.by < seats) × Fits guards es e.by e.step
 
 -- what the words hold after a history
 abbrev pub words_after : ℕ → List Event → Words
@@ -102,19 +102,19 @@ abbrev pub StartOf : List Step → List Step → Type 0
 StartOf front all = (rest : List Step) × (all ≡ front ++ rest)
 
 -- What a view knows of a history: the first steps under each number, and all of those that are its own
-pub record Knows (plan : Layout) (es : List Event) (v : View) : Type 0 where
+pub record KnowsHistory (plan : Layout) (es : List Event) (v : View) : Type 0 where
   pub short : length v.known ≤ plan.seats
   pub told : (n : ℕ) → StartOf (steps_at v.known n) (steps_under n es)
   pub whole : (n : ℕ) → (known_at v.known n).mine ≡ true → steps_at v.known n ≡ steps_under n es
   pub width : (n : ℕ) → (known_at v.known n).mine ≡ true → (n < plan.seats) × (length v.known ≡ plan.seats) × (v.plan ≡ plan)
 
 -- The fact that each step keeps
-pub record IsKept (plan : Layout) {S : Type 0} (s : State S View) : Type 0 where
+pub record HasOneHistory (plan : Layout) {S : Type 0} (s : State S View) : Type 0 where
   pub history : List Event
   pub few : (plan.seats ≤ most_seats) × (plan.guards < most_seats)
-  pub sound : IsSound plan.guards plan.seats history
+  pub sound : IsSoundHistory plan.guards plan.seats history
   pub words : AreWords plan history s.words
-  pub each : (i : ℕ) (v : View) → get_elem? s.views i ≡ some v → Knows plan history v
+  pub each : (i : ℕ) (v : View) → get_elem? s.views i ≡ some v → KnowsHistory plan history v
   pub apart : (i j n : ℕ) (v w : View) → get_elem? s.views i ≡ some v → get_elem? s.views j ≡ some w → (known_at v.known n).mine ≡ true → (known_at w.known n).mine ≡ true → i ≡ j
 
 -- the view of the seat that has all numbers below the seats' count to give

@@ -11,8 +11,8 @@ use Rattle.lane_clock.specs.declared.step.View.{View}
 use Rattle.lane_clock.specs.Layout.{Layout}
 use Rattle.lane_clock.specs.Knowledge.{known_at, steps_at}
 use Rattle.lane_clock.specs.Rule.{Words, Draws, Finds, Places, Puts, Looks, Joins, Precedes, ClockRule, Closed}
-use Rattle.lane_clock.specs.Changes.{ChangesAre, HasRoom, AddsUp}
-use Rattle.lane_clock.specs.History.{IsKept, AreHeld, StartOf}
+use Rattle.lane_clock.specs.Changes.{ChangesAre, ChangesFit, AddsUp}
+use Rattle.lane_clock.specs.History.{HasOneHistory, AreHeld, StartOf}
 
 -- The rule holds of the steps made so far. Each seat knows the first of them, and all of its own
 pub record HoldsNow (plan : Layout) (s : State (Unit {0}) View) : Type 0 where
@@ -25,7 +25,7 @@ pub record HoldsNow (plan : Layout) (s : State (Unit {0}) View) : Type 0 where
 
 -- It does between any two steps
 abbrev pub HoldsBetweenSteps : Type 0
-HoldsBetweenSteps = (plan : Layout) (s : State (Unit {0}) View) → IsKept plan s → HoldsNow plan s
+HoldsBetweenSteps = (plan : Layout) (s : State (Unit {0}) View) → HasOneHistory plan s → HoldsNow plan s
 
 -- The positions drawn are those below the clock at the end, each once
 pub record PositionsOnce (lists : ℕ → List Step) (last : Found) : Type 0 where
@@ -71,7 +71,7 @@ pub record FindsSums (lists : ℕ → List Step) (guards : ℕ) (last : Found) (
 
 abbrev pub WorkAddsUp : Type 0
 WorkAddsUp = (lists : ℕ → List Step) (guards : ℕ) (last : Found) → Closed lists guards last
-    → (changes : ℕ → Change) (n : ℕ) → ChangesAre lists changes n → n ≤ last.clock → HasRoom guards changes n → FindsSums lists guards last changes n
+    → (changes : ℕ → Change) (n : ℕ) → ChangesAre lists changes n → n ≤ last.clock → ChangesFit guards changes n → FindsSums lists guards last changes n
 
 -- A cell that was seen empty is put later by the list that looked, and not by what it had joined in
 pub record EmptyYet (lists : ℕ → List Step) (n j lane place : ℕ) : Type 0 where

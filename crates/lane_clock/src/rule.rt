@@ -8,9 +8,9 @@ use std::alloc::Global;
 pub(crate) struct Chronicle;
 
 impl TableRule<(), View, Plan> for Chronicle {
-    ghost use Rattle.lane_clock.specs.History.{IsKept, giver};
+    ghost use Rattle.lane_clock.specs.History.{HasOneHistory, giver};
 
-    ghost holds = { λ plan s. IsKept plan s };
+    ghost holds = { λ plan s. HasOneHistory plan s };
 
     ghost first = { giver };
 }

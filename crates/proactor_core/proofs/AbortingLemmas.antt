@@ -7,7 +7,7 @@ use Rattle.stream_rules.specs.Queue.{Pending}
 use Rattle.stream_rules.specs.Serving.{Reading, Writing}
 use Rattle.history_book.specs.Performing.{all_aborted, is_of}
 use Rattle.proactor_core.specs.declared.pending.PendingOp.{PendingOp}
-use Rattle.proactor_core.specs.Aborting.{abort_of, is_op}
+use Rattle.proactor_core.specs.Aborting.{abort_of_pending, is_pending_op}
 use Rattle.proactor_core.specs.Due.{Due, listed}
 use Rattle.proactor_core.specs.Held.{HeldBytes}
 use Rattle.proactor_core.specs.Pending.{pending_read, pending_write, progress_in, AreReads, IsNewRead}
@@ -26,34 +26,34 @@ seen-step : {Asks : Type 0} (see : PendingOp → Pending Asks) (x : PendingOp) (
 seen-step see x true xs rest e = ap (λ r. see x ∷ r) e
 seen-step see x false xs rest e = e
 
-pub reads-left : (op : ℕ) (xs : List PendingOp) → filter (λ pending. not (is_of op pending)) (map pending_read xs) ≡ map pending_read (filter (λ pending. not (is_op op pending)) xs)
+pub reads-left : (op : ℕ) (xs : List PendingOp) → filter (λ pending. not (is_of op pending)) (map pending_read xs) ≡ map pending_read (filter (λ pending. not (is_pending_op op pending)) xs)
 reads-left op [] = refl
-reads-left op (x ∷ xs) = seen-step pending_read x (not (is_op op x)) (filter (λ pending. not (is_op op pending)) xs) (filter (λ pending. not (is_of op pending)) (map pending_read xs)) (reads-left op xs)
+reads-left op (x ∷ xs) = seen-step pending_read x (not (is_pending_op op x)) (filter (λ pending. not (is_pending_op op pending)) xs) (filter (λ pending. not (is_of op pending)) (map pending_read xs)) (reads-left op xs)
 
-pub writes-left : (op : ℕ) (xs : List PendingOp) → filter (λ pending. not (is_of op pending)) (map pending_write xs) ≡ map pending_write (filter (λ pending. not (is_op op pending)) xs)
+pub writes-left : (op : ℕ) (xs : List PendingOp) → filter (λ pending. not (is_of op pending)) (map pending_write xs) ≡ map pending_write (filter (λ pending. not (is_pending_op op pending)) xs)
 writes-left op [] = refl
-writes-left op (x ∷ xs) = seen-step pending_write x (not (is_op op x)) (filter (λ pending. not (is_op op pending)) xs) (filter (λ pending. not (is_of op pending)) (map pending_write xs)) (writes-left op xs)
+writes-left op (x ∷ xs) = seen-step pending_write x (not (is_pending_op op x)) (filter (λ pending. not (is_pending_op op pending)) xs) (filter (λ pending. not (is_of op pending)) (map pending_write xs)) (writes-left op xs)
 
-aborts-step : {Asks : Type 0} (p : Pending Asks) (c : Completion) (x : PendingOp) (goes : Bool) (xs : List PendingOp) (rest : List (Pending Asks)) → all_aborted (p ∷ []) ≡ c ∷ [] → c ≡ abort_of x → all_aborted rest ≡ map abort_of xs → all_aborted (cond goes (p ∷ rest) rest) ≡ map abort_of (cond goes (x ∷ xs) xs)
+aborts-step : {Asks : Type 0} (p : Pending Asks) (c : Completion) (x : PendingOp) (goes : Bool) (xs : List PendingOp) (rest : List (Pending Asks)) → all_aborted (p ∷ []) ≡ c ∷ [] → c ≡ abort_of_pending x → all_aborted rest ≡ map abort_of_pending xs → all_aborted (cond goes (p ∷ rest) rest) ≡ map abort_of_pending (cond goes (x ∷ xs) xs)
 aborts-step p c x true xs rest one same e = cc
 aborts-step p c x false xs rest one same e = e
 
-pub reads-aborted : (op : ℕ) (xs : List PendingOp) → all_aborted (filter (is_of op) (map pending_read xs)) ≡ map abort_of (filter (is_op op) xs)
+pub reads-aborted : (op : ℕ) (xs : List PendingOp) → all_aborted (filter (is_of op) (map pending_read xs)) ≡ map abort_of_pending (filter (is_pending_op op) xs)
 reads-aborted op [] = refl
-reads-aborted op (x ∷ xs) = aborts-step (pending_read x) (abort_of x) x (is_op op x) (filter (is_op op) xs) (filter (is_of op) (map pending_read xs)) refl refl (reads-aborted op xs)
+reads-aborted op (x ∷ xs) = aborts-step (pending_read x) (abort_of_pending x) x (is_pending_op op x) (filter (is_pending_op op) xs) (filter (is_of op) (map pending_read xs)) refl refl (reads-aborted op xs)
 
-pub writes-aborted : (op : ℕ) (xs : List PendingOp) → all_aborted (filter (is_of op) (map pending_write xs)) ≡ map abort_of (filter (is_op op) xs)
+pub writes-aborted : (op : ℕ) (xs : List PendingOp) → all_aborted (filter (is_of op) (map pending_write xs)) ≡ map abort_of_pending (filter (is_pending_op op) xs)
 writes-aborted op [] = refl
-writes-aborted op (x ∷ xs) = aborts-step (pending_write x) (abort_of x) x (is_op op x) (filter (is_op op) xs) (filter (is_of op) (map pending_write xs)) refl refl (writes-aborted op xs)
+writes-aborted op (x ∷ xs) = aborts-step (pending_write x) (abort_of_pending x) x (is_pending_op op x) (filter (is_pending_op op) xs) (filter (is_of op) (map pending_write xs)) refl refl (writes-aborted op xs)
 
-fewer-step : (x : PendingOp) (goes : Bool) (xs all : List PendingOp) → length (map abort_of xs) ≤ length all → length (map abort_of (cond goes (x ∷ xs) xs)) ≤ length (x ∷ all)
+fewer-step : (x : PendingOp) (goes : Bool) (xs all : List PendingOp) → length (map abort_of_pending xs) ≤ length all → length (map abort_of_pending (cond goes (x ∷ xs) xs)) ≤ length (x ∷ all)
 fewer-step x true xs all e = omega arith
 fewer-step x false xs all e = omega arith
 
 -- no more than the queue holds are cancelled
-pub aborts-fewer : (op : ℕ) (xs : List PendingOp) → length (map abort_of (filter (is_op op) xs)) ≤ length xs
+pub aborts-fewer : (op : ℕ) (xs : List PendingOp) → length (map abort_of_pending (filter (is_pending_op op) xs)) ≤ length xs
 aborts-fewer op [] = omega arith
-aborts-fewer op (x ∷ xs) = fewer-step x (is_op op x) (filter (is_op op) xs) xs (aborts-fewer op xs)
+aborts-fewer op (x ∷ xs) = fewer-step x (is_pending_op op x) (filter (is_pending_op op) xs) xs (aborts-fewer op xs)
 
 all-kept : {X : Type 0} (P : X → Type 0) (x : X) (xs : List X) (stays : Bool) → P x → All P xs → All P (cond stays (x ∷ xs) xs)
 all-kept P x xs true px all = all-cons P x xs px all

@@ -12,7 +12,7 @@ use Rattle.timer_queue.specs.declared.entry.Entry.{Entry}
 use Rattle.timer_queue.specs.Entry.{is_before}
 use Rattle.timer_queue.specs.Queue.{Timers, put}
 use Rattle.timer_queue.proofs.OrderLemmas.{All-put, put-after, put-before}
-use Rattle.proactor_core.specs.Waits.{IsAccepted, IsWaits, Waiting, expiry_of, is_entry_for, ops_of, serial_of, wait_of, waits_of}
+use Rattle.proactor_core.specs.Waits.{IsAccepted, IsWaits, Waiting, expiry_of_entry, is_entry_for, ops_of, serial_of, wait_of, waits_of}
 use Rattle.proactor_core.proofs.EntryLemmas.{IsOlder, expiry-put, serial-put}
 use Rattle.proactor_core.proofs.FilterLemmas.{filter-none, filter-yes}
 use Rattle.proactor_core.proofs.SortingLemmas.{All-sorted_by}
@@ -156,7 +156,7 @@ module _ (expiries timers : List ℕ) (queue : Timers) (queues : List (List ℕ)
       let one_more : length after.waits ≡ suc (length queue.waits) = ap length waits ∙ length-put e queue.waits in
       let kept : length (set timers op timer) ≡ length timers = length-set timers op timer in
       record {
-        in_order = ap (λ q. sorted_by expiry_of (sorted_by serial_of q)) waits ∙ ap (sorted_by expiry_of) (serial-put e queue.waits older) ∙ expiry-put e (sorted_by serial_of queue.waits) (All-sorted_by serial_of (IsOlder e) queue.waits older) ∙ ap (put e) is.in_order ∙ sym waits;
+        in_order = ap (λ q. sorted_by expiry_of_entry (sorted_by serial_of q)) waits ∙ ap (sorted_by expiry_of_entry) (serial-put e queue.waits older) ∙ expiry-put e (sorted_by serial_of queue.waits) (All-sorted_by serial_of (IsOlder e) queue.waits older) ∙ ap (put e) is.in_order ∙ sym waits;
         each = let P : List Entry → Type 0 = All (IsAccepted expiries (set timers op timer) (accepted + 1)) in
             subst P (sym waits) (All-put (IsAccepted expiries (set timers op timer) (accepted + 1)) e queue.waits (each-new expiries timers accepted op timer within within_all e serial same expiry) (λ k d b. each-same expiries timers accepted op timer within (get_or queue.waits k d) (new k d b) (is.each k d b)));
         once = λ n. let P : List Entry → Type 0 = λ q. length (filter (is_entry_for n) q) ≤ 1 in subst P (sym waits) (once-put n);

@@ -11,7 +11,7 @@ use Rattle.history_book.specs.declared.waiting.Wait.{Wait}
 use Rattle.timer_queue.specs.declared.entry.Entry.{Entry}
 use Rattle.timer_queue.specs.Entry.{IsBefore}
 use Rattle.timer_queue.specs.Queue.{Timers}
-use Rattle.proactor_core.specs.Waits.{IsAccepted, IsWaits, TakesExpired, Waiting, expired, expiry_of, has_expired, is_entry_for, ops_of, serial_of, wait_of, waits_of}
+use Rattle.proactor_core.specs.Waits.{IsAccepted, IsWaits, TakesExpired, Waiting, expired, expiry_of_entry, has_expired, is_entry_for, ops_of, serial_of, wait_of, waits_of}
 use Rattle.proactor_core.proofs.EntryLemmas.{expiry-first}
 use Rattle.proactor_core.proofs.FilterLemmas.{filter-map, filter-no, filter-none, filter-yes}
 use Rattle.proactor_core.proofs.SortingLemmas.{All-sorted_by, filter-sorted_by, map-sorted_by, put_by-least}
@@ -25,14 +25,14 @@ abbrev HasExpiry : List ℕ → List ℕ → Entry → Type 0
 HasExpiry expiries timers e = expiry_in expiries (wait_of timers e) ≡ e.expiry
 
 -- what those tell that have expired, as the queue has them
-tells : (now : ℕ) (expiries timers : List ℕ) (q : List Entry) → sorted_by expiry_of (sorted_by serial_of q) ≡ q → All (HasExpiry expiries timers) q → map waited (sorted_by (expiry_in expiries) (filter (has_expired now expiries) (waits_of timers q))) ≡ map waited (map (wait_of timers) (filter (has_come now expiries timers) q))
+tells : (now : ℕ) (expiries timers : List ℕ) (q : List Entry) → sorted_by expiry_of_entry (sorted_by serial_of q) ≡ q → All (HasExpiry expiries timers) q → map waited (sorted_by (expiry_in expiries) (filter (has_expired now expiries) (waits_of timers q))) ≡ map waited (map (wait_of timers) (filter (has_come now expiries timers) q))
 tells now expiries timers q in_order each =
     let sorted : List Entry = sorted_by serial_of q in
     let come : List Entry = filter (has_come now expiries timers) sorted in
     let all : All (HasExpiry expiries timers) come = All-filter (has_come now expiries timers) (HasExpiry expiries timers) sorted (All-sorted_by serial_of (HasExpiry expiries timers) q each) in
     ap (λ ws. map waited (sorted_by (expiry_in expiries) ws)) (filter-map (has_expired now expiries) (wait_of timers) sorted)
-    ∙ ap (map waited) (sym (map-sorted_by expiry_of (expiry_in expiries) (wait_of timers) come all))
-    ∙ ap (λ es. map waited (map (wait_of timers) es)) (sym (filter-sorted_by expiry_of (has_come now expiries timers) sorted) ∙ ap (filter (has_come now expiries timers)) in_order)
+    ∙ ap (map waited) (sym (map-sorted_by expiry_of_entry (expiry_in expiries) (wait_of timers) come all))
+    ∙ ap (λ es. map waited (map (wait_of timers) es)) (sym (filter-sorted_by expiry_of_entry (has_come now expiries timers) sorted) ∙ ap (filter (has_come now expiries timers)) in_order)
 
 come-at : (now : ℕ) (expiries timers : List ℕ) (e : Entry) → HasExpiry expiries timers e → e.expiry ≤ now → has_come now expiries timers e ≡ true
 come-at now expiries timers e is due = grind (arith, nat_tests)
@@ -72,10 +72,10 @@ module _ (expiries timers : List ℕ) (w : Entry) (q : List Entry) (first : HasE
       let fails : test w ≡ false = grind (arith, nat_tests) in
       ap (map (λ wait. wait.op)) (filter-waits timers (is_wait_of n) (w ∷ q) ∙ ap (waits_of timers) (filter-no test w q fails) ∙ sym (filter-waits timers (is_wait_of n) q))
 
-  pub order-rest : sorted_by expiry_of (sorted_by serial_of (w ∷ q)) ≡ w ∷ q → sorted_by expiry_of (sorted_by serial_of q) ≡ q
+  pub order-rest : sorted_by expiry_of_entry (sorted_by serial_of (w ∷ q)) ≡ w ∷ q → sorted_by expiry_of_entry (sorted_by serial_of q) ≡ q
   order-rest in_order =
       let sorted : List Entry = sorted_by serial_of q in
-      let split : w ∷ q ≡ w ∷ sorted_by expiry_of sorted = sym in_order ∙ expiry-first w sorted (All-sorted_by serial_of (IsBefore w) q before) in
+      let split : w ∷ q ≡ w ∷ sorted_by expiry_of_entry sorted = sym in_order ∙ expiry-first w sorted (All-sorted_by serial_of (IsBefore w) q before) in
       cc
 
 -- a queue whose first entry has left

@@ -23,7 +23,7 @@ use Rattle.history_book.specs.Time.{next_time, pending_count}
 use Rattle.history_book.specs.Waiting.{expiry_in}
 use Rattle.reactor_trait.specs.Reactor.{Outside, ReactorState, outside_at}
 use Rattle.proactor_core.specs.Proactor.{Follows, FollowsInTurn, FollowsUntold, FollowsUntoldInTurn, IsAt, IsSound, ProactorView, StandsAt, point_ahead, sent_of, tells}
-use Rattle.proactor_core.specs.Streams.{StreamView, pending_in, pending_in_all, queues_in}
+use Rattle.proactor_core.specs.Streams.{StreamView, pending_on, pending_in_all, queues_in}
 use Rattle.proactor_core.specs.Untold.{AnswerAlike, IsUnservedOf, IsUntoldOf, RestAlike}
 use Rattle.proactor_core.proofs.TellsLemmas.{if-untold, tells-mapped}
 use Rattle.proactor_core.proofs.TickLemmas.{Tells, at-moved, half_moved, moved, point-next, tells-at}
@@ -48,7 +48,7 @@ in_queues queues = length queues.reads + length queues.writes
 
 count-queued : (views : List StreamView) → sum_by in_queues (map queues_in views) ≡ pending_in_all views
 count-queued [] = refl
-count-queued (view ∷ views) = sum_by-cons in_queues (queues_in view) (map queues_in views) ∙ ap (λ n. pending_in view + n) (count-queued views) ∙ sym (sum_by-cons pending_in view views)
+count-queued (view ∷ views) = sum_by-cons in_queues (queues_in view) (map queues_in views) ∙ ap (λ n. pending_on view + n) (count-queued views) ∙ sym (sum_by-cons pending_on view views)
 
 -- what was sent on the streams of a half is what the reactor has sent
 sent-alike : (first : Option Outside) (views : List StreamView) (all : List Stream) (lines : List Line) → Tells first views all lines → IfSome first (λ outside. map sent_of outside.streams ≡ map sent_of all)

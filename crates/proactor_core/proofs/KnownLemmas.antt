@@ -11,7 +11,7 @@ use Rattle.history_book.specs.Kinds.{reading_of, writing_of}
 use Rattle.stream_rules.specs.Serving.{All_bytes, All_of, Reading, Some_bytes, Some_of, Until, Writing}
 use Rattle.composed_ops.specs.Asking.{Reads, Writes, asking_of, reading_size}
 use Rattle.proactor_core.specs.Rooms.{waits_for}
-use Rattle.proactor_core.specs.StreamRooms.{is_on, size_at, stream_read, stream_written}
+use Rattle.proactor_core.specs.StreamRooms.{is_on_side, bytes_asked_at, stream_read, stream_written}
 use Rattle.proactor_core.specs.declared.stream_rooms.Side.TheVariants as side
 
 -- the slot of an operation is declared
@@ -38,8 +38,8 @@ pub record AsksRead (stream : ℕ) (it : Act) : Type 0 where
   pub reading : Reading
   pub is_read : reading_of it ≡ Some reading
   pub asks : asking_of it ≡ Some (Reads reading)
-  pub size : size_at stream it ≡ reading_size reading
-  pub side : is_on side.Reads stream it ≡ true
+  pub size : bytes_asked_at stream it ≡ reading_size reading
+  pub side : is_on_side side.Reads stream it ≡ true
 
 same-number : (n m : ℕ) → n ≡ m → (n == m) ≡ true
 same-number n m e = grind (arith, nat_tests)
@@ -55,7 +55,7 @@ pub record AsksWrite (stream : ℕ) (it : Act) : Type 0 where
   pub writing : Writing
   pub is_write : writing_of it ≡ Some writing
   pub asks : asking_of it ≡ Some (Writes writing)
-  pub side : is_on side.Writes stream it ≡ true
+  pub side : is_on_side side.Writes stream it ≡ true
 
 pub asks-write : (stream : ℕ) (it : Act) → stream_written it ≡ Some stream → AsksWrite stream it
 asks-write stream (act.WriteSome other bytes strand slot filter) is = record { writing = Some_of bytes; is_write = refl; asks = refl; side = same-number other stream (let e : other ≡ stream = cc in e) }

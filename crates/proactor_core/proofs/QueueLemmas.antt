@@ -16,12 +16,12 @@ use Rattle.reactor_trait.specs.Reactor.{Outside}
 use Rattle.proactor_core.specs.declared.pending.PendingOp.{PendingOp}
 use Rattle.proactor_core.specs.Due.{Due, listed}
 use Rattle.proactor_core.specs.Held.{HeldBytes}
-use Rattle.proactor_core.specs.Pending.{progress_in, pending_read, pending_write, reading_in, writing_in, unmoved, AreReads, AreWrites, Gives, GivesInOrder, IsNewRead, IsServedBy}
+use Rattle.proactor_core.specs.Pending.{progress_in, pending_read, pending_write, reading_asked, writing_asked, unmoved, AreReads, AreWrites, GivesDue, GivesInOrder, IsNewRead, IsServedBy}
 use Rattle.proactor_core.specs.Reactor.{whole_told, ChangesOne}
-use Rattle.proactor_core.specs.Reading.{exchange_at, may_give, Ends, IsReading, MayRead}
+use Rattle.proactor_core.specs.Reading.{exchange_at, may_give, Ends, AsksToRead, MayRead}
 use Rattle.history_book.specs.State.{StreamQueues}
 use Rattle.proactor_core.specs.Streams.{IsStreamServed, StreamView}
-use Rattle.proactor_core.specs.Writing.{IsWriting, MayWrite}
+use Rattle.proactor_core.specs.Writing.{AsksToWrite, MayWrite}
 
 -- what is known of a reactor that tells its bytes, before and after some calls
 pub join-told : (first told : Option Outside) (number : ℕ) (P Q R : Type 0) → ChangesOne number first told → (P → Q → R) → IfSome first (λ _. P) → IfSome told (λ _. Q) → IfSome first (λ _. R)
@@ -108,27 +108,27 @@ rules-stay side first queue head start there left old new moved is moves after s
 
 -- what serving a read gave by the rules
 pub record ReadEnds (asks : Asking) (moved : ℕ) (there left : Stream) (outcome : Option Outcome) : Type 0 where
-  pub outcome_is : (reading_side.served (reading_in asks) moved there).outcome ≡ outcome
-  pub after : reading_side.after (reading_in asks) moved (reading_side.served (reading_in asks) moved there).used there ≡ left
+  pub outcome_is : (reading_side.served (reading_asked asks) moved there).outcome ≡ outcome
+  pub after : reading_side.after (reading_asked asks) moved (reading_side.served (reading_asked asks) moved there).used there ≡ left
 
 pub record WriteEnds (asks : Asking) (moved : ℕ) (there left : Stream) (outcome : Option Outcome) : Type 0 where
-  pub outcome_is : (writing_side.served (writing_in asks) moved there).outcome ≡ outcome
-  pub after : writing_side.after (writing_in asks) moved (writing_side.served (writing_in asks) moved there).used there ≡ left
+  pub outcome_is : (writing_side.served (writing_asked asks) moved there).outcome ≡ outcome
+  pub after : writing_side.after (writing_asked asks) moved (writing_side.served (writing_asked asks) moved there).used there ≡ left
 
-pub read-completes : (told left : Option Outside) (number : ℕ) (asks : Asking) (moved : ℕ) (latest : Option ℕ) (next : Progress) (held kept : List ℕ) (outcome : Outcome) → (let progress : Progress = record { asks = asks; moved = moved; latest = latest } in IsReading asks → Ends (exchange_at progress held told number) (exchange_at next kept left number) (Some outcome) → ReadEnds asks moved (whole_told held told number) (whole_told kept left number) (Some outcome))
+pub read-completes : (told left : Option Outside) (number : ℕ) (asks : Asking) (moved : ℕ) (latest : Option ℕ) (next : Progress) (held kept : List ℕ) (outcome : Outcome) → (let progress : Progress = record { asks = asks; moved = moved; latest = latest } in AsksToRead asks → Ends (exchange_at progress held told number) (exchange_at next kept left number) (Some outcome) → ReadEnds asks moved (whole_told held told number) (whole_told kept left number) (Some outcome))
 read-completes told left number (Reads reading) moved latest next held kept outcome = λ reads ends. record { outcome_is = ends.0; after = ends.1 }
 read-completes told left number (Writes writing) moved latest next held kept outcome = λ reads ends. absurd reads
 
-pub read-stays : (told left : Option Outside) (number : ℕ) (asks : Asking) (moved : ℕ) (latest : Option ℕ) (next : Progress) (held kept : List ℕ) → (let progress : Progress = record { asks = asks; moved = moved; latest = latest } in IsReading asks → Ends (exchange_at progress held told number) (exchange_at next kept left number) None → ReadEnds asks moved (whole_told held told number) (whole_told kept left number) None × (moved + (reading_side.served (reading_in asks) moved (whole_told held told number)).used ≡ next.moved))
+pub read-stays : (told left : Option Outside) (number : ℕ) (asks : Asking) (moved : ℕ) (latest : Option ℕ) (next : Progress) (held kept : List ℕ) → (let progress : Progress = record { asks = asks; moved = moved; latest = latest } in AsksToRead asks → Ends (exchange_at progress held told number) (exchange_at next kept left number) None → ReadEnds asks moved (whole_told held told number) (whole_told kept left number) None × (moved + (reading_side.served (reading_asked asks) moved (whole_told held told number)).used ≡ next.moved))
 read-stays told left number (Reads reading) moved latest next held kept = λ reads ends.
     (record { outcome_is = ap (λ (course : Course). course.outcome) ends; after = ap (λ (course : Course). course.stream) ends }, ap (λ (course : Course). course.moved) ends)
 read-stays told left number (Writes writing) moved latest next held kept = λ reads ends. absurd reads
 
-pub write-completes : (told left : Option Outside) (number : ℕ) (asks : Asking) (moved : ℕ) (latest : Option ℕ) (next : Progress) (held kept : List ℕ) (outcome : Outcome) → (let progress : Progress = record { asks = asks; moved = moved; latest = latest } in IsWriting asks → Ends (exchange_at progress held told number) (exchange_at next kept left number) (Some outcome) → WriteEnds asks moved (whole_told held told number) (whole_told kept left number) (Some outcome))
+pub write-completes : (told left : Option Outside) (number : ℕ) (asks : Asking) (moved : ℕ) (latest : Option ℕ) (next : Progress) (held kept : List ℕ) (outcome : Outcome) → (let progress : Progress = record { asks = asks; moved = moved; latest = latest } in AsksToWrite asks → Ends (exchange_at progress held told number) (exchange_at next kept left number) (Some outcome) → WriteEnds asks moved (whole_told held told number) (whole_told kept left number) (Some outcome))
 write-completes told left number (Reads reading) moved latest next held kept outcome = λ writes ends. absurd writes
 write-completes told left number (Writes writing) moved latest next held kept outcome = λ writes ends. record { outcome_is = ends.0; after = ends.1 }
 
-pub write-stays : (told left : Option Outside) (number : ℕ) (asks : Asking) (moved : ℕ) (latest : Option ℕ) (next : Progress) (held kept : List ℕ) → (let progress : Progress = record { asks = asks; moved = moved; latest = latest } in IsWriting asks → Ends (exchange_at progress held told number) (exchange_at next kept left number) None → WriteEnds asks moved (whole_told held told number) (whole_told kept left number) None × (moved + (writing_side.served (writing_in asks) moved (whole_told held told number)).used ≡ next.moved))
+pub write-stays : (told left : Option Outside) (number : ℕ) (asks : Asking) (moved : ℕ) (latest : Option ℕ) (next : Progress) (held kept : List ℕ) → (let progress : Progress = record { asks = asks; moved = moved; latest = latest } in AsksToWrite asks → Ends (exchange_at progress held told number) (exchange_at next kept left number) None → WriteEnds asks moved (whole_told held told number) (whole_told kept left number) None × (moved + (writing_side.served (writing_asked asks) moved (whole_told held told number)).used ≡ next.moved))
 write-stays told left number (Reads reading) moved latest next held kept = λ writes ends. absurd writes
 write-stays told left number (Writes writing) moved latest next held kept = λ writes ends.
     (record { outcome_is = ap (λ (course : Course). course.outcome) ends; after = ap (λ (course : Course). course.stream) ends }, ap (λ (course : Course). course.moved) ends)
@@ -152,7 +152,7 @@ gives-go-on {Asks = Asks} may first queue head old now new outcome allowed lists
     }
 
 -- the others stay
-pub gives-end : {Asks : Type 0} (may : Asks → Code → ℕ → Bool) (first queue staying : List (Pending Asks)) (old new : Due) → map unmoved queue ≡ map unmoved staying → GivesSoFar may first queue old new → Gives may first staying old new
+pub gives-end : {Asks : Type 0} (may : Asks → Code → ℕ → Bool) (first queue staying : List (Pending Asks)) (old new : Due) → map unmoved queue ≡ map unmoved staying → GivesSoFar may first queue old new → GivesDue may first staying old new
 gives-end may first queue staying old new same so_far = record {
   completed = so_far.completed;
   due = so_far.due;
@@ -185,11 +185,11 @@ pub told-any : (told : Option Outside) (P : Type 0) → P → IfSome told (λ _.
 told-any None P p = tt
 told-any (Some outside) P p = p
 
-pub may-read : (asks : Asking) (code : Code) (size : ℕ) → IsReading asks → may_give asks code size ≡ true → may_give_read (reading_in asks) code size ≡ true
+pub may-read : (asks : Asking) (code : Code) (size : ℕ) → AsksToRead asks → may_give asks code size ≡ true → may_give_read (reading_asked asks) code size ≡ true
 may-read (Reads reading) code size reads may = may
 may-read (Writes writing) code size reads may = absurd reads
 
-pub may-write : (asks : Asking) (code : Code) (size : ℕ) → IsWriting asks → may_give asks code size ≡ true → may_give_write (writing_in asks) code size ≡ true
+pub may-write : (asks : Asking) (code : Code) (size : ℕ) → AsksToWrite asks → may_give asks code size ≡ true → may_give_write (writing_asked asks) code size ≡ true
 may-write (Reads reading) code size writes may = absurd writes
 may-write (Writes writing) code size writes may = may
 
@@ -200,7 +200,7 @@ head-unmoved {Asks = Asks} see head later queue all new is now same =
     rw (is, now) (ap (λ (p : Pending Asks). p ∷ rest) same)
 
 -- a read completed
-pub reads-go-on : (first told left : Option Outside) (number : ℕ) (firsts : List (Pending Reading)) (head : PendingOp) (queue : List PendingOp) (next : Progress) (start held kept : List ℕ) (old now new : Due) (outcome : Outcome) → ChangesOne number first told → IsReading (progress_in head).asks → new ≡ listed (record { op = head.op; outcome = outcome } ∷ []) now → IfSome told (λ _. Ends (exchange_at (progress_in head) held told number) (exchange_at next kept left number) (Some outcome)) → IfSome first (λ _. RulesSoFar reading_side firsts (map pending_read (head ∷ queue)) (whole_told start first number) (whole_told held told number) old now) → IfSome first (λ _. RulesSoFar reading_side firsts (map pending_read queue) (whole_told start first number) (whole_told kept left number) old new)
+pub reads-go-on : (first told left : Option Outside) (number : ℕ) (firsts : List (Pending Reading)) (head : PendingOp) (queue : List PendingOp) (next : Progress) (start held kept : List ℕ) (old now new : Due) (outcome : Outcome) → ChangesOne number first told → AsksToRead (progress_in head).asks → new ≡ listed (record { op = head.op; outcome = outcome } ∷ []) now → IfSome told (λ _. Ends (exchange_at (progress_in head) held told number) (exchange_at next kept left number) (Some outcome)) → IfSome first (λ _. RulesSoFar reading_side firsts (map pending_read (head ∷ queue)) (whole_told start first number) (whole_told held told number) old now) → IfSome first (λ _. RulesSoFar reading_side firsts (map pending_read queue) (whole_told start first number) (whole_told kept left number) old new)
 reads-go-on first told left number firsts head queue next start held kept old now new outcome changes reads lists follows so_far =
     let before = RulesSoFar reading_side firsts (map pending_read (head ∷ queue)) (whole_told start first number) (whole_told held told number) old now in
     let after = RulesSoFar reading_side firsts (map pending_read queue) (whole_told start first number) (whole_told kept left number) old new in
@@ -212,7 +212,7 @@ reads-go-on first told left number firsts head queue next start held kept old no
     join-told first told number before ended after changes joined so_far follows
 
 -- a write completed
-pub writes-go-on : (first told left : Option Outside) (number : ℕ) (firsts : List (Pending Writing)) (head : PendingOp) (queue : List PendingOp) (next : Progress) (held : List ℕ) (old now new : Due) (outcome : Outcome) → ChangesOne number first told → IsWriting (progress_in head).asks → new ≡ listed (record { op = head.op; outcome = outcome } ∷ []) now → IfSome told (λ _. Ends (exchange_at (progress_in head) held told number) (exchange_at next held left number) (Some outcome)) → IfSome first (λ _. RulesSoFar writing_side firsts (map pending_write (head ∷ queue)) (whole_told held first number) (whole_told held told number) old now) → IfSome first (λ _. RulesSoFar writing_side firsts (map pending_write queue) (whole_told held first number) (whole_told held left number) old new)
+pub writes-go-on : (first told left : Option Outside) (number : ℕ) (firsts : List (Pending Writing)) (head : PendingOp) (queue : List PendingOp) (next : Progress) (held : List ℕ) (old now new : Due) (outcome : Outcome) → ChangesOne number first told → AsksToWrite (progress_in head).asks → new ≡ listed (record { op = head.op; outcome = outcome } ∷ []) now → IfSome told (λ _. Ends (exchange_at (progress_in head) held told number) (exchange_at next held left number) (Some outcome)) → IfSome first (λ _. RulesSoFar writing_side firsts (map pending_write (head ∷ queue)) (whole_told held first number) (whole_told held told number) old now) → IfSome first (λ _. RulesSoFar writing_side firsts (map pending_write queue) (whole_told held first number) (whole_told held left number) old new)
 writes-go-on first told left number firsts head queue next held old now new outcome changes writes lists follows so_far =
     let before = RulesSoFar writing_side firsts (map pending_write (head ∷ queue)) (whole_told held first number) (whole_told held told number) old now in
     let after = RulesSoFar writing_side firsts (map pending_write queue) (whole_told held first number) (whole_told held left number) old new in
@@ -224,7 +224,7 @@ writes-go-on first told left number firsts head queue next held old now new outc
     join-told first told number before ended after changes joined so_far follows
 
 -- a read stays
-pub reads-stay : (first told left : Option Outside) (number : ℕ) (firsts : List (Pending Reading)) (head later : PendingOp) (queue : List PendingOp) (start held kept : List ℕ) (old new : Due) → ChangesOne number first told → IsReading (progress_in head).asks → pending_read later ≡ record (pending_read head) { moved = (progress_in later).moved } → IfSome told (λ _. Ends (exchange_at (progress_in head) held told number) (exchange_at (progress_in later) kept left number) None) → IfSome first (λ _. RulesSoFar reading_side firsts (map pending_read (head ∷ queue)) (whole_told start first number) (whole_told held told number) old new) → IfSome first (λ _. IsServedBy reading_side firsts (map pending_read (later ∷ queue)) (whole_told start first number) (whole_told kept left number) old new)
+pub reads-stay : (first told left : Option Outside) (number : ℕ) (firsts : List (Pending Reading)) (head later : PendingOp) (queue : List PendingOp) (start held kept : List ℕ) (old new : Due) → ChangesOne number first told → AsksToRead (progress_in head).asks → pending_read later ≡ record (pending_read head) { moved = (progress_in later).moved } → IfSome told (λ _. Ends (exchange_at (progress_in head) held told number) (exchange_at (progress_in later) kept left number) None) → IfSome first (λ _. RulesSoFar reading_side firsts (map pending_read (head ∷ queue)) (whole_told start first number) (whole_told held told number) old new) → IfSome first (λ _. IsServedBy reading_side firsts (map pending_read (later ∷ queue)) (whole_told start first number) (whole_told kept left number) old new)
 reads-stay first told left number firsts head later queue start held kept old new changes reads same follows so_far =
     let before = RulesSoFar reading_side firsts (map pending_read (head ∷ queue)) (whole_told start first number) (whole_told held told number) old new in
     let after = IsServedBy reading_side firsts (map pending_read (later ∷ queue)) (whole_told start first number) (whole_told kept left number) old new in
@@ -238,7 +238,7 @@ reads-stay first told left number firsts head later queue start held kept old ne
     join-told first told number before ended after changes joined so_far follows
 
 -- a write stays
-pub writes-stay : (first told left : Option Outside) (number : ℕ) (firsts : List (Pending Writing)) (head later : PendingOp) (queue : List PendingOp) (held : List ℕ) (old new : Due) → ChangesOne number first told → IsWriting (progress_in head).asks → pending_write later ≡ record (pending_write head) { moved = (progress_in later).moved } → IfSome told (λ _. Ends (exchange_at (progress_in head) held told number) (exchange_at (progress_in later) held left number) None) → IfSome first (λ _. RulesSoFar writing_side firsts (map pending_write (head ∷ queue)) (whole_told held first number) (whole_told held told number) old new) → IfSome first (λ _. IsServedBy writing_side firsts (map pending_write (later ∷ queue)) (whole_told held first number) (whole_told held left number) old new)
+pub writes-stay : (first told left : Option Outside) (number : ℕ) (firsts : List (Pending Writing)) (head later : PendingOp) (queue : List PendingOp) (held : List ℕ) (old new : Due) → ChangesOne number first told → AsksToWrite (progress_in head).asks → pending_write later ≡ record (pending_write head) { moved = (progress_in later).moved } → IfSome told (λ _. Ends (exchange_at (progress_in head) held told number) (exchange_at (progress_in later) held left number) None) → IfSome first (λ _. RulesSoFar writing_side firsts (map pending_write (head ∷ queue)) (whole_told held first number) (whole_told held told number) old new) → IfSome first (λ _. IsServedBy writing_side firsts (map pending_write (later ∷ queue)) (whole_told held first number) (whole_told held left number) old new)
 writes-stay first told left number firsts head later queue held old new changes writes same follows so_far =
     let before = RulesSoFar writing_side firsts (map pending_write (head ∷ queue)) (whole_told held first number) (whole_told held told number) old new in
     let after = IsServedBy writing_side firsts (map pending_write (later ∷ queue)) (whole_told held first number) (whole_told held left number) old new in
@@ -264,7 +264,7 @@ writes-kept head later queue may writes zero d within = may
 writes-kept head later queue may writes (suc k) d within = writes (suc k) d within
 
 -- nothing completes
-pub gives-none : {Asks : Type 0} (may : Asks → Code → ℕ → Bool) (queue : List (Pending Asks)) (due : Due) → Gives may queue queue due due
+pub gives-none : {Asks : Type 0} (may : Asks → Code → ℕ → Bool) (queue : List (Pending Asks)) (due : Due) → GivesDue may queue queue due due
 gives-none may queue due = record { completed = []; due = sym (listed-none due); in_order = refl }
 
 -- each operation completes or stays

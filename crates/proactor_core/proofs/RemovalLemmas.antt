@@ -13,7 +13,7 @@ use Rattle.history_book.specs.declared.waiting.Wait.{Wait}
 use Rattle.timer_queue.specs.declared.entry.Entry.{Entry}
 use Rattle.timer_queue.specs.Queue.{Timers}
 use Rattle.timer_queue.proofs.OrderLemmas.{is_other}
-use Rattle.proactor_core.specs.Waits.{IsAccepted, IsWaits, TakesFirstOf, Waiting, expiry_of, is_entry_for, ops_of, serial_of, waits_of, without}
+use Rattle.proactor_core.specs.Waits.{IsAccepted, IsWaits, TakesFirstOf, Waiting, expiry_of_entry, is_entry_for, ops_of, serial_of, waits_of, without}
 use Rattle.proactor_core.proofs.FilterLemmas.{fewer-pass, filter-all, filter-comm, filter-map, filter-no, filter-none, none-passes, only-one}
 use Rattle.proactor_core.proofs.SortingLemmas.{filter-sorted_by}
 use Rattle.proactor_core.proofs.WaitLemmas.{filter-waits, length-waits, listed-set, once-waits, same-timers, timer-waits}
@@ -64,7 +64,7 @@ module _ (expiries timers : List ℕ) (queue : Timers) (queues : List (List ℕ)
       let lengths = is.lengths in
       let before = is.fewer in
       record {
-        in_order = ap (sorted_by expiry_of) (sym (filter-sorted_by serial_of (is_other op) queue.waits)) ∙ sym (filter-sorted_by expiry_of (is_other op) (sorted_by serial_of queue.waits)) ∙ ap (filter (is_other op)) is.in_order;
+        in_order = ap (sorted_by expiry_of_entry) (sym (filter-sorted_by serial_of (is_other op) queue.waits)) ∙ sym (filter-sorted_by expiry_of_entry (is_other op) (sorted_by serial_of queue.waits)) ∙ ap (filter (is_other op)) is.in_order;
         each = All-filter (is_other op) (IsAccepted expiries timers accepted) queue.waits is.each;
         once = λ n. let most = is.once n in let part = fewer-pass (is_entry_for n) (is_other op) queue.waits in omega arith;
         count = omega arith;

@@ -18,7 +18,7 @@ use Rattle.history_book.specs.Waiting.{expiry_in}
 use Rattle.history_book.specs.declared.waiting.Wait.{Wait}
 use Rattle.stream_rules.specs.declared.queue.Completion.{Completion}
 use Rattle.proactor_core.specs.Due.{listed}
-use Rattle.proactor_core.specs.Room.{AsksToWait, HasRoomLeft, IsUntaken, KeepsRoom, MayWait}
+use Rattle.proactor_core.specs.Room.{AsksToWait, HasRoomLeft, IsUntaken, CallsKeepRoom, MayWait}
 use Rattle.proactor_core.specs.Rooms.{acts_below, one_if, untaken_below, waits_for}
 use Rattle.proactor_core.specs.Tables.{TableState, act_taken, wait_begun}
 use Rattle.proactor_core.specs.Waits.{aborts, expired, has_expired, without}
@@ -175,7 +175,7 @@ module _ (script : ScriptModel) (streams : ℕ) (s : TableState) (is : HasRoomLe
       same-timer t (act.Wait other strand slot filter) waits = let same : other ≡ timer = grind (arith, nat_tests) in ap (λ n. n == t) same
       same-timer t _ waits = absurd (cc)
 
-  pub keeps-room : KeepsRoom script streams s
+  pub keeps-room : CallsKeepRoom script streams s
   keeps-room = record {
     may_wait = keeps-may;
     wait = keeps-wait;

@@ -11,7 +11,7 @@ use Rattle.history_book.specs.Untold.{may_give_read, may_give_write}
 use Rattle.reactor_trait.specs.Reactor.{Outside, ReactorState}
 use Rattle.proactor_core.specs.Due.{Due}
 use Rattle.proactor_core.specs.Reactor.{ChangesOne, tells}
-use Rattle.proactor_core.specs.Streams.{new_stream_view, none_served, one_served, pending_in, pending_in_all, queues_in, stream_in, AreServable, AreServedBelow, IsServedAt, StreamView}
+use Rattle.proactor_core.specs.Streams.{new_stream_view, none_served, one_served, pending_on, pending_in_all, queues_in, stream_in, AreServable, AreServedBelow, IsServedAt, StreamView}
 use Rattle.proactor_core.proofs.QueueLemmas.{gives-count}
 use Rattle.proactor_core.proofs.ServingLemmas.{count-served, pending-at, servable-served}
 use Rattle.proactor_core.proofs.TellsLemmas.{tells-changed}
@@ -79,7 +79,7 @@ serves-one last number old new told left due later within served =
     let last_spare = ap (λ (d : Due). d.spare) writes.due in
     let between_long = ap (λ (d : Due). length d.coming) reads.due ∙ length-append due.coming reads.completed in
     let last_long = ap (λ (d : Due). length d.coming) writes.due ∙ length-append served.gives.between.coming writes.completed in
-    let total = sum_by-set pending_in old number changed (new_stream_view 0 0 0) within in
+    let total = sum_by-set pending_on old number changed (new_stream_view 0 0 0) within in
     let same = ap pending_in_all served.others in
     let one = pending-at old number within in
     record {

@@ -9,7 +9,7 @@ use Rattle.history_book.specs.Untold.{may_give_read, may_give_write}
 use Rattle.reactor_trait.specs.Reactor.{Outside, ReactorState}
 use Rattle.proactor_core.specs.Due.{Due}
 use Rattle.proactor_core.specs.Reactor.{ChangesOne, IsServable, told_stream}
-use Rattle.proactor_core.specs.Streams.{new_stream_view, pending_in, pending_in_all, stream_in, AreServable, IsServedAt, StreamView}
+use Rattle.proactor_core.specs.Streams.{new_stream_view, pending_on, pending_in_all, stream_in, AreServable, IsServedAt, StreamView}
 use Rattle.proactor_core.proofs.QueueLemmas.{gives-count}
 
 told-below : (told : Option Outside) (number count : ℕ) → number < count → IfSome told (λ outside. length outside.streams ≡ count) → IfSome told (λ outside. number < length outside.streams)
@@ -37,8 +37,8 @@ servable-at streams state told number within servable opened =
     }
 
 -- no more than all are pending in one of them
-pub pending-at : (streams : List StreamView) (number : ℕ) → number < length streams → pending_in (stream_in streams number) ≤ pending_in_all streams
-pending-at streams number within = get_or-le-sum_by pending_in streams number (new_stream_view 0 0 0) within
+pub pending-at : (streams : List StreamView) (number : ℕ) → number < length streams → pending_on (stream_in streams number) ≤ pending_in_all streams
+pending-at streams number within = get_or-le-sum_by pending_on streams number (new_stream_view 0 0 0) within
 
 -- the streams are as many as before
 pub count-served : (last : Bool) (number : ℕ) (old new : List StreamView) (told left : Option Outside) (due later : Due) → IsServedAt last number old new told left due later → length new ≡ length old
@@ -70,7 +70,7 @@ spare-served last number old new told left due later within room served =
     let second = gives-count may_give_write before.writes after.writes writes.completed writes.in_order in
     let between = ap (λ (d : Due). d.spare) reads.due in
     let last = ap (λ (d : Due). d.spare) writes.due in
-    let total = sum_by-set pending_in old number changed (new_stream_view 0 0 0) within in
+    let total = sum_by-set pending_on old number changed (new_stream_view 0 0 0) within in
     let same = ap pending_in_all served.others in
     let one = pending-at old number within in
     omega arith

@@ -18,7 +18,7 @@ use Rattle.history_book.proofs.PerformingLemmas.{All-passing}
 use Rattle.reactor_trait.specs.Reactor.{Outside, ReactorState}
 use Rattle.proactor_core.specs.Due.{Due}
 use Rattle.proactor_core.specs.Untold.{AreGivenBelow, AreUnderWay, turned}
-use Rattle.proactor_core.specs.Proactor.{FollowsUntold, FollowsUntoldInTurn, HasRoom, IsAt, IsSound, IsTurning, ProactorView}
+use Rattle.proactor_core.specs.Proactor.{FollowsUntold, FollowsUntoldInTurn, HasRoomForActs, IsAt, IsSound, IsTurning, ProactorView}
 use Rattle.proactor_core.specs.Reactor.{tells}
 use Rattle.proactor_core.specs.Streams.{AreServable, AreServedBelow, StreamView, new_stream_view, pending_in_all, queues_in, stream_in}
 use Rattle.proactor_core.specs.StreamsFollowing.{AreStreamsOf}
@@ -35,7 +35,7 @@ use Rattle.proactor_core.proofs.UntoldSettleLemmas.{untold-settles}
 use Rattle.proactor_core.proofs.UntoldStreamLemmas.{streams-give-below}
 
 -- there is room for the waits that complete
-pub complete-room : (script : ScriptModel) (s : TableState) (streams : List StreamView) → HasRoom script s streams → HasRoom script (waits_completed s) streams
+pub complete-room : (script : ScriptModel) (s : TableState) (streams : List StreamView) → HasRoomForActs script s streams → HasRoomForActs script (waits_completed s) streams
 complete-room script s streams room =
     let test : Wait → Bool = has_expired s.time s.waiting.expiries in
     let key : Wait → ℕ = expiry_in s.waiting.expiries in
@@ -62,7 +62,7 @@ left-ahead s =
     ahead now expiry late = grind (arith, nat_tests, late)
 
 -- and for what the streams give
-served-room : (script : ScriptModel) (s : TableState) (old new : List StreamView) (told left : Option Outside) (later : Due) → HasRoom script s old → Serves old new told left s.due later → HasRoom script (record s { due = later }) new
+served-room : (script : ScriptModel) (s : TableState) (old new : List StreamView) (told left : Option Outside) (later : Due) → HasRoomForActs script s old → Serves old new told left s.due later → HasRoomForActs script (record s { due = later }) new
 served-room script s old new told left later room serves =
     let fit = room.fit in
     let tables = room.tables in
@@ -200,7 +200,7 @@ module _ {X : Type 0} (state : X → ReactorState) (told : X → Option Outside)
       }
 
 -- there is room for what the streams give
-pub serving-spare : (script : ScriptModel) (s : TableState) (streams : List StreamView) → HasRoom script s streams → pending_in_all streams ≤ (waits_completed s).due.spare
+pub serving-spare : (script : ScriptModel) (s : TableState) (streams : List StreamView) → HasRoomForActs script s streams → pending_in_all streams ≤ (waits_completed s).due.spare
 serving-spare script s streams room =
     let left = (complete-room script s streams room).tables.spare in
     omega arith

@@ -12,12 +12,12 @@ use Rattle.stream_rules.specs.declared.queue.Completion.{Completion}
 use Rattle.proactor_core.specs.Due.{Due}
 use Rattle.proactor_core.specs.Following.{IsConnected}
 use Rattle.reactor_trait.specs.Reactor.{Outside, ReactorState}
-use Rattle.proactor_core.specs.Proactor.{HasRoom, IsSound, ProactorView}
+use Rattle.proactor_core.specs.Proactor.{HasRoomForActs, IsSound, ProactorView}
 use Rattle.proactor_core.specs.Streams.{StreamView, pending_in_all}
 use Rattle.proactor_core.specs.Tables.{TableState, left_by, slot_left}
 
 -- 32 bits count what is pending
-pub counts-fit : (script : ScriptModel) (s : TableState) (streams : List StreamView) → HasRoom script s streams → length s.waiting.waits + pending_in_all streams + length s.due.coming < 2 ^ 32
+pub counts-fit : (script : ScriptModel) (s : TableState) (streams : List StreamView) → HasRoomForActs script s streams → length s.waiting.waits + pending_in_all streams + length s.due.coming < 2 ^ 32
 counts-fit script s streams room =
     let spare = room.tables.spare in
     let due = room.within.due in
@@ -25,7 +25,7 @@ counts-fit script s streams room =
     omega arith
 
 -- a completion that was told leaves its room
-pub told-room : (script : ScriptModel) (streams : List StreamView) (s : TableState) (due : Due) (head : Completion) → s.due.coming ≡ head ∷ due.coming → due.spare ≡ s.due.spare + 1 → HasRoom script s streams → HasRoom script (record s { due = due }) streams
+pub told-room : (script : ScriptModel) (streams : List StreamView) (s : TableState) (due : Due) (head : Completion) → s.due.coming ≡ head ∷ due.coming → due.spare ≡ s.due.spare + 1 → HasRoomForActs script s streams → HasRoomForActs script (record s { due = due }) streams
 told-room script streams s due head coming spare room =
     let left = room.tables in
     let before = left.spare in
@@ -57,7 +57,7 @@ connected-at script slots slot all =
     ]
 
 -- an operation that leaves its slot leaves the room
-pub left-room : (script : ScriptModel) (streams : List StreamView) (s : TableState) (slot : Option ℕ) (op : ℕ) → HasRoom script s streams → HasRoom script (slot_left slot op s) streams
+pub left-room : (script : ScriptModel) (streams : List StreamView) (s : TableState) (slot : Option ℕ) (op : ℕ) → HasRoomForActs script s streams → HasRoomForActs script (slot_left slot op s) streams
 left-room script streams s None op room = room
 left-room script streams s (Some slot) op room =
     let fit = room.fit in

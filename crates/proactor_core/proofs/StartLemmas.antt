@@ -18,13 +18,13 @@ use Rattle.history_book.specs.Turns.{latest}
 use Rattle.history_book.proofs.PlayedLemmas.{length-perform_lines}
 use Rattle.reactor_trait.specs.Reactor.{Outside, ReactorState, outside_ready, state_ready}
 use Rattle.proactor_core.specs.Following.{IsConnected}
-use Rattle.proactor_core.specs.Proactor.{AreNew, Follows, HasRoom, IsAt, IsSound, ProactorView}
+use Rattle.proactor_core.specs.Proactor.{AreAtStart, Follows, HasRoomForActs, IsAt, IsSound, ProactorView}
 use Rattle.proactor_core.specs.Reactor.{tells}
 use Rattle.proactor_core.specs.Room.{HasRoomLeft}
 use Rattle.proactor_core.specs.Rooms.{acts_below, untaken_below}
-use Rattle.proactor_core.specs.StreamRooms.{is_on}
+use Rattle.proactor_core.specs.StreamRooms.{is_on_side}
 use Rattle.proactor_core.specs.declared.stream_rooms.Side.TheVariants as side
-use Rattle.proactor_core.specs.Streams.{StreamView, new_stream_view, pending_in, pending_in_all, queues_in, stream_in}
+use Rattle.proactor_core.specs.Streams.{StreamView, new_stream_view, pending_on, pending_in_all, queues_in, stream_in}
 use Rattle.proactor_core.specs.Tables.{TableState, op_in, with_tables}
 use Rattle.proactor_core.specs.Untold.{IsUntoldOf}
 use Rattle.proactor_core.specs.Works.{with_works}
@@ -49,11 +49,11 @@ map-alike f a (view ∷ views) all =
     let first : f view ≡ a = all 0 (omega arith) in
     ap (λ x. x ∷ map f views) first ∙ ap (λ xs. a ∷ xs) (map-alike f a views (λ n b. all (suc n) (omega arith)))
 
-none-pending : (streams : List StreamView) → ((n : ℕ) → n < length streams → pending_in (stream_in streams n) ≡ 0) → pending_in_all streams ≡ 0
+none-pending : (streams : List StreamView) → ((n : ℕ) → n < length streams → pending_on (stream_in streams n) ≡ 0) → pending_in_all streams ≡ 0
 none-pending [] all = refl
 none-pending (view ∷ views) all =
-    let first : pending_in view ≡ 0 = all 0 (omega arith) in
-    let total = sum_by-cons pending_in view views in
+    let first : pending_on view ≡ 0 = all 0 (omega arith) in
+    let total = sum_by-cons pending_on view views in
     let rest = none-pending views (λ n b. all (suc n) (omega arith)) in
     omega arith
 
@@ -68,7 +68,7 @@ none-connected script slots n none = λ k d b.
     let count = length-map slots op_in in
     op-none script (get_or slots k d) (sym (get_or-map op_in slots k d None b) ∙ ap (λ (xs : List (Option ℕ)). get_or xs k None) none ∙ get_or-replicate n k None None (omega arith))
 
-module _ (script : ScriptModel) (s : TableState) (streams : List StreamView) (new : AreNew script s streams) where
+module _ (script : ScriptModel) (s : TableState) (streams : List StreamView) (new : AreAtStart script s streams) where
   half : with_tables s (first_reactor script true) ≡ first_reactor script true
   half = new.half true
 
@@ -90,7 +90,7 @@ module _ (script : ScriptModel) (s : TableState) (streams : List StreamView) (ne
       ap (λ (h : ReactorHalf). let changed : ReactorHalf = record h { queues = map queues_in streams } in changed) (new.half telling)
       ∙ ap (λ q. let changed : ReactorHalf = record (first_reactor script telling) { queues = q } in changed) queues-first
 
-  pub room-first : IsWellFormed script → HasRoom script s streams
+  pub room-first : IsWellFormed script → HasRoomForActs script s streams
   room-first formed =
       let long = ap length taken ∙ length-replicate (length script.acts) false in
       let expiries : s.waiting.expiries ≡ replicate script.timers 0 = ap (λ (h : ReactorHalf). h.expiries) half in
@@ -102,7 +102,7 @@ module _ (script : ScriptModel) (s : TableState) (streams : List StreamView) (ne
       let few = streams-below script.version in
       let acts = formed.acts.count in
       let declared = formed.streams in
-      let none = none-pending streams (λ n b. ap pending_in (view-at n b)) in
+      let none = none-pending streams (λ n b. ap pending_on (view-at n b)) in
       let left = new.room in
       let untaken : (test : Act → Bool) → untaken_below test script s.taken (length s.taken) ≡ acts_below test script (length script.acts) = λ test. ap (λ t. untaken_below test script t (length t)) taken ∙ ap (untaken_below test script (replicate (length script.acts) false)) (length-replicate (length script.acts) false) ∙ untaken-none test script (length script.acts) (length script.acts) (omega arith) in
       record {
@@ -120,11 +120,11 @@ module _ (script : ScriptModel) (s : TableState) (streams : List StreamView) (ne
           reads = λ n b.
               let none : length (stream_in streams n).reads ≡ 0 = ap (λ (v : StreamView). length v.reads) (view-at n b) in
               let rooms = new.reads n (omega (arith, b, new.count)) in
-              omega (arith, none, rooms, untaken (is_on side.Reads n));
+              omega (arith, none, rooms, untaken (is_on_side side.Reads n));
           writes = λ n b.
               let none : length (stream_in streams n).writes ≡ 0 = ap (λ (v : StreamView). length v.writes) (view-at n b) in
               let rooms = new.writes n (omega (arith, b, new.count)) in
-              omega (arith, none, rooms, untaken (is_on side.Writes n));
+              omega (arith, none, rooms, untaken (is_on_side side.Writes n));
           sizes = λ a n act b is. new.sizes a n act (omega (arith, b, new.count)) is;
         };
         connected = none-connected script s.slots script.slots slots;

@@ -16,13 +16,13 @@ use Rattle.history_book.specs.Performing.{aborted, all_aborted, bad, is_of, new_
 use Rattle.history_book.specs.State.{ReactorHalf}
 use Rattle.reactor_trait.specs.Reactor.{Outside, ReactorState}
 use Rattle.proactor_core.specs.Due.{Due, listed}
-use Rattle.proactor_core.specs.Proactor.{HasRoom, IsAt, IsTurning, ProactorView}
+use Rattle.proactor_core.specs.Proactor.{HasRoomForActs, IsAt, IsTurning, ProactorView}
 use Rattle.proactor_core.specs.Reactor.{whole_told}
 use Rattle.proactor_core.specs.Room.{IsUntaken}
 use Rattle.proactor_core.specs.Rooms.{one_if, untaken_below}
-use Rattle.proactor_core.specs.StreamRooms.{is_on}
+use Rattle.proactor_core.specs.StreamRooms.{is_on_side}
 use Rattle.proactor_core.specs.declared.stream_rooms.Side.TheVariants as side
-use Rattle.proactor_core.specs.Streams.{StreamView, aborts_of_op, new_stream_view, pending_in, stream_in, without_op}
+use Rattle.proactor_core.specs.Streams.{StreamView, aborts_of_op, new_stream_view, pending_on, stream_in, without_op}
 use Rattle.proactor_core.specs.Tables.{TableState, act_taken}
 use Rattle.proactor_core.specs.Works.{with_works}
 use Rattle.proactor_core.proofs.RoomLemmas.{count-taken, less-untaken}
@@ -37,14 +37,14 @@ abbrev pub streamed : {X : Type 0} → ℕ → StreamView → Due → ProactorVi
 streamed n changed due view = record view { tables = record view.tables { due = due }; streams = set view.streams n changed }
 
 -- some operations of a stream completed
-pub shrunk-room : (script : ScriptModel) (s : TableState) (streams : List StreamView) (n : ℕ) (changed : StreamView) (completed : List Completion) → n < length streams → KeepsPlace (stream_in streams n) changed → length completed + pending_in changed ≡ pending_in (stream_in streams n) → HasRoom script s streams → HasRoom script (record s { due = listed completed s.due }) (set streams n changed)
+pub shrunk-room : (script : ScriptModel) (s : TableState) (streams : List StreamView) (n : ℕ) (changed : StreamView) (completed : List Completion) → n < length streams → KeepsPlace (stream_in streams n) changed → length completed + pending_on changed ≡ pending_on (stream_in streams n) → HasRoomForActs script s streams → HasRoomForActs script (record s { due = listed completed s.due }) (set streams n changed)
 shrunk-room script s streams n changed completed within keeps counts room =
     let fit = room.fit in
     let left = room.tables in
     let spare = left.spare in
     let due = room.within.due in
-    let total = sum_by-set pending_in streams n changed (new_stream_view 0 0 0) within in
-    let one = get_or-le-sum_by pending_in streams n (new_stream_view 0 0 0) within in
+    let total = sum_by-set pending_on streams n changed (new_stream_view 0 0 0) within in
+    let one = get_or-le-sum_by pending_on streams n (new_stream_view 0 0 0) within in
     let long = length-append s.due.coming completed in
     let count = length-set streams n changed in
     let at = keeps-at streams (set streams n changed) n changed within refl keeps in
@@ -67,7 +67,7 @@ length-aborted queue = length-map queue (λ pending. aborted pending.op pending.
 filter-fewer : {Asks : Type 0} (op : ℕ) (queue : List (Pending Asks)) → length (filter (is_of op) queue) + length (filter (λ pending. not (is_of op pending)) queue) ≡ length queue
 filter-fewer op queue = length-filter_both (is_of op) (λ pending. not (is_of op pending)) (λ pending. refl) queue
 
-cancelled-count : (op : ℕ) (v : StreamView) → length (aborts_of_op op v) + pending_in (without_op op v) ≡ pending_in v
+cancelled-count : (op : ℕ) (v : StreamView) → length (aborts_of_op op v) + pending_on (without_op op v) ≡ pending_on v
 cancelled-count op v =
     let both = length-append (all_aborted (filter (is_of op) v.reads)) (all_aborted (filter (is_of op) v.writes)) in
     omega (arith, both, length-aborted (filter (is_of op) v.reads), length-aborted (filter (is_of op) v.writes), filter-fewer op v.reads, filter-fewer op v.writes)
@@ -85,7 +85,7 @@ abbrev is_closed_in : StreamView → Bool
 is_closed_in view = view.closed
 
 -- the reactor's streams are open where these are
-pub changed-turning : {X : Type 0} (state : X → ReactorState) (told : X → Option Outside) (view : ProactorView X) (n : ℕ) (changed : StreamView) (s : TableState) → clock_of s ≡ clock_of view.tables → changed.closed ≡ (stream_in view.streams n).closed → HasRoom view.script s (set view.streams n changed) → IsTurning state told view → IsTurning state told (record view { tables = s; streams = set view.streams n changed })
+pub changed-turning : {X : Type 0} (state : X → ReactorState) (told : X → Option Outside) (view : ProactorView X) (n : ℕ) (changed : StreamView) (s : TableState) → clock_of s ≡ clock_of view.tables → changed.closed ≡ (stream_in view.streams n).closed → HasRoomForActs view.script s (set view.streams n changed) → IsTurning state told view → IsTurning state told (record view { tables = s; streams = set view.streams n changed })
 changed-turning state told view n changed s clock same room turning =
     let servable = turning.step.servable in
     record {
@@ -134,20 +134,20 @@ cancel-step told view n op half within is =
     stream-step told view n (without_op op v) (listed (aborts_of_op op v) view.tables.due) half (one_of_stream_cancelled op n half) within refl ((follow view.tables view.streams half).cancel op n within ∙ ap (one_of_stream_cancelled op n) is.works) is
 
 -- a read or a write begins on a stream, in place of an act that wasn't taken
-begun-room : (script : ScriptModel) (s : TableState) (streams : List StreamView) (a n : ℕ) (changed : StreamView) → n < length streams → changed.room ≡ (stream_in streams n).room → changed.reads_room ≡ (stream_in streams n).reads_room → changed.writes_room ≡ (stream_in streams n).writes_room → length changed.reads ≤ length (stream_in streams n).reads + one_if (is_on side.Reads n) (act_of script a) → length changed.writes ≤ length (stream_in streams n).writes + one_if (is_on side.Writes n) (act_of script a) → pending_in changed ≡ pending_in (stream_in streams n) + 1 → IsUntaken a s → HasRoom script s streams → HasRoom script (act_taken a s) (set streams n changed)
+begun-room : (script : ScriptModel) (s : TableState) (streams : List StreamView) (a n : ℕ) (changed : StreamView) → n < length streams → changed.room ≡ (stream_in streams n).room → changed.reads_room ≡ (stream_in streams n).reads_room → changed.writes_room ≡ (stream_in streams n).writes_room → length changed.reads ≤ length (stream_in streams n).reads + one_if (is_on_side side.Reads n) (act_of script a) → length changed.writes ≤ length (stream_in streams n).writes + one_if (is_on_side side.Writes n) (act_of script a) → pending_on changed ≡ pending_on (stream_in streams n) + 1 → IsUntaken a s → HasRoomForActs script s streams → HasRoomForActs script (act_taken a s) (set streams n changed)
 begun-room script s streams a n changed within same_room same_reads same_writes reads writes more un room =
     let taken = act-room script s streams a room un in
     let fit = taken.fit in
     let left = taken.tables in
     let spare = room.tables.spare in
     let fewer = count-taken s.taken a un.within un.untaken in
-    let total = sum_by-set pending_in streams n changed (new_stream_view 0 0 0) within in
+    let total = sum_by-set pending_on streams n changed (new_stream_view 0 0 0) within in
     let count = length-set streams n changed in
     let long = length-set s.taken a true in
     let at : (m : ℕ) → m ≢ n → stream_in (set streams n changed) m ≡ stream_in streams m = λ m ne. get_or-set_other streams n m changed (new_stream_view 0 0 0) ne in
     let here : stream_in (set streams n changed) n ≡ changed = get_or-set_same streams n changed (new_stream_view 0 0 0) within in
-    let few_reads : (v : StreamView) → ℕ → Type 0 = λ v m. length v.reads + untaken_below (is_on side.Reads m) script (set s.taken a true) (length (set s.taken a true)) ≤ v.reads_room in
-    let few_writes : (v : StreamView) → ℕ → Type 0 = λ v m. length v.writes + untaken_below (is_on side.Writes m) script (set s.taken a true) (length (set s.taken a true)) ≤ v.writes_room in
+    let few_reads : (v : StreamView) → ℕ → Type 0 = λ v m. length v.reads + untaken_below (is_on_side side.Reads m) script (set s.taken a true) (length (set s.taken a true)) ≤ v.reads_room in
+    let few_writes : (v : StreamView) → ℕ → Type 0 = λ v m. length v.writes + untaken_below (is_on_side side.Writes m) script (set s.taken a true) (length (set s.taken a true)) ≤ v.writes_room in
     record {
       fit = record { most = fit.most; few = omega (arith, count, fit.few); taken = fit.taken; expiries = fit.expiries; slots = fit.slots; guards = fit.guards; streams = count ∙ fit.streams };
       tables = record { acts = left.acts; waits_taken = left.waits_taken; rooms = left.rooms; counted = left.counted; accepted = left.accepted; spare = omega (arith, total, more, spare, fewer) };
@@ -155,7 +155,7 @@ begun-room script s streams a n changed within same_room same_reads same_writes 
         reads = λ m b. elim (cases_eq m n) [
           | inl is ↦
               let before = room.queues.reads n within in
-              let less = less-untaken (is_on side.Reads n) script s.taken a un.within (untaken-true s a un) in
+              let less = less-untaken (is_on_side side.Reads n) script s.taken a un.within (untaken-true s a un) in
               let goal : few_reads changed n = rw long (omega (arith, before, less, reads, same_reads)) in
               subst (λ k. few_reads (stream_in (set streams n changed) k) k) (sym is) (subst (λ (v : StreamView). few_reads v n) (sym here) goal)
           | inr ne ↦ subst (λ (v : StreamView). few_reads v m) (sym (at m ne)) (taken.queues.reads m (omega (arith, b, count)))
@@ -163,7 +163,7 @@ begun-room script s streams a n changed within same_room same_reads same_writes 
         writes = λ m b. elim (cases_eq m n) [
           | inl is ↦
               let before = room.queues.writes n within in
-              let less = less-untaken (is_on side.Writes n) script s.taken a un.within (untaken-true s a un) in
+              let less = less-untaken (is_on_side side.Writes n) script s.taken a un.within (untaken-true s a un) in
               let goal : few_writes changed n = rw long (omega (arith, before, less, writes, same_writes)) in
               subst (λ k. few_writes (stream_in (set streams n changed) k) k) (sym is) (subst (λ (v : StreamView). few_writes v n) (sym here) goal)
           | inr ne ↦ subst (λ (v : StreamView). few_writes v m) (sym (at m ne)) (taken.queues.writes m (omega (arith, b, count)))
@@ -185,7 +185,7 @@ begun-room script s streams a n changed within same_room same_reads same_writes 
     }
 
 -- an operation on a closed stream completes at once
-bad-room : (script : ScriptModel) (s : TableState) (streams : List StreamView) (a : ℕ) → HasRoom script s streams → IsUntaken a s → HasRoom script (act_taken a (record s { due = listed (bad a ∷ []) s.due })) streams
+bad-room : (script : ScriptModel) (s : TableState) (streams : List StreamView) (a : ℕ) → HasRoomForActs script s streams → IsUntaken a s → HasRoomForActs script (act_taken a (record s { due = listed (bad a ∷ []) s.due })) streams
 bad-room script s streams a room un =
     let taken = act-room script s streams a room un in
     let left = taken.tables in
@@ -209,13 +209,13 @@ pub record BeginsOn (script : ScriptModel) (a n : ℕ) (before after : StreamVie
   pub writes_room : after.writes_room ≡ before.writes_room
   pub closed : after.closed ≡ before.closed
   pub held : after.held ≡ before.held
-  pub reads : length after.reads ≤ length before.reads + one_if (is_on side.Reads n) (act_of script a)
-  pub writes : length after.writes ≤ length before.writes + one_if (is_on side.Writes n) (act_of script a)
-  pub pending : pending_in after ≡ pending_in before + 1
+  pub reads : length after.reads ≤ length before.reads + one_if (is_on_side side.Reads n) (act_of script a)
+  pub writes : length after.writes ≤ length before.writes + one_if (is_on_side side.Writes n) (act_of script a)
+  pub pending : pending_on after ≡ pending_on before + 1
 
-closed-or-begun : (script : ScriptModel) (s : TableState) (streams : List StreamView) (a n : ℕ) (opened : StreamView) (closed : Bool) → n < length streams → BeginsOn script a n (stream_in streams n) opened → IsUntaken a s → HasRoom script s streams → HasRoom script (act_taken a (record s { due = cond closed (listed (bad a ∷ []) s.due) s.due })) (set streams n (cond closed (stream_in streams n) opened))
+closed-or-begun : (script : ScriptModel) (s : TableState) (streams : List StreamView) (a n : ℕ) (opened : StreamView) (closed : Bool) → n < length streams → BeginsOn script a n (stream_in streams n) opened → IsUntaken a s → HasRoomForActs script s streams → HasRoomForActs script (act_taken a (record s { due = cond closed (listed (bad a ∷ []) s.due) s.due })) (set streams n (cond closed (stream_in streams n) opened))
 closed-or-begun script s streams a n opened true within begins un room =
-    subst (HasRoom script (act_taken a (record s { due = listed (bad a ∷ []) s.due }))) (sym (set-get_or streams n (new_stream_view 0 0 0))) (bad-room script s streams a room un)
+    subst (HasRoomForActs script (act_taken a (record s { due = listed (bad a ∷ []) s.due }))) (sym (set-get_or streams n (new_stream_view 0 0 0))) (bad-room script s streams a room un)
 closed-or-begun script s streams a n opened false within begins un room = begun-room script s streams a n opened within begins.room begins.reads_room begins.writes_room begins.reads begins.writes begins.pending un room
 
 cond-closed : (v opened : StreamView) (closed : Bool) → opened.closed ≡ v.closed → (cond closed v opened).closed ≡ v.closed
@@ -248,33 +248,33 @@ begun-step told view a n opened half after within same step is =
 abbrev pub read_opened : ℕ → ℕ → Reading → StreamView → StreamView
 read_opened a accepted reading v = record v { reads = v.reads ++ new_pending a accepted reading ∷ [] }
 
-pub read-begins : (script : ScriptModel) (a n accepted : ℕ) (reading : Reading) (it : Act) (v : StreamView) → act_of script a ≡ Some it → is_on side.Reads n it ≡ true → BeginsOn script a n v (read_opened a accepted reading v)
+pub read-begins : (script : ScriptModel) (a n accepted : ℕ) (reading : Reading) (it : Act) (v : StreamView) → act_of script a ≡ Some it → is_on_side side.Reads n it ≡ true → BeginsOn script a n v (read_opened a accepted reading v)
 read-begins script a n accepted reading it v is on =
     let long = length-append v.reads (new_pending a accepted reading ∷ []) in
-    let one : one_if (is_on side.Reads n) (act_of script a) ≡ 1 = ap (one_if (is_on side.Reads n)) is ∙ ap (λ t. cond t 1 0) on in
+    let one : one_if (is_on_side side.Reads n) (act_of script a) ≡ 1 = ap (one_if (is_on_side side.Reads n)) is ∙ ap (λ t. cond t 1 0) on in
     record { room = refl; reads_room = refl; writes_room = refl; closed = refl; held = refl; reads = omega (arith, long, one); writes = omega arith; pending = omega (arith, long) }
 
 -- a write begins
 abbrev pub write_opened : ℕ → ℕ → Writing → StreamView → StreamView
 write_opened a accepted writing v = record v { writes = v.writes ++ new_pending a accepted writing ∷ [] }
 
-pub write-begins : (script : ScriptModel) (a n accepted : ℕ) (writing : Writing) (it : Act) (v : StreamView) → act_of script a ≡ Some it → is_on side.Writes n it ≡ true → BeginsOn script a n v (write_opened a accepted writing v)
+pub write-begins : (script : ScriptModel) (a n accepted : ℕ) (writing : Writing) (it : Act) (v : StreamView) → act_of script a ≡ Some it → is_on_side side.Writes n it ≡ true → BeginsOn script a n v (write_opened a accepted writing v)
 write-begins script a n accepted writing it v is on =
     let long = length-append v.writes (new_pending a accepted writing ∷ []) in
-    let one : one_if (is_on side.Writes n) (act_of script a) ≡ 1 = ap (one_if (is_on side.Writes n)) is ∙ ap (λ t. cond t 1 0) on in
+    let one : one_if (is_on_side side.Writes n) (act_of script a) ≡ 1 = ap (one_if (is_on_side side.Writes n)) is ∙ ap (λ t. cond t 1 0) on in
     record { room = refl; reads_room = refl; writes_room = refl; closed = refl; held = refl; reads = omega arith; writes = omega (arith, long, one); pending = omega (arith, long) }
 
 -- there is room for one more read, or write
-pub read-room : (script : ScriptModel) (s : TableState) (streams : List StreamView) (a n : ℕ) (it : Act) → act_of script a ≡ Some it → is_on side.Reads n it ≡ true → n < length streams → IsUntaken a s → HasRoom script s streams → length (stream_in streams n).reads < (stream_in streams n).reads_room
+pub read-room : (script : ScriptModel) (s : TableState) (streams : List StreamView) (a n : ℕ) (it : Act) → act_of script a ≡ Some it → is_on_side side.Reads n it ≡ true → n < length streams → IsUntaken a s → HasRoomForActs script s streams → length (stream_in streams n).reads < (stream_in streams n).reads_room
 read-room script s streams a n it is on within un room =
     let before = room.queues.reads n within in
-    let less = less-untaken (is_on side.Reads n) script s.taken a un.within (untaken-true s a un) in
-    let one : one_if (is_on side.Reads n) (act_of script a) ≡ 1 = ap (one_if (is_on side.Reads n)) is ∙ ap (λ t. cond t 1 0) on in
+    let less = less-untaken (is_on_side side.Reads n) script s.taken a un.within (untaken-true s a un) in
+    let one : one_if (is_on_side side.Reads n) (act_of script a) ≡ 1 = ap (one_if (is_on_side side.Reads n)) is ∙ ap (λ t. cond t 1 0) on in
     omega (arith, before, less, one)
 
-pub write-room : (script : ScriptModel) (s : TableState) (streams : List StreamView) (a n : ℕ) (it : Act) → act_of script a ≡ Some it → is_on side.Writes n it ≡ true → n < length streams → IsUntaken a s → HasRoom script s streams → length (stream_in streams n).writes < (stream_in streams n).writes_room
+pub write-room : (script : ScriptModel) (s : TableState) (streams : List StreamView) (a n : ℕ) (it : Act) → act_of script a ≡ Some it → is_on_side side.Writes n it ≡ true → n < length streams → IsUntaken a s → HasRoomForActs script s streams → length (stream_in streams n).writes < (stream_in streams n).writes_room
 write-room script s streams a n it is on within un room =
     let before = room.queues.writes n within in
-    let less = less-untaken (is_on side.Writes n) script s.taken a un.within (untaken-true s a un) in
-    let one : one_if (is_on side.Writes n) (act_of script a) ≡ 1 = ap (one_if (is_on side.Writes n)) is ∙ ap (λ t. cond t 1 0) on in
+    let less = less-untaken (is_on_side side.Writes n) script s.taken a un.within (untaken-true s a un) in
+    let one : one_if (is_on_side side.Writes n) (act_of script a) ≡ 1 = ap (one_if (is_on_side side.Writes n)) is ∙ ap (λ t. cond t 1 0) on in
     omega (arith, before, less, one)

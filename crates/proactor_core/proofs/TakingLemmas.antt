@@ -14,9 +14,9 @@ use Rattle.history_book.specs.declared.waiting.Wait.{Wait}
 use Rattle.reactor_trait.specs.Reactor.{Outside, ReactorState}
 use Rattle.proactor_core.specs.Due.{listed}
 use Rattle.proactor_core.specs.Following.{IsConnected}
-use Rattle.proactor_core.specs.Proactor.{FitScript, HasRoom, HaveStreamRoom, IsAt, IsTurning, IsWithin, ProactorView}
+use Rattle.proactor_core.specs.Proactor.{FitScript, HasRoomForActs, HaveStreamRoom, IsAt, IsTurning, IsWithinBounds, ProactorView}
 use Rattle.proactor_core.specs.Room.{AsksToWait, HasRoomLeft, IsUntaken}
-use Rattle.proactor_core.specs.StreamRooms.{is_on}
+use Rattle.proactor_core.specs.StreamRooms.{is_on_side}
 use Rattle.proactor_core.specs.declared.stream_rooms.Side.TheVariants as side
 use Rattle.proactor_core.specs.Streams.{StreamView, pending_in_all}
 use Rattle.proactor_core.specs.Tables.{TableState, act_taken, guard_gone, slot_taken, timer_set, wait_begun, with_tables}
@@ -36,7 +36,7 @@ pub untaken-true : (s : TableState) (a : ℕ) → IsUntaken a s → get_or s.tak
 untaken-true s a un = get_or_default s.taken a true false un.within ∙ un.untaken
 
 -- one more act was taken
-pub accepts : (script : ScriptModel) (s : TableState) (streams : List StreamView) (a : ℕ) → HasRoom script s streams → IsUntaken a s → one_more s.accepted ≡ s.accepted + 1
+pub accepts : (script : ScriptModel) (s : TableState) (streams : List StreamView) (a : ℕ) → HasRoomForActs script s streams → IsUntaken a s → one_more s.accepted ≡ s.accepted + 1
 accepts script s streams a room un =
     let accepted = room.tables.accepted in
     let most = room.fit.most in
@@ -48,15 +48,15 @@ taken-queues : (script : ScriptModel) (s : TableState) (streams : List StreamVie
 taken-queues script s streams a un room =
     let long = length-set s.taken a true in
     record {
-      reads = λ n b. let before = room.reads n b in let less = less-untaken (is_on side.Reads n) script s.taken a un.within (untaken-true s a un) in rw long (omega arith);
-      writes = λ n b. let before = room.writes n b in let less = less-untaken (is_on side.Writes n) script s.taken a un.within (untaken-true s a un) in rw long (omega arith);
+      reads = λ n b. let before = room.reads n b in let less = less-untaken (is_on_side side.Reads n) script s.taken a un.within (untaken-true s a un) in rw long (omega arith);
+      writes = λ n b. let before = room.writes n b in let less = less-untaken (is_on_side side.Writes n) script s.taken a un.within (untaken-true s a un) in rw long (omega arith);
       sizes = room.sizes;
     }
 
 pub taken-fit : (script : ScriptModel) (s : TableState) (streams : List StreamView) (a : ℕ) → FitScript script s.taken s.waiting.expiries s.slots s.guards streams → FitScript script (set s.taken a true) s.waiting.expiries s.slots s.guards streams
 taken-fit script s streams a fit = record { most = fit.most; few = fit.few; taken = length-set s.taken a true ∙ fit.taken; expiries = fit.expiries; slots = fit.slots; guards = fit.guards; streams = fit.streams }
 
-pub taken-within : (script : ScriptModel) (s : TableState) (streams : List StreamView) (a : ℕ) → HasRoom script s streams → IsUntaken a s → IsWithin script (one_more s.accepted) s.time s.waiting.expiries s.due
+pub taken-within : (script : ScriptModel) (s : TableState) (streams : List StreamView) (a : ℕ) → HasRoomForActs script s streams → IsUntaken a s → IsWithinBounds script (one_more s.accepted) s.time s.waiting.expiries s.due
 taken-within script s streams a room un =
     let more = accepts script s streams a room un in
     let now = room.within.now in
@@ -67,7 +67,7 @@ taken-within script s streams a room un =
     }
 
 -- an act that asks for nothing more was taken
-pub act-room : (script : ScriptModel) (s : TableState) (streams : List StreamView) (a : ℕ) → HasRoom script s streams → IsUntaken a s → HasRoom script (act_taken a s) streams
+pub act-room : (script : ScriptModel) (s : TableState) (streams : List StreamView) (a : ℕ) → HasRoomForActs script s streams → IsUntaken a s → HasRoomForActs script (act_taken a s) streams
 act-room script s streams a room un = record {
   fit = taken-fit script s streams a room.fit;
   tables = room-weaker script (pending_in_all streams) (pending_in_all streams + 1) (act_taken a s) (omega arith) ((keeps-room script (pending_in_all streams) s room.tables).stream a un);
@@ -78,7 +78,7 @@ act-room script s streams a room un = record {
 }
 
 -- a wait was taken
-pub wait-room : (script : ScriptModel) (s : TableState) (streams : List StreamView) (a timer : ℕ) → HasRoom script s streams → AsksToWait script a timer s → HasRoom script (act_taken a (wait_begun a timer s)) streams
+pub wait-room : (script : ScriptModel) (s : TableState) (streams : List StreamView) (a timer : ℕ) → HasRoomForActs script s streams → AsksToWait script a timer s → HasRoomForActs script (act_taken a (wait_begun a timer s)) streams
 wait-room script s streams a timer room asks =
     let taken = act-room script s streams a room asks.untaken in
     record {
@@ -91,7 +91,7 @@ wait-room script s streams a timer room asks =
     }
 
 -- waits were cancelled
-pub cancel-room : (script : ScriptModel) (s : TableState) (streams : List StreamView) (test : Wait → Bool) → HasRoom script s streams → HasRoom script (record s { waiting = without test s.waiting; due = listed (aborts test s.waiting) s.due }) streams
+pub cancel-room : (script : ScriptModel) (s : TableState) (streams : List StreamView) (test : Wait → Bool) → HasRoomForActs script s streams → HasRoomForActs script (record s { waiting = without test s.waiting; due = listed (aborts test s.waiting) s.due }) streams
 cancel-room script s streams test room =
     let count = length-map (filter test s.waiting.waits) (λ (wait : Wait). aborted wait.op 0) in
     let long = length-append s.due.coming (aborts test s.waiting) in
@@ -108,7 +108,7 @@ cancel-room script s streams test room =
     }
 
 -- one wait was cancelled, if there is one
-pub first-room : (script : ScriptModel) (s : TableState) (streams : List StreamView) (found : Option Wait) → HasRoom script s streams → HasRoom script (record s { waiting = without_one found s.waiting; due = listed (abort_of_one found s.waiting) s.due }) streams
+pub first-room : (script : ScriptModel) (s : TableState) (streams : List StreamView) (found : Option Wait) → HasRoomForActs script s streams → HasRoomForActs script (record s { waiting = without_one found s.waiting; due = listed (abort_of_one found s.waiting) s.due }) streams
 first-room script s streams None room =
     let long = length-append s.due.coming [] in
     let left = room.tables in
@@ -124,7 +124,7 @@ first-room script s streams None room =
 first-room script s streams (Some wait) room = cancel-room script s streams (is_wait_for wait.op) room
 
 -- a guard holds the context no more
-pub guard-room : (script : ScriptModel) (s : TableState) (streams : List StreamView) (guard : ℕ) → HasRoom script s streams → HasRoom script (guard_gone guard s) streams
+pub guard-room : (script : ScriptModel) (s : TableState) (streams : List StreamView) (guard : ℕ) → HasRoomForActs script s streams → HasRoomForActs script (guard_gone guard s) streams
 guard-room script s streams guard room =
     let fit = room.fit in
     let left = room.tables in
@@ -138,7 +138,7 @@ guard-room script s streams guard room =
     }
 
 -- an operation of the script is connected
-pub connect-room : (script : ScriptModel) (s : TableState) (streams : List StreamView) (slot : Option ℕ) (op types : ℕ) → IsConnected script (Some (record { op = op; supported = types })) → HasRoom script s streams → HasRoom script (slot_taken slot op types s) streams
+pub connect-room : (script : ScriptModel) (s : TableState) (streams : List StreamView) (slot : Option ℕ) (op types : ℕ) → IsConnected script (Some (record { op = op; supported = types })) → HasRoomForActs script s streams → HasRoomForActs script (slot_taken slot op types s) streams
 connect-room script s streams None op types is room = room
 connect-room script s streams (Some slot) op types is room =
     let fit = room.fit in
@@ -154,7 +154,7 @@ connect-room script s streams (Some slot) op types is room =
     }
 
 -- a timer was given an expiry, and the act was taken
-pub expiry-room : (script : ScriptModel) (s : TableState) (streams : List StreamView) (a timer expiry : ℕ) → expiry ≤ latest (s.accepted + 1) → HasRoom script s streams → IsUntaken a s → HasRoom script (act_taken a (timer_set timer expiry s)) streams
+pub expiry-room : (script : ScriptModel) (s : TableState) (streams : List StreamView) (a timer expiry : ℕ) → expiry ≤ latest (s.accepted + 1) → HasRoomForActs script s streams → IsUntaken a s → HasRoomForActs script (act_taken a (timer_set timer expiry s)) streams
 expiry-room script s streams a timer expiry within room un =
     let cancelled = cancel-room script s streams (is_wait_of timer) room in
     let taken = act-room script (record s { waiting = without (is_wait_of timer) s.waiting; due = listed (aborts (is_wait_of timer) s.waiting) s.due }) streams a cancelled (record { within = un.within; untaken = un.untaken }) in
@@ -175,7 +175,7 @@ expiry-room script s streams a timer expiry within room un =
     }
 
 -- the tables changed alone, and the time is as it was
-pub tables-turning : {X : Type 0} (state : X → ReactorState) (told : X → Option Outside) (view : ProactorView X) (s : TableState) → clock_of s ≡ clock_of view.tables → HasRoom view.script s view.streams → IsTurning state told view → IsTurning state told (tabled s view)
+pub tables-turning : {X : Type 0} (state : X → ReactorState) (told : X → Option Outside) (view : ProactorView X) (s : TableState) → clock_of s ≡ clock_of view.tables → HasRoomForActs view.script s view.streams → IsTurning state told view → IsTurning state told (tabled s view)
 tables-turning state told view s clock room turning = record {
   room = room;
   step = record {

@@ -27,7 +27,7 @@ use Rattle.history_book.proofs.LimitLemmas.{time-below}
 use Rattle.history_book.proofs.PlayedLemmas.{length-perform_lines}
 use Rattle.history_book.proofs.TimeLemmas.{least_of-within, next_point-within}
 use Rattle.reactor_trait.specs.Reactor.{Outside, ReactorState, outside_at, state_at}
-use Rattle.proactor_core.specs.Proactor.{HasRoom, IsAt, IsSound, IsTurning, ProactorView, after_point, point_ahead}
+use Rattle.proactor_core.specs.Proactor.{HasRoomForActs, IsAt, IsSound, IsTurning, ProactorView, after_point, point_ahead}
 use Rattle.proactor_core.specs.Reactor.{tells, whole_told}
 use Rattle.proactor_core.specs.Streams.{StreamView, stream_in}
 use Rattle.proactor_core.specs.Tables.{TableState, point_passed}
@@ -76,7 +76,7 @@ expiry-within expiries top wait all =
     ]
 
 -- the next time point is within bounds
-next-within : (script : ScriptModel) (s : TableState) (streams : List StreamView) (now : ℕ) → IsWellFormed script → HasRoom script s streams → point_ahead script s ≡ point.Time now → now ≤ latest s.accepted
+next-within : (script : ScriptModel) (s : TableState) (streams : List StreamView) (now : ℕ) → IsWellFormed script → HasRoomForActs script s streams → point_ahead script s ≡ point.Time now → now ≤ latest s.accepted
 next-within script s streams now formed room next =
     let each : All (λ t. t ≤ latest s.accepted) (expiries_of s) = All-map (λ t. t ≤ latest s.accepted) (expiry_in s.waiting.expiries) s.waiting.waits (λ k d b. expiry-within s.waiting.expiries (latest s.accepted) (get_or s.waiting.waits k d) room.within.expiries) in
     next_point-within (latest s.accepted) now s.time (least_of (expiries_of s)) script.world.lines next (least_of-within (latest s.accepted) (expiries_of s) each) (times-within script (latest s.accepted) formed (omega arith))

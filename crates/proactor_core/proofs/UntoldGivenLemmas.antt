@@ -14,7 +14,7 @@ use Rattle.history_book.specs.Kinds.{reading_of, writing_of}
 use Rattle.history_book.specs.State.{StreamQueues, no_queues}
 use Rattle.history_book.specs.Untold.{may_give_read, may_give_write, reading_place, writing_place}
 use Rattle.proactor_core.specs.Pending.{unmoved, GivesInOrder}
-use Rattle.proactor_core.specs.Untold.{none_below, none_given, one_below, queues_of, read_given, unmoved_queues, without_read, without_write, write_given, AreGiven, AreGivenBelow, AreKnown, AreKnownAt, IsFirstGiven, IsGivenAt, IsKnown}
+use Rattle.proactor_core.specs.Untold.{none_below, none_given, one_below, queues_of_view, read_given, unmoved_queues, without_read, without_write, write_given, AreGiven, AreGivenBelow, AreKnown, AreKnownAt, IsFirstGiven, IsGivenAt, IsKnown}
 use Rattle.proactor_core.proofs.UntoldLikeLemmas.{each-set, rested-at}
 
 -- from an earlier place to a later one
@@ -52,23 +52,23 @@ module _ (stream : ℕ) where
   -- the reads of a stream give
   pub reads-given : (queues : List StreamQueues) (queue staying : List (Pending Reading))
       (given : List Completion) → stream < length queues → GivesInOrder may_give_read queue staying given →
-      (queues_of queues stream).reads ≡ map unmoved queue →
+      (queues_of_view queues stream).reads ≡ map unmoved queue →
       AreGiven place queues given place (set queues stream
-      (with_reads (map unmoved staying) (queues_of queues stream)))
+      (with_reads (map unmoved staying) (queues_of_view queues stream)))
   reads-given queues queue staying [] within gives is =
-      let now = queues_of queues stream in
+      let now = queues_of_view queues stream in
       let same : set queues stream (with_reads (map unmoved staying) now) ≡ queues =
       ap (λ rs. set queues stream (with_reads rs now)) (sym gives ∙ sym is) ∙ set-get_or queues stream no_queues in
       subst (AreGiven place queues [] place) (sym same) (none_given (omega arith))
   reads-given queues [] staying (done ∷ given) within gives is = absurd gives
   reads-given queues (head ∷ queue) staying (done ∷ given) within gives is =
-      let now = queues_of queues stream in
+      let now = queues_of_view queues stream in
       let left = without_read stream queues in
       let long : stream < length left = let same = length-set queues stream (with_reads (drop 1 now.reads) now) in
       omega arith in
-      let here : queues_of left stream ≡ with_reads (drop 1 now.reads) now =
+      let here : queues_of_view left stream ≡ with_reads (drop 1 now.reads) now =
       get_or-set_same queues stream (with_reads (drop 1 now.reads) now) no_queues within in
-      let next : (queues_of left stream).reads ≡ map unmoved queue =
+      let next : (queues_of_view left stream).reads ≡ map unmoved queue =
       ap (λ (q : StreamQueues). q.reads) here ∙ ap (drop 1) is in
       let first : IsFirstGiven may_give_read now.reads done =
       record {
@@ -77,7 +77,7 @@ module _ (stream : ℕ) where
         is_op = gives.0;
         allowed = gives.1;
       } in
-      let end : set left stream (with_reads (map unmoved staying) (queues_of left stream)) ≡
+      let end : set left stream (with_reads (map unmoved staying) (queues_of_view left stream)) ≡
       set queues stream (with_reads (map unmoved staying) now) =
       ap (λ q. set left stream (with_reads (map unmoved staying) q)) here
       ∙ set-twice queues stream (with_reads (drop 1 now.reads) now) (with_reads (map unmoved staying) now) in
@@ -87,23 +87,23 @@ module _ (stream : ℕ) where
   -- and so do its writes
   pub writes-given : (queues : List StreamQueues) (queue staying : List (Pending Writing))
       (given : List Completion) → stream < length queues → GivesInOrder may_give_write queue staying given →
-      (queues_of queues stream).writes ≡ map unmoved queue →
+      (queues_of_view queues stream).writes ≡ map unmoved queue →
       AreGiven (writing_place stream) queues given (writing_place stream)
-      (set queues stream (with_writes (map unmoved staying) (queues_of queues stream)))
+      (set queues stream (with_writes (map unmoved staying) (queues_of_view queues stream)))
   writes-given queues queue staying [] within gives is =
-      let now = queues_of queues stream in
+      let now = queues_of_view queues stream in
       let same : set queues stream (with_writes (map unmoved staying) now) ≡ queues =
       ap (λ ws. set queues stream (with_writes ws now)) (sym gives ∙ sym is) ∙ set-get_or queues stream no_queues in
       subst (AreGiven (writing_place stream) queues [] (writing_place stream)) (sym same) (none_given (omega arith))
   writes-given queues [] staying (done ∷ given) within gives is = absurd gives
   writes-given queues (head ∷ queue) staying (done ∷ given) within gives is =
-      let now = queues_of queues stream in
+      let now = queues_of_view queues stream in
       let left = without_write stream queues in
       let long : stream < length left = let same = length-set queues stream (with_writes (drop 1 now.writes) now) in
       omega arith in
-      let here : queues_of left stream ≡ with_writes (drop 1 now.writes) now =
+      let here : queues_of_view left stream ≡ with_writes (drop 1 now.writes) now =
       get_or-set_same queues stream (with_writes (drop 1 now.writes) now) no_queues within in
-      let next : (queues_of left stream).writes ≡ map unmoved queue =
+      let next : (queues_of_view left stream).writes ≡ map unmoved queue =
       ap (λ (q : StreamQueues). q.writes) here ∙ ap (drop 1) is in
       let first : IsFirstGiven may_give_write now.writes done =
       record {
@@ -112,7 +112,7 @@ module _ (stream : ℕ) where
         is_op = gives.0;
         allowed = gives.1;
       } in
-      let end : set left stream (with_writes (map unmoved staying) (queues_of left stream)) ≡
+      let end : set left stream (with_writes (map unmoved staying) (queues_of_view left stream)) ≡
       set queues stream (with_writes (map unmoved staying) now) =
       ap (λ q. set left stream (with_writes (map unmoved staying) q)) here
       ∙ set-twice queues stream (with_writes (drop 1 now.writes) now) (with_writes (map unmoved staying) now) in
@@ -124,16 +124,16 @@ stream-given : (stream : ℕ) (old new : List StreamQueues) (due later : List Co
     (at : IsGivenAt stream old new due later) → AreGiven (reading_place stream) (map unmoved_queues old)
     (at.reads ++ at.writes) (writing_place stream) (map unmoved_queues new)
 stream-given stream old new due later at =
-    let before = queues_of old stream in
-    let after = queues_of new stream in
+    let before = queues_of_view old stream in
+    let after = queues_of_view new stream in
     let rested = map unmoved_queues old in
     let long : stream < length rested = let same = length-map old unmoved_queues in let within = at.within in
     omega arith in
     let here = rested-at old stream in
-    let now = queues_of rested stream in
+    let now = queues_of_view rested stream in
     let between : StreamQueues = record now { reads = map unmoved after.reads } in
     let middle = set rested stream between in
-    let there : queues_of middle stream ≡ between = get_or-set_same rested stream between no_queues long in
+    let there : queues_of_view middle stream ≡ between = get_or-set_same rested stream between no_queues long in
     let still : stream < length middle = let same = length-set rested stream between in omega arith in
     let first = reads-given stream rested before.reads after.reads at.reads long at.reads_in_order
     (ap (λ (q : StreamQueues). q.reads) here) in
@@ -145,7 +145,7 @@ stream-given stream old new due later at =
     let is_new : map unmoved_queues new ≡ set rested stream (whole (unmoved_queues before)) =
     ap (map unmoved_queues) at.others ∙ map-set unmoved_queues old stream
     (record before { reads = after.reads; writes = after.writes }) in
-    let end : set middle stream (last (queues_of middle stream)) ≡ map unmoved_queues new =
+    let end : set middle stream (last (queues_of_view middle stream)) ≡ map unmoved_queues new =
     ap (λ q. set middle stream (last q)) there ∙ set-twice rested stream between (last between)
     ∙ ap (λ q. set rested stream (whole q)) here ∙ sym is_new in
     given-both (given-wider (reading_place stream) (writing_place stream) (omega arith) (omega arith) first)
@@ -181,7 +181,7 @@ first-there (x ∷ xs) head is = let same : x ≡ head = cc in ap (λ y. y ∷ x
 
 pub is-within : {Asks : Type 0} (side : StreamQueues → List (Pending Asks)) (queues : List StreamQueues)
     (stream : ℕ) (head : Pending Asks) → side no_queues ≡ [] →
-    slice_get (side (queues_of queues stream)) 0 ≡ Some head → stream < length queues
+    slice_get (side (queues_of_view queues stream)) 0 ≡ Some head → stream < length queues
 is-within {Asks = Asks} side queues stream head empty is =
     elim (cases_lt stream (length queues)) [
       | inl within ↦ within
@@ -196,7 +196,7 @@ abbrev pub pending_of : StreamQueues → ℕ
 pending_of queues = length queues.reads + length queues.writes
 
 set-count : (queues : List StreamQueues) (stream : ℕ) (new : StreamQueues) → stream < length queues →
-    pending_of (queues_of queues stream) ≡ suc (pending_of new) →
+    pending_of (queues_of_view queues stream) ≡ suc (pending_of new) →
     sum_by pending_of queues ≡ suc (sum_by pending_of (set queues stream new))
 set-count queues stream new within one = let total = sum_by-set pending_of queues stream new no_queues within in
     omega arith
@@ -205,7 +205,7 @@ pub given-count : {from to : ℕ} {queues left : List StreamQueues} {given : Lis
     AreGiven from queues given to left → sum_by pending_of queues ≡ length given + sum_by pending_of left
 given-count {queues = queues} (none_given ahead) = omega arith
 given-count {queues = queues} (read_given stream ahead first rest) =
-    let now = queues_of queues stream in
+    let now = queues_of_view queues stream in
     let new : StreamQueues = record now { reads = drop 1 now.reads } in
     let within = is-within (λ (q : StreamQueues). q.reads) queues stream first.head refl first.first in
     let long : length now.reads ≡ suc (length new.reads) =
@@ -215,7 +215,7 @@ given-count {queues = queues} (read_given stream ahead first rest) =
     let below = given-count rest in
     omega arith
 given-count {queues = queues} (write_given stream ahead first rest) =
-    let now = queues_of queues stream in
+    let now = queues_of_view queues stream in
     let new : StreamQueues = record now { writes = drop 1 now.writes } in
     let within = is-within (λ (q : StreamQueues). q.writes) queues stream first.head refl first.first in
     let long : length now.writes ≡ suc (length new.writes) =
@@ -246,14 +246,14 @@ pub given-known : (script : ScriptModel) {from to : ℕ} {queues left : List Str
     AreGiven from queues given to left → AreKnown script queues → AreKnown script left
 given-known script (none_given ahead) known = known
 given-known script {queues = queues} (read_given stream ahead first rest) known =
-    let now = queues_of queues stream in
+    let now = queues_of_view queues stream in
     given-known script rest (each-set (AreKnownAt script) queues stream (record now { reads = drop 1 now.reads })
     (record {
       reads = All-drop (IsKnown script reading_of stream) now.reads (known stream).reads;
       writes = (known stream).writes;
     }) known)
 given-known script {queues = queues} (write_given stream ahead first rest) known =
-    let now = queues_of queues stream in
+    let now = queues_of_view queues stream in
     given-known script rest (each-set (AreKnownAt script) queues stream (record now { writes = drop 1 now.writes })
     (record {
       reads = (known stream).reads;

@@ -15,7 +15,7 @@ use Rattle.history_book.specs.Kinds.{reading_of, writing_of}
 use Rattle.history_book.specs.Performing.{queues_at, with_due, with_queues}
 use Rattle.history_book.specs.State.{ReactorHalf, StreamQueues, no_queues}
 use Rattle.proactor_core.specs.Pending.{unmoved}
-use Rattle.proactor_core.specs.Untold.{none_given, queues_of, read_given, unmoved_queues, write_given, AreGiven, AreKnownAt, AreToldBy, IsKnown, IsUntoldWith, MayAbortAt}
+use Rattle.proactor_core.specs.Untold.{none_given, queues_of_view, read_given, unmoved_queues, write_given, AreGiven, AreKnownAt, AreToldBy, IsKnown, IsUntoldWith, MayAbortAt}
 use Rattle.proactor_core.proofs.WaitLemmas.{All-from_map}
 
 -- what a history with untold bytes has, where all that is due is fixed
@@ -37,7 +37,7 @@ pub record IsAlike (script : ScriptModel) (mid half : ReactorHalf) : Type 0 wher
   pub reached : ℕ
   pub same : half ≡ forget streams due reached mid
   pub told : AreToldBy script due mid.due
-  pub good : (stream : ℕ) → IsGood script stream (queues_of mid.queues stream)
+  pub good : (stream : ℕ) → IsGood script stream (queues_of_view mid.queues stream)
 
 module _ {Asks : Type 0} (script : ScriptModel) (asks_of : Act → Option Asks) (stream : ℕ) where
   known-rested : (queue : List (Pending Asks)) → All (IsKnown script asks_of stream) queue →
@@ -75,7 +75,7 @@ none-left (read_given stream ahead first rest) e = absurd (cc)
 none-left (write_given stream ahead first rest) e = absurd (cc)
 
 pub rested-at : (queues : List StreamQueues) (stream : ℕ) →
-    queues_of (map unmoved_queues queues) stream ≡ unmoved_queues (queues_of queues stream)
+    queues_of_view (map unmoved_queues queues) stream ≡ unmoved_queues (queues_of_view queues stream)
 rested-at queues stream = get_or-map unmoved_queues queues stream no_queues
 
 module _ (script : ScriptModel) (mid half : ReactorHalf) where
@@ -95,8 +95,8 @@ module _ (script : ScriptModel) (mid half : ReactorHalf) where
         } in r) left;
         told = subst (AreToldBy script half.due) (sym due) untold.told;
         good = λ n. record {
-          known = known-moved script n (queues_of mid.queues n)
-              (subst (AreKnownAt script n) (ap (λ qs. queues_of qs n) left ∙ rested-at mid.queues n)
+          known = known-moved script n (queues_of_view mid.queues n)
+              (subst (AreKnownAt script n) (ap (λ qs. queues_of_view qs n) left ∙ rested-at mid.queues n)
               (untold.known n));
           aborts = untold.aborts n;
         };
@@ -112,14 +112,14 @@ module _ (script : ScriptModel) (mid half : ReactorHalf) where
         place = alike.reached;
         in_order = none_given within;
         known = λ n. subst (AreKnownAt script n) (sym (rested-at mid.queues n))
-            (rested-known script n (queues_of mid.queues n) (alike.good n).known);
+            (rested-known script n (queues_of_view mid.queues n) (alike.good n).known);
         aborts = λ n. (alike.good n).aborts;
         others = refl;
       })
 
   pub at-half : IsAlike script mid half → (stream : ℕ) →
       queues_at half stream ≡ unmoved_queues (queues_at mid stream)
-  at-half alike stream = ap (λ (h : ReactorHalf). queues_of h.queues stream) alike.same
+  at-half alike stream = ap (λ (h : ReactorHalf). queues_of_view h.queues stream) alike.same
       ∙ rested-at mid.queues stream
 
   -- what speaks neither of queues nor of what is due
@@ -133,7 +133,7 @@ module _ (script : ScriptModel) (mid half : ReactorHalf) where
     reached = alike.reached;
     same = ap f alike.same ∙ both alike.streams alike.due alike.reached;
     told = subst (AreToldBy script alike.due) (sym due) alike.told;
-    good = λ n. subst (λ qs. IsGood script n (queues_of qs n)) (sym queues) (alike.good n);
+    good = λ n. subst (λ qs. IsGood script n (queues_of_view qs n)) (sym queues) (alike.good n);
   }
 
   -- streams are not looked at
@@ -167,10 +167,10 @@ set-here xs i x d =
 
 -- what holds of each stream, once the queues of one are others
 pub each-set : (P : ℕ → StreamQueues → Type 0) (queues : List StreamQueues) (stream : ℕ) (new : StreamQueues) →
-    P stream new → ((n : ℕ) → P n (queues_of queues n)) → (n : ℕ) → P n (queues_of (set queues stream new) n)
+    P stream new → ((n : ℕ) → P n (queues_of_view queues n)) → (n : ℕ) → P n (queues_of_view (set queues stream new) n)
 each-set P queues stream new here each n =
     elim (cases_eq n stream) [
-      | inl same ↦ subst (λ m. P m (queues_of (set queues stream new) m)) (sym same)
+      | inl same ↦ subst (λ m. P m (queues_of_view (set queues stream new) m)) (sym same)
           (elim (set-here queues stream new no_queues) [
             | inl is ↦ subst (P stream) (sym is) here
             | inr is ↦ subst (P stream) (sym is) (each stream)

@@ -12,7 +12,7 @@ use Rattle.history_book.specs.Rounds.{is_held, IsEmptied}
 use Rattle.history_book.specs.State.{ReactorHalf, StreamQueues, first_reactor, no_queues}
 use Rattle.history_book.specs.Time.{at_last, at_time, next_time}
 use Rattle.proactor_core.specs.Pending.{unmoved}
-use Rattle.proactor_core.specs.Untold.{queues_of, unmoved_queues, AreToldBy, IsKnown, IsUntoldWith, MayAbort, UntoldBegins, UntoldAnswers, UntoldEnds, UntoldRests, UntoldTicks}
+use Rattle.proactor_core.specs.Untold.{queues_of_view, unmoved_queues, AreToldBy, IsKnown, IsUntoldWith, MayAbort, UntoldBegins, UntoldAnswers, UntoldEnds, UntoldRests, UntoldTicks}
 use Rattle.proactor_core.proofs.UntoldGivenLemmas.{given-count, rested-count}
 use Rattle.proactor_core.proofs.UntoldLikeLemmas.{alike-to, none-left, IsAlike, IsGood}
 
@@ -20,7 +20,7 @@ rested-none : (count : ℕ) → map unmoved_queues (replicate count no_queues) �
 rested-none zero = refl
 rested-none (suc count) = ap (λ qs. no_queues ∷ qs) (rested-none count)
 
-none-at : (count n : ℕ) → queues_of (replicate count no_queues) n ≡ no_queues
+none-at : (count n : ℕ) → queues_of_view (replicate count no_queues) n ≡ no_queues
 none-at count n =
     elim (cases_lt n count) [
       | inl within ↦ get_or-replicate count n no_queues no_queues within

@@ -18,7 +18,7 @@ use Rattle.history_book.specs.Settling.{due_waits, expiry_of, is_due, sorted_by,
 use Rattle.history_book.specs.State.{ReactorHalf, StreamQueues, no_queues}
 use Rattle.history_book.specs.declared.waiting.Wait.{Wait}
 use Rattle.history_book.specs.Untold.{may_have_moved, reading_place}
-use Rattle.proactor_core.specs.Untold.{queues_of, turned, unmoved_queues, AreKnown, AreKnownAt, AreToldBy, AreUnderWay, IsKnown, IsReadUnderWay, IsUntoldWith, IsWriteUnderWay, MayAbort, UntoldSettles}
+use Rattle.proactor_core.specs.Untold.{queues_of_view, turned, unmoved_queues, AreKnown, AreKnownAt, AreToldBy, AreUnderWay, IsKnown, IsReadUnderWay, IsUntoldWith, IsWriteUnderWay, MayAbort, UntoldSettles}
 use Rattle.proactor_core.proofs.UntoldGivenLemmas.{below-given, given-known}
 use Rattle.proactor_core.proofs.UntoldLikeLemmas.{alike-due, alike-from, alike-kept, forget, known-moved, rested-at, rested-known, IsAlike}
 
@@ -107,7 +107,7 @@ writes-may-abort script stream writes known under_way = λ k d b.
 none-under-way : AreUnderWay no_queues
 none-under-way = record { reads = All-nil IsReadUnderWay; writes = All-nil IsWriteUnderWay }
 
-under-way-at : (queues : List StreamQueues) → All AreUnderWay queues → (n : ℕ) → AreUnderWay (queues_of queues n)
+under-way-at : (queues : List StreamQueues) → All AreUnderWay queues → (n : ℕ) → AreUnderWay (queues_of_view queues n)
 under-way-at queues all n =
     elim (cases_lt n (length queues)) [
       | inl within ↦ all n no_queues within
@@ -124,9 +124,9 @@ untold-settles script mid half count reached streams served due unserved below u
     let own = ends (forget alike.streams alike.due alike.reached waited) in
     let rested : AreKnown script (map unmoved_queues mid.queues) =
     λ n. subst (AreKnownAt script n) (sym (rested-at mid.queues n))
-    (rested-known script n (queues_of mid.queues n) (alike.good n).known) in
+    (rested-known script n (queues_of_view mid.queues n) (alike.good n).known) in
     let staying : AreKnown script (map unmoved_queues served) = given-known script gives.in_order rested in
-    let known = λ (n : ℕ). known-moved script n (queues_of served n)
+    let known = λ (n : ℕ). known-moved script n (queues_of_view served n)
     (subst (AreKnownAt script n) (rested-at served n) (staying n)) in
     let moving = λ (n : ℕ). under-way-at served under_way n in
     let untold : IsUntoldWith script gives.given after own = record {
@@ -137,8 +137,8 @@ untold-settles script mid half count reached streams served due unserved below u
       in_order = gives.in_order;
       known = rested;
       aborts = λ n. record {
-        reads = reads-may-abort script n (queues_of served n).reads (known n).reads (moving n).reads;
-        writes = writes-may-abort script n (queues_of served n).writes (known n).writes (moving n).writes;
+        reads = reads-may-abort script n (queues_of_view served n).reads (known n).reads (moving n).reads;
+        writes = writes-may-abort script n (queues_of_view served n).writes (known n).writes (moving n).writes;
       };
       others = refl;
     } in

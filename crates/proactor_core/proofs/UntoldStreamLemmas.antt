@@ -12,11 +12,11 @@ use Rattle.reactor_trait.specs.Reactor.{Outside}
 use Rattle.proactor_core.specs.declared.pending.PendingOp.{PendingOp}
 use Rattle.proactor_core.specs.Due.{Due}
 use Rattle.proactor_core.specs.Held.{HeldBytes}
-use Rattle.proactor_core.specs.Pending.{pending_read, pending_write, progress_in, reading_in, writing_in, AreReads, AreWrites, GivesInOrder}
-use Rattle.proactor_core.specs.Reading.{IsReading}
+use Rattle.proactor_core.specs.Pending.{pending_read, pending_write, progress_in, reading_asked, writing_asked, AreReads, AreWrites, GivesInOrder}
+use Rattle.proactor_core.specs.Reading.{AsksToRead}
 use Rattle.proactor_core.specs.Streams.{new_stream_view, none_served, one_served, queues_in, stream_in, AreServedBelow, IsServedAt, StreamView}
-use Rattle.proactor_core.specs.Untold.{none_below, one_below, queues_of, AreGivenBelow, IsGivenAt, IsReadUnderWay, IsWriteUnderWay, StreamsGiveBelow, WorkIsUnderWay}
-use Rattle.proactor_core.specs.Writing.{IsWriting}
+use Rattle.proactor_core.specs.Untold.{none_below, one_below, queues_of_view, AreGivenBelow, IsGivenAt, IsReadUnderWay, IsWriteUnderWay, StreamsGiveBelow, WorkIsUnderWay}
+use Rattle.proactor_core.specs.Writing.{AsksToWrite}
 
 stream-gives : (last : Bool) (number : ℕ) (old new : List StreamView) (told left : Option Outside)
     (due later : Due) → number < length old → IsServedAt last number old new told left due later →
@@ -27,9 +27,9 @@ stream-gives last number old new told left due later within at =
     let reads = at.gives.reads in
     let writes = at.gives.writes in
     let long = length-map old queues_in in
-    let first : queues_of (map queues_in old) number ≡ queues_in before =
+    let first : queues_of_view (map queues_in old) number ≡ queues_in before =
     get_or-map queues_in old number (new_stream_view 0 0 0) in
-    let second : queues_of (map queues_in new) number ≡ queues_in after =
+    let second : queues_of_view (map queues_in new) number ≡ queues_in after =
     get_or-map queues_in new number (new_stream_view 0 0 0) in
     let whole = λ (p q : StreamQueues). let w : StreamQueues = record p { reads = q.reads; writes = q.writes } in
     w in
@@ -43,13 +43,13 @@ stream-gives last number old new told left due later within at =
       listed = ap (λ (d : Due). d.coming) writes.due ∙ ap (λ (d : Due). d.coming ++ writes.completed) reads.due
           ∙ append_assoc due.coming reads.completed writes.completed;
       others = is_new ∙ ap (λ p. set_there p (queues_in after)) (sym first)
-          ∙ ap (set_there (queues_of (map queues_in old) number)) (sym second);
+          ∙ ap (set_there (queues_of_view (map queues_in old) number)) (sym second);
       reads_in_order = subst (λ (q : StreamQueues). GivesInOrder may_give_read q.reads
-          (queues_of (map queues_in new) number).reads reads.completed) (sym first)
+          (queues_of_view (map queues_in new) number).reads reads.completed) (sym first)
           (subst (λ (q : StreamQueues). GivesInOrder may_give_read before.reads q.reads reads.completed)
           (sym second) reads.in_order);
       writes_in_order = subst (λ (q : StreamQueues). GivesInOrder may_give_write q.writes
-          (queues_of (map queues_in new) number).writes writes.completed) (sym first)
+          (queues_of_view (map queues_in new) number).writes writes.completed) (sym first)
           (subst (λ (q : StreamQueues). GivesInOrder may_give_write before.writes q.writes writes.completed)
           (sym second) writes.in_order);
     }
@@ -77,21 +77,21 @@ pub streams-give-below : StreamsGiveBelow
 streams-give-below last number old new told left due later few served = streams-give few served
 
 -- a read that is under way, whatever its latest piece was
-read-under-way : (asks : Asking) (moved : ℕ) (latest : Option ℕ) → IsReading asks →
+read-under-way : (asks : Asking) (moved : ℕ) (latest : Option ℕ) → AsksToRead asks →
     IsUnderWay (record { asks = asks; moved = moved; latest = latest }) →
-    IsUnderWay (record { asks = Reads (reading_in asks); moved = moved; latest = None })
+    IsUnderWay (record { asks = Reads (reading_asked asks); moved = moved; latest = None })
 read-under-way (Reads reading) moved latest is under_way =
     record { missing = under_way.missing; counted = under_way.counted; before = under_way.before }
 read-under-way (Writes writing) moved latest is under_way = absurd is
 
-write-under-way : (asks : Asking) (moved : ℕ) (latest : Option ℕ) → IsWriting asks →
+write-under-way : (asks : Asking) (moved : ℕ) (latest : Option ℕ) → AsksToWrite asks →
     IsUnderWay (record { asks = asks; moved = moved; latest = latest }) →
-    IsUnderWay (record { asks = Writes (writing_in asks); moved = moved; latest = None })
+    IsUnderWay (record { asks = Writes (writing_asked asks); moved = moved; latest = None })
 write-under-way (Reads reading) moved latest is under_way = absurd is
 write-under-way (Writes writing) moved latest is under_way =
     record { missing = under_way.missing; counted = under_way.counted; before = under_way.before }
 
-one-read : (pending : PendingOp) → IsReading (progress_in pending).asks → IsUnderWay (progress_in pending) →
+one-read : (pending : PendingOp) → AsksToRead (progress_in pending).asks → IsUnderWay (progress_in pending) →
     IsReadUnderWay (pending_read pending)
 one-read pending is under_way = let p = progress_in pending in read-under-way p.asks p.moved p.latest is under_way
 

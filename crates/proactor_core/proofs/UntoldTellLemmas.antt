@@ -15,7 +15,7 @@ use Rattle.history_book.specs.Kinds.{reading_of, stream_of, writing_of}
 use Rattle.history_book.specs.Requests.{disconnected, reactor_after_done, slot_in, told_off}
 use Rattle.history_book.specs.State.{ReactorHalf, StreamQueues}
 use Rattle.history_book.specs.Untold.{gone, head_of, may_give_read, may_give_write, read_gone, reading_place, write_gone, writing_place, MayGiveRead, MayGiveUntold, MayGiveWrite}
-use Rattle.proactor_core.specs.Untold.{none_given, queues_of, read_given, unmoved_queues, without_read, without_write, write_given, AreGiven, AreKnown, AreKnownAt, AreToldBy, IsFirstGiven, IsKnown, IsUntoldWith, MayAbortAll, TellAlike, UntoldTells}
+use Rattle.proactor_core.specs.Untold.{none_given, queues_of_view, read_given, unmoved_queues, without_read, without_write, write_given, AreGiven, AreKnown, AreKnownAt, AreToldBy, IsFirstGiven, IsKnown, IsUntoldWith, MayAbortAll, TellAlike, UntoldTells}
 use Rattle.proactor_core.proofs.UntoldGivenLemmas.{All-drop}
 use Rattle.proactor_core.proofs.UntoldLikeLemmas.{each-set}
 
@@ -179,9 +179,9 @@ module _ (script : ScriptModel) (mid : ReactorHalf) (streams : List Stream) (que
       (read_given {done = done} {given = given} stream ahead gave more) at is gives due known aborts =
       let done_is : done ≡ head = cc in
       let given_is : given ≡ rest = cc in
-      let now = queues_of queues stream in
-      let first_is = subst (λ (qs : List StreamQueues). IsFirstGiven may_give_read (queues_of qs stream).reads head)
-      is (subst (IsFirstGiven may_give_read (queues_of first stream).reads) done_is gave) in
+      let now = queues_of_view queues stream in
+      let first_is = subst (λ (qs : List StreamQueues). IsFirstGiven may_give_read (queues_of_view qs stream).reads head)
+      is (subst (IsFirstGiven may_give_read (queues_of_view first stream).reads) done_is gave) in
       let behind = subst (λ (g : List Completion). AreGiven (reading_place stream)
       (without_read stream queues) g place (map unmoved_queues mid.queues)) given_is
       (subst (λ (qs : List StreamQueues). AreGiven (reading_place stream) (without_read stream qs) given place
@@ -208,10 +208,10 @@ module _ (script : ScriptModel) (mid : ReactorHalf) (streams : List Stream) (que
       (write_given {done = done} {given = given} stream ahead gave more) at is gives due known aborts =
       let done_is : done ≡ head = cc in
       let given_is : given ≡ rest = cc in
-      let now = queues_of queues stream in
+      let now = queues_of_view queues stream in
       let first_is = subst (λ (qs : List StreamQueues). IsFirstGiven may_give_write
-      (queues_of qs stream).writes head) is (subst
-      (IsFirstGiven may_give_write (queues_of first stream).writes) done_is gave) in
+      (queues_of_view qs stream).writes head) is (subst
+      (IsFirstGiven may_give_write (queues_of_view first stream).writes) done_is gave) in
       let behind = subst (λ (g : List Completion). AreGiven (writing_place stream)
       (without_write stream queues) g place (map unmoved_queues mid.queues)) given_is
       (subst (λ (qs : List StreamQueues). AreGiven (writing_place stream) (without_write stream qs) given place

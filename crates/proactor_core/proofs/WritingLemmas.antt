@@ -20,7 +20,7 @@ use Rattle.reactor_trait.specs.Reactor.{IsMoveWithin, Outside, with_stream}
 use Rattle.proactor_core.specs.Reactor.{told_stream}
 use Rattle.proactor_core.specs.Reading.{exchange_at, Ends, IsRound}
 use Rattle.proactor_core.specs.Round.{round_of}
-use Rattle.proactor_core.specs.Writing.{IsWriting}
+use Rattle.proactor_core.specs.Writing.{AsksToWrite}
 use Rattle.proactor_core.specs.declared.round.Round.{Round}
 use Rattle.proactor_core.proofs.ReadingLemmas.{answer-round, told_stream-changed}
 
@@ -47,7 +47,7 @@ behind outside left number writing from most count bytes there are fewer takes =
     ap (λ t. told_stream t number) takes ∙ told_stream-changed outside number (after_writing (Some_of bytes) 0 count) there ∙ written-same writing from most count bytes (stream_at outside.streams number) are fewer
 
 -- a write to the reactor was answered
-pub write-follows : (told left : Option Outside) (number : ℕ) (asks : Asking) (before : ℕ) (latest : Option ℕ) (next : Progress) (held : List ℕ) (from most : ℕ) (bytes : List ℕ) (answer : Moved) (turn : Round) → (let progress : Progress = record { asks = asks; moved = before; latest = latest } in IsUnderWay progress → IsWriting asks → asking_want asks before [] ≡ want.Write from most → IfSome told (λ outside. number < length outside.streams) → IfSome told (λ outside. answer ≡ write_answer bytes (stream_at outside.streams number)) → bytes ≡ bytes_from asks from most → moved_count answer ≤ most → left ≡ option_map (with_stream number (after_writing (Some_of bytes) 0 (moved_count answer))) told → next ≡ progress_after progress answer → turn ≡ round_of (step_of (outcome_by progress answer)) → IfSome told (λ _. IsRound (exchange_at progress held told number) (exchange_at next held left number) turn))
+pub write-follows : (told left : Option Outside) (number : ℕ) (asks : Asking) (before : ℕ) (latest : Option ℕ) (next : Progress) (held : List ℕ) (from most : ℕ) (bytes : List ℕ) (answer : Moved) (turn : Round) → (let progress : Progress = record { asks = asks; moved = before; latest = latest } in IsUnderWay progress → AsksToWrite asks → asking_want asks before [] ≡ want.Write from most → IfSome told (λ outside. number < length outside.streams) → IfSome told (λ outside. answer ≡ write_answer bytes (stream_at outside.streams number)) → bytes ≡ bytes_from asks from most → moved_count answer ≤ most → left ≡ option_map (with_stream number (after_writing (Some_of bytes) 0 (moved_count answer))) told → next ≡ progress_after progress answer → turn ≡ round_of (step_of (outcome_by progress answer)) → IfSome told (λ _. IsRound (exchange_at progress held told number) (exchange_at next held left number) turn))
 write-follows None left number asks before latest next held from most bytes answer turn = λ under_way writes wants there answered are fewer takes moves turns. tt
 write-follows (Some outside) left number (Reads reading) before latest next held from most bytes answer turn = λ under_way writes wants there answered are fewer takes moves turns. absurd writes
 write-follows (Some outside) left number (Writes writing) before latest next held from most bytes answer turn = λ under_way writes wants there answered are fewer takes moves turns.
@@ -62,7 +62,7 @@ write-follows (Some outside) left number (Writes writing) before latest next hel
     rw (turns, moves, behind outside left number writing from most (moved_count answer) bytes there are fewer takes) written
 
 -- a write to the reactor that took nothing yet
-pub write-waits : (told left : Option Outside) (number : ℕ) (asks : Asking) (before : ℕ) (latest : Option ℕ) (held : List ℕ) (from most : ℕ) (bytes : List ℕ) (answer : Moved) → (let progress : Progress = record { asks = asks; moved = before; latest = latest } in IsUnderWay progress → IsWriting asks → asking_want asks before [] ≡ want.Write from most → IfSome told (λ outside. number < length outside.streams) → IfSome told (λ outside. answer ≡ write_answer bytes (stream_at outside.streams number)) → bytes ≡ bytes_from asks from most → answer ≡ moved.NotYet → left ≡ option_map (with_stream number (after_writing (Some_of bytes) 0 (moved_count answer))) told → IfSome told (λ _. Ends (exchange_at progress held told number) (exchange_at progress held left number) None))
+pub write-waits : (told left : Option Outside) (number : ℕ) (asks : Asking) (before : ℕ) (latest : Option ℕ) (held : List ℕ) (from most : ℕ) (bytes : List ℕ) (answer : Moved) → (let progress : Progress = record { asks = asks; moved = before; latest = latest } in IsUnderWay progress → AsksToWrite asks → asking_want asks before [] ≡ want.Write from most → IfSome told (λ outside. number < length outside.streams) → IfSome told (λ outside. answer ≡ write_answer bytes (stream_at outside.streams number)) → bytes ≡ bytes_from asks from most → answer ≡ moved.NotYet → left ≡ option_map (with_stream number (after_writing (Some_of bytes) 0 (moved_count answer))) told → IfSome told (λ _. Ends (exchange_at progress held told number) (exchange_at progress held left number) None))
 write-waits None left number asks before latest held from most bytes answer = λ under_way writes wants there answered are nothing takes. tt
 write-waits (Some outside) left number (Reads reading) before latest held from most bytes answer = λ under_way writes wants there answered are nothing takes. absurd writes
 write-waits (Some outside) left number (Writes writing) before latest held from most bytes answer = λ under_way writes wants there answered are nothing takes.

@@ -5,20 +5,20 @@ use Rattle.history_book.specs.Performing.{aborted, all_of_stream}
 use Rattle.proactor_core.specs.declared.pending.PendingOp.{PendingOp}
 use Rattle.proactor_core.specs.Pending.{pending_read, pending_write, progress_in}
 
-abbrev pub is_op : ℕ → PendingOp → Bool
-is_op op pending = pending.op == op
+abbrev pub is_pending_op : ℕ → PendingOp → Bool
+is_pending_op op pending = pending.op == op
 
 -- an operation reports the bytes that it moved so far
-abbrev pub abort_of : PendingOp → Completion
-abort_of pending = aborted pending.op (progress_in pending).moved
+abbrev pub abort_of_pending : PendingOp → Completion
+abort_of_pending pending = aborted pending.op (progress_in pending).moved
 
 -- whether the operation that was accepted first is a read
-abbrev pub reads_go_first : List PendingOp → List PendingOp → Bool
-reads_go_first [] writes = false
-reads_go_first (read ∷ reads) [] = true
-reads_go_first (read ∷ reads) (write ∷ writes) = nat_lt read.accepted write.accepted
+abbrev pub pending_reads_go_first : List PendingOp → List PendingOp → Bool
+pending_reads_go_first [] writes = false
+pending_reads_go_first (read ∷ reads) [] = true
+pending_reads_go_first (read ∷ reads) (write ∷ writes) = nat_lt read.accepted write.accepted
 
 -- this operation comes before all others of a stream, which has these left then
-abbrev pub IsFirstOf : PendingOp → List PendingOp → List PendingOp → List PendingOp → List PendingOp → Type 0
-IsFirstOf first reads writes reads_left writes_left =
-    all_of_stream (map pending_read reads) (map pending_write writes) ≡ abort_of first ∷ all_of_stream (map pending_read reads_left) (map pending_write writes_left)
+abbrev pub IsFirstPending : PendingOp → List PendingOp → List PendingOp → List PendingOp → List PendingOp → Type 0
+IsFirstPending first reads writes reads_left writes_left =
+    all_of_stream (map pending_read reads) (map pending_write writes) ≡ abort_of_pending first ∷ all_of_stream (map pending_read reads_left) (map pending_write writes_left)

@@ -12,16 +12,16 @@ use Rattle.composed_ops.specs.Progress.{IsUnderWay, Progress, new_progress}
 use Rattle.proactor_core.specs.declared.pending.PendingOp.{PendingOp}
 use Rattle.proactor_core.specs.Due.{Due, listed}
 use Rattle.proactor_core.specs.Held.{HeldBytes}
-use Rattle.proactor_core.specs.Reading.{IsReading, MayRead}
+use Rattle.proactor_core.specs.Reading.{AsksToRead, MayRead}
 use Rattle.proactor_core.specs.Writing.{MayWrite}
 
-abbrev pub reading_in : Asking → Reading
-reading_in (Reads reading) = reading
-reading_in (Writes writing) = Some_bytes 0
+abbrev pub reading_asked : Asking → Reading
+reading_asked (Reads reading) = reading
+reading_asked (Writes writing) = Some_bytes 0
 
-abbrev pub writing_in : Asking → Writing
-writing_in (Reads reading) = Some_of []
-writing_in (Writes writing) = writing
+abbrev pub writing_asked : Asking → Writing
+writing_asked (Reads reading) = Some_of []
+writing_asked (Writes writing) = writing
 
 abbrev pub progress_in : PendingOp → Progress
 progress_in pending = progress_of pending.machine
@@ -31,7 +31,7 @@ abbrev pub pending_read : PendingOp → Pending Reading
 pending_read pending = record {
   op = pending.op;
   accepted = pending.accepted;
-  asks = reading_in (progress_in pending).asks;
+  asks = reading_asked (progress_in pending).asks;
   moved = (progress_in pending).moved;
 }
 
@@ -39,14 +39,14 @@ abbrev pub pending_write : PendingOp → Pending Writing
 pending_write pending = record {
   op = pending.op;
   accepted = pending.accepted;
-  asks = writing_in (progress_in pending).asks;
+  asks = writing_asked (progress_in pending).asks;
   moved = (progress_in pending).moved;
 }
 
 -- a read before its first step, with room for all that it reads at once
 pub record IsNewRead (buffer room : ℕ) (progress : Progress) : Type 0 where
   pub fresh : progress ≡ new_progress progress.asks
-  pub reads : IsReading progress.asks
+  pub reads : AsksToRead progress.asks
   pub under_way : IsUnderWay progress
   pub fits : size_of progress.asks ≤ buffer
   pub holds : size_of progress.asks ≤ room
@@ -72,7 +72,7 @@ GivesInOrder may (head ∷ queue) staying (given ∷ completed) =
     (given.op ≡ head.op) × (may head.asks given.outcome.0 given.outcome.1 ≡ true) × GivesInOrder may queue staying completed
 
 -- what completed is due
-pub record Gives {Asks : Type 0} (may : Asks → Code → ℕ → Bool) (queue staying : List (Pending Asks)) (old new : Due) : Type 0 where
+pub record GivesDue {Asks : Type 0} (may : Asks → Code → ℕ → Bool) (queue staying : List (Pending Asks)) (old new : Due) : Type 0 where
   pub completed : List Completion
   pub due : new ≡ listed completed old
   pub in_order : GivesInOrder may queue staying completed

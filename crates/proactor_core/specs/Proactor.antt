@@ -26,7 +26,7 @@ use Rattle.proactor_core.specs.Reactor.{whole_told}
 pub use Rattle.proactor_core.specs.Reactor.{tells}
 use Rattle.proactor_core.specs.Room.{HasRoomLeft, IsUntaken}
 use Rattle.proactor_core.specs.Rooms.{acts_below, untaken_below}
-use Rattle.proactor_core.specs.StreamRooms.{is_on, size_at}
+use Rattle.proactor_core.specs.StreamRooms.{is_on_side, bytes_asked_at}
 use Rattle.proactor_core.specs.Streams.{AreServable, StreamView, new_stream_view, pending_in_all, queues_in, stream_in}
 use Rattle.proactor_core.specs.Tables.{TableState, with_tables}
 use Rattle.proactor_core.specs.Untold.{IsUnservedOf, IsUntoldOf}
@@ -50,35 +50,35 @@ pub record FitScript (script : ScriptModel) (all : List Bool) (times : List ℕ)
 
 -- each stream has room for its operations and their bytes
 pub record HaveStreamRoom (script : ScriptModel) (taken : List Bool) (streams : List StreamView) : Type 0 where
-  pub reads : (n : ℕ) → n < length streams → length (stream_in streams n).reads + untaken_below (is_on side.Reads n) script taken (length taken) ≤ (stream_in streams n).reads_room
-  pub writes : (n : ℕ) → n < length streams → length (stream_in streams n).writes + untaken_below (is_on side.Writes n) script taken (length taken) ≤ (stream_in streams n).writes_room
-  pub sizes : (a n : ℕ) (act : Act) → n < length streams → act_of script a ≡ Some act → size_at n act ≤ (stream_in streams n).room
+  pub reads : (n : ℕ) → n < length streams → length (stream_in streams n).reads + untaken_below (is_on_side side.Reads n) script taken (length taken) ≤ (stream_in streams n).reads_room
+  pub writes : (n : ℕ) → n < length streams → length (stream_in streams n).writes + untaken_below (is_on_side side.Writes n) script taken (length taken) ≤ (stream_in streams n).writes_room
+  pub sizes : (a n : ℕ) (act : Act) → n < length streams → act_of script a ≡ Some act → bytes_asked_at n act ≤ (stream_in streams n).room
 
 -- no more is due than there are acts, and times are within bounds
-pub record IsWithin (script : ScriptModel) (accepted time : ℕ) (times : List ℕ) (list : Due) : Type 0 where
+pub record IsWithinBounds (script : ScriptModel) (accepted time : ℕ) (times : List ℕ) (list : Due) : Type 0 where
   pub due : list.spare + length list.coming ≤ length script.acts
   pub now : time ≤ latest accepted
   pub expiries : All (λ expiry. expiry ≤ latest accepted) times
 
 -- tables and streams are those of the script, with room for all acts that are still to come
-pub record HasRoom (script : ScriptModel) (s : TableState) (streams : List StreamView) : Type 0 where
+pub record HasRoomForActs (script : ScriptModel) (s : TableState) (streams : List StreamView) : Type 0 where
   pub fit : FitScript script s.taken s.waiting.expiries s.slots s.guards streams
   pub tables : HasRoomLeft script (pending_in_all streams) s
   pub queues : HaveStreamRoom script s.taken streams
   pub connected : All (IsConnected script) s.slots
-  pub within : IsWithin script s.accepted s.time s.waiting.expiries s.due
+  pub within : IsWithinBounds script s.accepted s.time s.waiting.expiries s.due
   pub working : s.failed ≡ false
 
 -- tables and streams of a script before anything was taken
-pub record AreNew (script : ScriptModel) (s : TableState) (streams : List StreamView) : Type 0 where
+pub record AreAtStart (script : ScriptModel) (s : TableState) (streams : List StreamView) : Type 0 where
   pub half : (told : Bool) → with_tables s (first_reactor script told) ≡ first_reactor script told
   pub room : HasRoomLeft script 0 s
   pub spare : s.due.spare ≡ length script.acts
   pub count : length streams ≡ script.world.streams
   pub opened : (n : ℕ) → n < script.world.streams → let view = stream_in streams n in view ≡ new_stream_view view.room view.reads_room view.writes_room
-  pub sizes : (a n : ℕ) (act : Act) → n < script.world.streams → act_of script a ≡ Some act → size_at n act ≤ (stream_in streams n).room
-  pub reads : (n : ℕ) → n < script.world.streams → (stream_in streams n).reads_room ≡ acts_below (is_on side.Reads n) script (length script.acts)
-  pub writes : (n : ℕ) → n < script.world.streams → (stream_in streams n).writes_room ≡ acts_below (is_on side.Writes n) script (length script.acts)
+  pub sizes : (a n : ℕ) (act : Act) → n < script.world.streams → act_of script a ≡ Some act → bytes_asked_at n act ≤ (stream_in streams n).room
+  pub reads : (n : ℕ) → n < script.world.streams → (stream_in streams n).reads_room ≡ acts_below (is_on_side side.Reads n) script (length script.acts)
+  pub writes : (n : ℕ) → n < script.world.streams → (stream_in streams n).writes_room ≡ acts_below (is_on_side side.Writes n) script (length script.acts)
 
 -- the reactor is set up, and stands at the same time with the same streams closed
 pub record IsInStep (script : ScriptModel) (s : TableState) (streams : List StreamView) (state : ReactorState) (told : Option Outside) : Type 0 where
@@ -89,7 +89,7 @@ pub record IsInStep (script : ScriptModel) (s : TableState) (streams : List Stre
 
 -- the proactor is in a turn
 pub record IsTurning {X : Type 0} (state : X → ReactorState) (told : X → Option Outside) (view : ProactorView X) : Type 0 where
-  pub room : HasRoom view.script view.tables view.streams
+  pub room : HasRoomForActs view.script view.tables view.streams
   pub step : IsInStep view.script view.tables view.streams (state view.reactor) (told view.reactor)
 
 -- an act of the script that wasn't taken may be taken in this turn
@@ -176,9 +176,9 @@ pub record StandsAt (state : ReactorState) (told : Option Outside) (half : React
   pub sent : IfSome told (λ outside. map sent_of outside.streams ≡ map sent_of half.streams)
 
 -- a reactor that wasn't set up: nothing but that changed, and want of memory may come before it is asked
-abbrev pub IsRefused : SetupFault → ReactorState → ReactorState → Type 0
-IsRefused setup_fault.Failed old new = new ≡ state_refused old
-IsRefused setup_fault.NoMemory old new = (new ≡ old) ⊎ (new ≡ state_refused old)
+abbrev pub SetupIsRefused : SetupFault → ReactorState → ReactorState → Type 0
+SetupIsRefused setup_fault.Failed old new = new ≡ state_refused old
+SetupIsRefused setup_fault.NoMemory old new = (new ≡ old) ⊎ (new ≡ state_refused old)
 
 -- only a failure raises the count of faults
 abbrev pub CountsRefusal : SetupFault → ℕ → ℕ → Type 0

@@ -18,13 +18,13 @@ use Rattle.proactor_core.specs.declared.round.Round.TheVariants as round
 abbrev pub exchange_at : Progress → List ℕ → Option Outside → ℕ → Exchange
 exchange_at progress held told number = record { progress = progress; held = held; stream = told_stream told number }
 
-abbrev pub IsReading : Asking → Type 0
-IsReading (Reads reading) = ⊤
-IsReading (Writes writing) = ⊥
+abbrev pub AsksToRead : Asking → Type 0
+AsksToRead (Reads reading) = ⊤
+AsksToRead (Writes writing) = ⊥
 
 -- a read that may be asked for more, with room for all that it reads at once
 pub record MayRead (buffer : ℕ) (held : HeldBytes) (progress : Progress) : Type 0 where
-  pub reads : IsReading progress.asks
+  pub reads : AsksToRead progress.asks
   pub under_way : IsUnderWay progress
   pub searched : IsSearched progress held.bytes
   pub fits : size_of progress.asks ≤ buffer

@@ -40,7 +40,7 @@ pub record AsksToWait (script : ScriptModel) (a timer : ℕ) (s : TableState) : 
   pub known : timer < length s.waiting.expiries
 
 -- each call leaves the room that later ones need
-pub record KeepsRoom (script : ScriptModel) (streams : ℕ) (s : TableState) : Type 0 where
+pub record CallsKeepRoom (script : ScriptModel) (streams : ℕ) (s : TableState) : Type 0 where
   pub may_wait : (a timer : ℕ) → AsksToWait script a timer s → MayWait a timer s
   pub wait : (a timer : ℕ) → AsksToWait script a timer s → HasRoomLeft script streams (act_taken a (wait_begun a timer s))
   pub stream : (a : ℕ) → IsUntaken a s → HasRoomLeft script (streams + 1) (act_taken a s)

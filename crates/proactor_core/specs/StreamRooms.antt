@@ -26,15 +26,15 @@ is_stream stream None = false
 is_stream stream (Some other) = other == stream
 
 -- whether an act reads this stream, or writes it
-abbrev pub is_on : Side → ℕ → Act → Bool
-is_on side stream act = is_stream stream (stream_on side act)
+abbrev pub is_on_side : Side → ℕ → Act → Bool
+is_on_side side stream act = is_stream stream (stream_on side act)
 
 -- the most bytes that an act reads of this stream
-abbrev pub size_at : ℕ → Act → ℕ
-size_at stream (act.ReadSome other size strand slot filter) = if other == stream then size else 0
-size_at stream (act.ReadAll other size strand slot filter) = if other == stream then size else 0
-size_at stream (act.Until other delimiter max strand slot filter) = if other == stream then max else 0
-size_at stream _ = 0
+abbrev pub bytes_asked_at : ℕ → Act → ℕ
+bytes_asked_at stream (act.ReadSome other size strand slot filter) = if other == stream then size else 0
+bytes_asked_at stream (act.ReadAll other size strand slot filter) = if other == stream then size else 0
+bytes_asked_at stream (act.Until other delimiter max strand slot filter) = if other == stream then max else 0
+bytes_asked_at stream _ = 0
 
 -- the same of a stream with a size, if there is one
 abbrev pub size_in : ℕ → Option (ℕ × ℕ) → ℕ

@@ -13,7 +13,7 @@ use Rattle.history_book.specs.Settling.{served_stream}
 use Rattle.history_book.specs.State.{StreamQueues}
 use Rattle.history_book.specs.Untold.{may_give_read, may_give_write}
 use Rattle.proactor_core.specs.Due.{Due, listed}
-use Rattle.proactor_core.specs.Pending.{Gives}
+use Rattle.proactor_core.specs.Pending.{GivesDue}
 use Rattle.proactor_core.specs.Reactor.{whole_told, ChangesOne}
 
 pub record StreamView : Type 0 where
@@ -43,8 +43,8 @@ new_stream_view room reads writes = record {
 abbrev pub queues_in : StreamView → StreamQueues
 queues_in view = record { closed = view.closed; reads = view.reads; writes = view.writes }
 
-abbrev pub pending_in : StreamView → ℕ
-pending_in view = length view.reads + length view.writes
+abbrev pub pending_on : StreamView → ℕ
+pending_on view = length view.reads + length view.writes
 
 -- an operation that is accepted completes at once where the stream is closed
 abbrev pub read_begun : ℕ → ℕ → Reading → StreamView → StreamView
@@ -75,8 +75,8 @@ closed_view view = record view { closed = true; held = []; reads = []; writes = 
 -- where bytes aren't told: the reads complete as they may, and then the writes
 pub record StreamGives (before after : StreamView) (old new : Due) : Type 0 where
   pub between : Due
-  pub reads : Gives may_give_read before.reads after.reads old between
-  pub writes : Gives may_give_write before.writes after.writes between new
+  pub reads : GivesDue may_give_read before.reads after.reads old between
+  pub writes : GivesDue may_give_write before.writes after.writes between new
 
 -- where bytes are told: the stream was served as in a history
 pub record IsStreamServed (before after : StreamView) (there left : Stream) (old new : Due) : Type 0 where
@@ -127,4 +127,4 @@ pub record AreServable (streams : List StreamView) (state : ReactorState) (told 
 
 -- the operations of all streams
 abbrev pub pending_in_all : List StreamView → ℕ
-pending_in_all streams = sum_by pending_in streams
+pending_in_all streams = sum_by pending_on streams

@@ -29,8 +29,8 @@ use Rattle.proactor_core.specs.Held.{HeldBytes}
 use Rattle.proactor_core.specs.Pending.{pending_read, pending_write, unmoved, AreReads, AreWrites, GivesInOrder}
 use Rattle.proactor_core.specs.Streams.{AreServedBelow, StreamView, queues_in}
 
-abbrev pub queues_of : List StreamQueues → ℕ → StreamQueues
-queues_of queues stream = slice_index_or queues stream no_queues
+abbrev pub queues_of_view : List StreamQueues → ℕ → StreamQueues
+queues_of_view queues stream = slice_index_or queues stream no_queues
 
 -- a completion that a history knows of may be told as this one
 pub record IsToldBy (script : ScriptModel) (own told : Completion) : Type 0 where
@@ -54,12 +54,12 @@ pub record IsFirstGiven {Asks : Type 0} (may : Asks → Code → ℕ → Bool) (
 -- the queues without the first read of a stream
 abbrev pub without_read : ℕ → List StreamQueues → List StreamQueues
 without_read stream queues =
-    let one = queues_of queues stream in
+    let one = queues_of_view queues stream in
     slice_set queues stream (record one { reads = drop 1 one.reads })
 
 abbrev pub without_write : ℕ → List StreamQueues → List StreamQueues
 without_write stream queues =
-    let one = queues_of queues stream in
+    let one = queues_of_view queues stream in
     slice_set queues stream (record one { writes = drop 1 one.writes })
 
 -- from one place in a turn to another operations complete: each is the first of its side, and no side gives once a later
@@ -67,11 +67,11 @@ without_write stream queues =
 pub data AreGiven : ℕ → List StreamQueues → List Completion → ℕ → List StreamQueues → Type 0 where
   none_given : {from to : ℕ} {queues : List StreamQueues} → from ≤ to → AreGiven from queues [] to queues
   read_given : {from to : ℕ} {queues left : List StreamQueues} {done : Completion} {given : List Completion} (stream : ℕ) →
-      from ≤ reading_place stream → IsFirstGiven may_give_read (queues_of queues stream).reads done →
+      from ≤ reading_place stream → IsFirstGiven may_give_read (queues_of_view queues stream).reads done →
       AreGiven (reading_place stream) (without_read stream queues) given to left →
       AreGiven from queues (done ∷ given) to left
   write_given : {from to : ℕ} {queues left : List StreamQueues} {done : Completion} {given : List Completion} (stream : ℕ) →
-      from ≤ writing_place stream → IsFirstGiven may_give_write (queues_of queues stream).writes done →
+      from ≤ writing_place stream → IsFirstGiven may_give_write (queues_of_view queues stream).writes done →
       AreGiven (writing_place stream) (without_write stream queues) given to left →
       AreGiven from queues (done ∷ given) to left
 
@@ -88,7 +88,7 @@ pub record AreKnownAt (script : ScriptModel) (stream : ℕ) (queues : StreamQueu
   pub writes : All (IsKnown script writing_of stream) queues.writes
 
 abbrev pub AreKnown : ScriptModel → List StreamQueues → Type 0
-AreKnown script queues = (stream : ℕ) → AreKnownAt script stream (queues_of queues stream)
+AreKnown script queues = (stream : ℕ) → AreKnownAt script stream (queues_of_view queues stream)
 
 -- a history that knows nothing of what an operation moved lets its abort tell this
 abbrev pub MayAbort : {Asks : Type 0} → ScriptModel → Pending Asks → Type 0
@@ -99,7 +99,7 @@ pub record MayAbortAt (script : ScriptModel) (queues : StreamQueues) : Type 0 wh
   pub writes : All (MayAbort script) queues.writes
 
 abbrev pub MayAbortAll : ScriptModel → List StreamQueues → Type 0
-MayAbortAll script queues = (stream : ℕ) → MayAbortAt script (queues_of queues stream)
+MayAbortAll script queues = (stream : ℕ) → MayAbortAt script (queues_of_view queues stream)
 
 abbrev pub unmoved_queues : StreamQueues → StreamQueues
 unmoved_queues queues = record queues { reads = map unmoved queues.reads; writes = map unmoved queues.writes }
@@ -131,14 +131,14 @@ pub record IsGivenAt (stream : ℕ) (old new : List StreamQueues) (due later : L
   pub reads : List Completion
   pub writes : List Completion
   pub listed : later ≡ due ++ (reads ++ writes)
-  pub others : new ≡ slice_set old stream (record (queues_of old stream) {
-    reads = (queues_of new stream).reads;
-    writes = (queues_of new stream).writes;
+  pub others : new ≡ slice_set old stream (record (queues_of_view old stream) {
+    reads = (queues_of_view new stream).reads;
+    writes = (queues_of_view new stream).writes;
   })
   pub reads_in_order :
-      GivesInOrder may_give_read (queues_of old stream).reads (queues_of new stream).reads reads
+      GivesInOrder may_give_read (queues_of_view old stream).reads (queues_of_view new stream).reads reads
   pub writes_in_order :
-      GivesInOrder may_give_write (queues_of old stream).writes (queues_of new stream).writes writes
+      GivesInOrder may_give_write (queues_of_view old stream).writes (queues_of_view new stream).writes writes
 
 -- the first streams are served, by rising number
 pub data AreGivenBelow : ℕ → List StreamQueues → List StreamQueues → List Completion → List Completion → Type 0 where

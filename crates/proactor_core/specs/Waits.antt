@@ -72,8 +72,8 @@ pub record TakesExpired (now op : ℕ) (old new : Waiting) : Type 0 where
 abbrev pub serial_of : Entry → ℕ
 serial_of entry = entry.serial
 
-abbrev pub expiry_of : Entry → ℕ
-expiry_of entry = entry.expiry
+abbrev pub expiry_of_entry : Entry → ℕ
+expiry_of_entry entry = entry.expiry
 
 abbrev pub is_entry_for : ℕ → Entry → Bool
 is_entry_for op entry = entry.op == op
@@ -99,7 +99,7 @@ pub record IsAccepted (expiries timers : List ℕ) (accepted : ℕ) (entry : Ent
 
 -- the entries are in order, each of another operation, and each timer's queue has its operations
 pub record IsWaits (expiries timers : List ℕ) (queue : Timers) (queues : List (List ℕ)) (accepted pending : ℕ) : Type 0 where
-  pub in_order : sorted_by expiry_of (sorted_by serial_of queue.waits) ≡ queue.waits
+  pub in_order : sorted_by expiry_of_entry (sorted_by serial_of queue.waits) ≡ queue.waits
   pub each : All (IsAccepted expiries timers accepted) queue.waits
   pub once : (op : ℕ) → length (filter (is_entry_for op) queue.waits) ≤ 1
   pub count : length queue.waits ≡ pending

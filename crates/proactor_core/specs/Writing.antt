@@ -3,11 +3,11 @@ use Rattle.std.specs.Prelude.{⊤}
 use Rattle.composed_ops.specs.Asking.{Asking, Reads, Writes}
 use Rattle.composed_ops.specs.Progress.{IsUnderWay, Progress}
 
-abbrev pub IsWriting : Asking → Type 0
-IsWriting (Reads reading) = ⊥
-IsWriting (Writes writing) = ⊤
+abbrev pub AsksToWrite : Asking → Type 0
+AsksToWrite (Reads reading) = ⊥
+AsksToWrite (Writes writing) = ⊤
 
 -- a write that may be asked for more
 pub record MayWrite (progress : Progress) : Type 0 where
-  pub writes : IsWriting progress.asks
+  pub writes : AsksToWrite progress.asks
   pub under_way : IsUnderWay progress

@@ -3,7 +3,7 @@ ghost use Rattle.asio_types.specs.Faults.{CountsFaults};
 ghost use Rattle.std.specs.VecDeque.{deque_capacity, deque_len};
 ghost use Rattle.stream_rules.specs.Queue.{reading_side, writing_side};
 ghost use Rattle.history_book.specs.Untold.{may_give_read, may_give_write};
-ghost use Rattle.proactor_core.specs.Pending.{pending_read, pending_write, AreReads, AreWrites, Gives, IsServedBy};
+ghost use Rattle.proactor_core.specs.Pending.{pending_read, pending_write, AreReads, AreWrites, GivesDue, IsServedBy};
 ghost use Rattle.proactor_core.specs.Reactor.{tells, whole_told, ChangesOne, IsServable};
 
 use crate::due::DueList;
@@ -49,7 +49,7 @@ pub(crate) fn serve_reads<'a, X: Reactor>(
     ensures queue_room { deque_capacity queue.new ≡ deque_capacity queue.old }
     ensures reads { AreReads (length buffer.old) held.new queue.new.items }
     ensures gives { OnOk result
-        (Gives may_give_read (map pending_read queue.old.items) (map pending_read queue.new.items) due.old due.new) }
+        (GivesDue may_give_read (map pending_read queue.old.items) (map pending_read queue.new.items) due.old due.new) }
     ensures served { OnOk result (IfSome (X.told reactor.old) (λ _. IsServedBy reading_side
         (map pending_read queue.old.items) (map pending_read queue.new.items)
         (whole_told held.old.bytes (X.told reactor.old) stream) (whole_told held.new.bytes (X.told reactor.new) stream)
@@ -89,7 +89,7 @@ pub(crate) fn serve_writes<'a, X: Reactor>(
     ensures queue_room { deque_capacity queue.new ≡ deque_capacity queue.old }
     ensures writes { AreWrites queue.new.items }
     ensures gives { OnOk result
-        (Gives may_give_write (map pending_write queue.old.items) (map pending_write queue.new.items) due.old due.new) }
+        (GivesDue may_give_write (map pending_write queue.old.items) (map pending_write queue.new.items) due.old due.new) }
     ensures served { OnOk result ((held : List ℕ) → IfSome (X.told reactor.old) (λ _. IsServedBy writing_side
         (map pending_write queue.old.items) (map pending_write queue.new.items)
         (whole_told held (X.told reactor.old) stream) (whole_told held (X.told reactor.new) stream)

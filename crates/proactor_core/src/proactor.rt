@@ -9,7 +9,7 @@ ghost use Rattle.history_book.specs.Settling.{settled};
 ghost use Rattle.history_book.specs.State.{ReactorHalf, first_reactor};
 ghost use Rattle.history_book.specs.Time.{next_time, pending_count};
 ghost use Rattle.reactor_trait.specs.Reactor.{state_at, state_ready};
-ghost use Rattle.proactor_core.specs.Proactor.{AreNew, CountsRefusal, Follows, FollowsInTurn, IsRefused, IsSound, IsTurning, StandsAt, after_point, moved_state, point_ahead, tells};
+ghost use Rattle.proactor_core.specs.Proactor.{AreAtStart, CountsRefusal, Follows, FollowsInTurn, SetupIsRefused, IsSound, IsTurning, StandsAt, after_point, moved_state, point_ahead, tells};
 ghost use Rattle.proactor_core.specs.Room.{IsUntaken};
 ghost use Rattle.proactor_core.specs.Streams.{pending_in_all};
 ghost use Rattle.proactor_core.specs.Tables.{slot_left};
@@ -61,7 +61,7 @@ impl<'a, X: Reactor> Model for Proactor<'a, X> {
 
 /// The parts of a proactor that take memory.
 fn parts_of<'a>(alloc: Global, script: &'a Script) -> Result<(Tables, Streams<'a>), NoMemory>
-    ensures { IfOk result (λ parts. AreNew script.now parts.0 parts.1) }
+    ensures { IfOk result (λ parts. AreAtStart script.now parts.0 parts.1) }
 {
     let tables = Tables::make(alloc, script)?;
     let streams = Streams::make(alloc, script)?;
@@ -85,7 +85,7 @@ impl<'a, X: Reactor> Proactor<'a, X> {
         ensures follows { IfOk result (λ made. Follows X.told made (first_reactor script.now (tells (X.told reactor)))) }
         ensures ready { IfOk result (λ made. X.state made.reactor ≡ state_ready script.now.world) }
         ensures counted { IfOk result (λ made. X.faults made.reactor ≡ X.faults reactor) }
-        ensures refused { IfErr result (λ refusal. IsRefused refusal.0 (X.state reactor) (X.state refusal.1)) }
+        ensures refused { IfErr result (λ refusal. SetupIsRefused refusal.0 (X.state reactor) (X.state refusal.1)) }
         ensures told_refused { IfErr result (λ refusal. X.told refusal.1 ≡ X.told reactor) }
         ensures counts { IfErr result (λ refusal. CountsRefusal refusal.0 (X.faults reactor) (X.faults refusal.1)) }
     {

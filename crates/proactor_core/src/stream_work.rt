@@ -5,12 +5,12 @@ ghost use Rattle.composed_ops.specs.Machine.{progress_of};
 ghost use Rattle.composed_ops.specs.Progress.{new_progress, IsUnderWay};
 ghost use Rattle.history_book.specs.Performing.{all_of_stream, bad};
 ghost use Rattle.proactor_core.specs.Due.{listed};
-ghost use Rattle.proactor_core.specs.Pending.{reading_in, writing_in};
+ghost use Rattle.proactor_core.specs.Pending.{reading_asked, writing_asked};
 ghost use Rattle.proactor_core.specs.Reactor.{tells, whole_told, ChangesOne, IsServable};
-ghost use Rattle.proactor_core.specs.Reading.{IsReading};
-ghost use Rattle.proactor_core.specs.Streams.{aborts_of_op, bad_if_closed, closed_view, new_stream_view, pending_in, queues_in, read_begun, without_op, write_begun, IsStreamServed, StreamGives};
+ghost use Rattle.proactor_core.specs.Reading.{AsksToRead};
+ghost use Rattle.proactor_core.specs.Streams.{aborts_of_op, bad_if_closed, closed_view, new_stream_view, pending_on, queues_in, read_begun, without_op, write_begun, IsStreamServed, StreamGives};
 ghost use Rattle.proactor_core.specs.Untold.{AreUnderWay};
-ghost use Rattle.proactor_core.specs.Writing.{IsWriting};
+ghost use Rattle.proactor_core.specs.Writing.{AsksToWrite};
 
 use crate::aborting::{abort_all, abort_in};
 use crate::due::DueList;
@@ -96,12 +96,12 @@ impl<'a> StreamWork<'a> {
         due: &mut DueList,
     )
         requires fresh { progress_of machine ≡ new_progress (progress_of machine).asks }
-        requires reads { IsReading (progress_of machine).asks }
+        requires reads { AsksToRead (progress_of machine).asks }
         requires under_way { IsUnderWay (progress_of machine) }
         requires holds { size_of (progress_of machine).asks ≤ self.old.room }
         requires room { length self.old.reads < self.old.reads_room }
         requires spare { 0 < due.old.spare }
-        ensures accepted { self.new ≡ read_begun op accepted (reading_in (progress_of machine.entry).asks) self.old }
+        ensures accepted { self.new ≡ read_begun op accepted (reading_asked (progress_of machine.entry).asks) self.old }
         ensures due { due.new ≡ bad_if_closed op self.old due.old }
     {
         if self.closed {
@@ -124,11 +124,11 @@ impl<'a> StreamWork<'a> {
         due: &mut DueList,
     )
         requires fresh { progress_of machine ≡ new_progress (progress_of machine).asks }
-        requires writes { IsWriting (progress_of machine).asks }
+        requires writes { AsksToWrite (progress_of machine).asks }
         requires under_way { IsUnderWay (progress_of machine) }
         requires room { length self.old.writes < self.old.writes_room }
         requires spare { 0 < due.old.spare }
-        ensures accepted { self.new ≡ write_begun op accepted (writing_in (progress_of machine.entry).asks) self.old }
+        ensures accepted { self.new ≡ write_begun op accepted (writing_asked (progress_of machine.entry).asks) self.old }
         ensures due { due.new ≡ bad_if_closed op self.old due.old }
     {
         if self.closed {
@@ -145,7 +145,7 @@ impl<'a> StreamWork<'a> {
     /// One operation is cancelled, if it is pending here, and reports the bytes that it moved so far
     /// (`cancellation_signal::emit`). Costs the length of its queue.
     pub(crate) fn cancel(&mut self, op: OpNo, due: &mut DueList)
-        requires { pending_in self.old ≤ due.old.spare }
+        requires { pending_on self.old ≤ due.old.spare }
         ensures cancelled { self.new ≡ without_op op self.old }
         ensures due { due.new ≡ listed (aborts_of_op op self.old) due.old }
     {
@@ -156,7 +156,7 @@ impl<'a> StreamWork<'a> {
     /// All its operations are cancelled in order of acceptance, and its held bytes are dropped
     /// (`basic_stream_socket::close`).
     pub(crate) fn close(&mut self, due: &mut DueList)
-        requires { pending_in self.old ≤ due.old.spare }
+        requires { pending_on self.old ≤ due.old.spare }
         ensures closed { self.new ≡ closed_view self.old }
         ensures due { due.new ≡ listed (all_of_stream self.old.reads self.old.writes) due.old }
     {
@@ -167,8 +167,8 @@ impl<'a> StreamWork<'a> {
 
     /// How many operations are pending here.
     pub(crate) fn pending(&self) -> u32
-        requires { pending_in self.now < 2 ^ 32 }
-        ensures { result ≡ pending_in self.now }
+        requires { pending_on self.now < 2 ^ 32 }
+        ensures { result ≡ pending_on self.now }
     {
         self.reads.len() as u32 + self.writes.len() as u32
     }
@@ -198,7 +198,7 @@ impl<'a> StreamWork<'a> {
     ) -> Result<(), Failed>
         requires servable { self.old.closed ≡ false → IsServable (X.state reactor.old) (X.told reactor.old) stream }
         requires buffer { self.old.room ≤ length buffer.old }
-        requires spare { pending_in self.old ≤ due.old.spare }
+        requires spare { pending_on self.old ≤ due.old.spare }
         ensures keeps { X.state reactor.new ≡ X.state reactor.old }
         ensures counts { CountsFaults result (X.faults reactor.old) (X.faults reactor.new) }
         ensures later { X.faults reactor.old ≤ X.faults reactor.new }

@@ -7,14 +7,14 @@ ghost use Rattle.history_book.specs.Performing.{all_of_stream};
 ghost use Rattle.session_script.specs.Script.{act_of};
 ghost use Rattle.session_script.specs.declared.act.Act.{Act as act};
 ghost use Rattle.proactor_core.specs.Due.{listed};
-ghost use Rattle.proactor_core.specs.Pending.{reading_in, writing_in};
+ghost use Rattle.proactor_core.specs.Pending.{reading_asked, writing_asked};
 ghost use Rattle.proactor_core.specs.Reactor.{tells, whole_told, ChangesOne, IsServable};
-ghost use Rattle.proactor_core.specs.Reading.{IsReading};
+ghost use Rattle.proactor_core.specs.Reading.{AsksToRead};
 ghost use Rattle.proactor_core.specs.Rooms.{acts_below};
-ghost use Rattle.proactor_core.specs.StreamRooms.{is_on, size_at};
-ghost use Rattle.proactor_core.specs.Streams.{aborts_of_op, bad_if_closed, closed_view, closes_state, closes_told, new_stream_view, pending_in, pending_in_all, queues_in, read_begun, stream_in, with_stream_in, without_op, write_begun, AreServable, AreServedBelow, IsStreamServed, StreamGives};
+ghost use Rattle.proactor_core.specs.StreamRooms.{is_on_side, bytes_asked_at};
+ghost use Rattle.proactor_core.specs.Streams.{aborts_of_op, bad_if_closed, closed_view, closes_state, closes_told, new_stream_view, pending_on, pending_in_all, queues_in, read_begun, stream_in, with_stream_in, without_op, write_begun, AreServable, AreServedBelow, IsStreamServed, StreamGives};
 ghost use Rattle.proactor_core.specs.Untold.{AreUnderWay};
-ghost use Rattle.proactor_core.specs.Writing.{IsWriting};
+ghost use Rattle.proactor_core.specs.Writing.{AsksToWrite};
 
 use crate::due::DueList;
 use crate::stream_rooms::{Side, operation_counts, read_sizes};
@@ -91,11 +91,11 @@ impl<'a> Streams<'a> {
         ensures open { IfOk result (λ made. (stream : ℕ) → stream < script.now.world.streams →
             let view = stream_in made stream in view ≡ new_stream_view view.room view.reads_room view.writes_room) }
         ensures rooms { IfOk result (λ made. (n stream : ℕ) (act : act) → stream < script.now.world.streams →
-            act_of script.now n ≡ Some act → size_at stream act ≤ (stream_in made stream).room) }
+            act_of script.now n ≡ Some act → bytes_asked_at stream act ≤ (stream_in made stream).room) }
         ensures reads { IfOk result (λ made. (stream : ℕ) → stream < script.now.world.streams →
-            (stream_in made stream).reads_room ≡ acts_below (is_on Side.Reads stream) script.now (length script.now.acts)) }
+            (stream_in made stream).reads_room ≡ acts_below (is_on_side Side.Reads stream) script.now (length script.now.acts)) }
         ensures writes { IfOk result (λ made. (stream : ℕ) → stream < script.now.world.streams →
-            (stream_in made stream).writes_room ≡ acts_below (is_on Side.Writes stream) script.now (length script.now.acts)) }
+            (stream_in made stream).writes_room ≡ acts_below (is_on_side Side.Writes stream) script.now (length script.now.acts)) }
     {
         let sizes = read_sizes(alloc, script)?;
         let reads = operation_counts(alloc, Side::Reads, script)?;
@@ -153,13 +153,13 @@ impl<'a> Streams<'a> {
     )
         requires known { stream < length self.old }
         requires fresh { progress_of machine ≡ new_progress (progress_of machine).asks }
-        requires reads { IsReading (progress_of machine).asks }
+        requires reads { AsksToRead (progress_of machine).asks }
         requires under_way { IsUnderWay (progress_of machine) }
         requires holds { size_of (progress_of machine).asks ≤ (stream_in self.old stream).room }
         requires room { length (stream_in self.old stream).reads < (stream_in self.old stream).reads_room }
         requires spare { 0 < due.old.spare }
         ensures accepted { self.new ≡
-            with_stream_in stream (read_begun op accepted (reading_in (progress_of machine.entry).asks)) self.old }
+            with_stream_in stream (read_begun op accepted (reading_asked (progress_of machine.entry).asks)) self.old }
         ensures due { due.new ≡ bad_if_closed op (stream_in self.old stream) due.old }
     {
         let work = &mut self.streams[stream as usize];
@@ -177,12 +177,12 @@ impl<'a> Streams<'a> {
     )
         requires known { stream < length self.old }
         requires fresh { progress_of machine ≡ new_progress (progress_of machine).asks }
-        requires writes { IsWriting (progress_of machine).asks }
+        requires writes { AsksToWrite (progress_of machine).asks }
         requires under_way { IsUnderWay (progress_of machine) }
         requires room { length (stream_in self.old stream).writes < (stream_in self.old stream).writes_room }
         requires spare { 0 < due.old.spare }
         ensures accepted { self.new ≡
-            with_stream_in stream (write_begun op accepted (writing_in (progress_of machine.entry).asks)) self.old }
+            with_stream_in stream (write_begun op accepted (writing_asked (progress_of machine.entry).asks)) self.old }
         ensures due { due.new ≡ bad_if_closed op (stream_in self.old stream) due.old }
     {
         let work = &mut self.streams[stream as usize];
@@ -193,7 +193,7 @@ impl<'a> Streams<'a> {
     /// length of its queue.
     pub(crate) fn cancel(&mut self, op: OpNo, stream: StreamNo, due: &mut DueList)
         requires known { stream < length self.old }
-        requires spare { pending_in (stream_in self.old stream) ≤ due.old.spare }
+        requires spare { pending_on (stream_in self.old stream) ≤ due.old.spare }
         ensures cancelled { self.new ≡ with_stream_in stream (without_op op) self.old }
         ensures due { due.new ≡ listed (aborts_of_op op (stream_in self.old stream)) due.old }
     {
@@ -206,7 +206,7 @@ impl<'a> Streams<'a> {
     pub(crate) fn close<X: Reactor>(&mut self, stream: StreamNo, reactor: &mut X, due: &mut DueList)
         requires known { stream < length self.old }
         requires servable { (stream_in self.old stream).closed ≡ false → IsServable (X.state reactor.old) (X.told reactor.old) stream }
-        requires spare { pending_in (stream_in self.old stream) ≤ due.old.spare }
+        requires spare { pending_on (stream_in self.old stream) ≤ due.old.spare }
         ensures closed { self.new ≡ with_stream_in stream closed_view self.old }
         ensures due { due.new ≡ listed (all_of_stream (stream_in self.old stream).reads (stream_in self.old stream).writes) due.old }
         ensures state { X.state reactor.new ≡ closes_state (stream_in self.old stream).closed stream (X.state reactor.old) }
@@ -229,7 +229,7 @@ impl<'a> Streams<'a> {
     ) -> Result<(), Failed>
         requires known { stream < length self.old }
         requires servable { (stream_in self.old stream).closed ≡ false → IsServable (X.state reactor.old) (X.told reactor.old) stream }
-        requires spare { pending_in (stream_in self.old stream) ≤ due.old.spare }
+        requires spare { pending_on (stream_in self.old stream) ≤ due.old.spare }
         ensures keeps { X.state reactor.new ≡ X.state reactor.old }
         ensures counts { CountsFaults result (X.faults reactor.old) (X.faults reactor.new) }
         ensures later { X.faults reactor.old ≤ X.faults reactor.new }

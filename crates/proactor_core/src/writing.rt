@@ -5,7 +5,7 @@ ghost use Rattle.composed_ops.specs.Feeding.{bytes_from};
 ghost use Rattle.composed_ops.specs.Machine.{progress_of};
 ghost use Rattle.proactor_core.specs.Reactor.{tells, ChangesOne, IsServable};
 ghost use Rattle.proactor_core.specs.Reading.{exchange_at, may_give, pieces_left, Ends, IsAllowed, IsOpenStill, IsRound};
-ghost use Rattle.proactor_core.specs.Writing.{IsWriting, MayWrite};
+ghost use Rattle.proactor_core.specs.Writing.{AsksToWrite, MayWrite};
 
 use crate::round::{Round, round_of};
 use asio_types::{Code, Failed, Moved, StreamNo};
@@ -14,7 +14,7 @@ use reactor_trait::Reactor;
 
 /// The bytes that a write writes next.
 fn next_bytes<'a>(machine: &Machine<'a>, from: u32, count: u32) -> &'a [u8]
-    requires writes { IsWriting (progress_of machine.now).asks }
+    requires writes { AsksToWrite (progress_of machine.now).asks }
     requires within { from + count ≤ size_of (progress_of machine.now).asks }
     requires counted { size_of (progress_of machine.now).asks < 2 ^ 32 }
     ensures bytes { result.now ≡ bytes_from (progress_of machine.now).asks from count }

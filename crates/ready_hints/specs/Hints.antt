@@ -22,7 +22,7 @@ passed p = record {
 }
 
 -- between two calls a pass carries nothing, and has a part
-pub record IsReady (p : Inside) : Type 0 where
+pub record IsPassReady (p : Inside) : Type 0 where
   pub hand : p.pass.me.hand ≡ None
   pub spare : p.pass.me.spare ≡ None
   pub part : 0 < p.pass.me.view.client.parts
@@ -54,8 +54,8 @@ abbrev pub IsHinted : Passed → Type 0
 IsHinted pass = (lane : ℕ) → rule.times_hinted lane pass.taken ≤ rule.times_hinted lane pass.hinted
 
 -- each lane was taken as often as it was hinted
-abbrev pub IsSettled : Passed → Type 0
-IsSettled pass = (lane : ℕ) → rule.times_hinted lane pass.taken ≡ rule.times_hinted lane pass.hinted
+abbrev pub IsPassSettled : Passed → Type 0
+IsPassSettled pass = (lane : ℕ) → rule.times_hinted lane pass.taken ≡ rule.times_hinted lane pass.hinted
 
 -- what was hinted is what was taken and so many hints more
 abbrev pub HasLeft : ℕ → Passed → Type 0

@@ -1,6 +1,6 @@
 ghost use Rattle.std.specs.Prelude.{◌≡◌, IfSome, IfNone, IfOk, IfErr};
 ghost use Rattle.ready_hints.specs.Hints.{IsPassOf, IsSamePass, HasAllParts, HasLeft};
-ghost use Rattle.ready_hints.specs.Hints.{HintsApart, IsOnce, IsAsHinted, IsHinted, IsSettled};
+ghost use Rattle.ready_hints.specs.Hints.{HintsApart, IsOnce, IsAsHinted, IsHinted, IsPassSettled};
 ghost use Rattle.ready_hints.specs.Hints.{Hinted, Took, with_parts_of};
 
 use crate::pass::HintPass;
@@ -58,7 +58,7 @@ impl ReadyHints {
         ensures kept { IsSamePass pass.old pass.new }
         // who has all parts knows that what it took was hinted, and at `None` that all was taken
         ensures hinted { IfSome result (λ _. HasAllParts pass.old → IsHinted pass.new) }
-        ensures empty { IfNone result (HasAllParts pass.old → IsSettled pass.old) }
+        ensures empty { IfNone result (HasAllParts pass.old → IsPassSettled pass.old) }
     {
         self.queue.pop_as::<Takes, Rt>(rt, &mut pass.pass)
     }

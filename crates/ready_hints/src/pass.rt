@@ -11,13 +11,13 @@ pub struct HintPass {
 }
 
 impl Model for HintPass {
-    ghost use Rattle.ready_hints.specs.Hints.{Passed, passed, IsReady};
+    ghost use Rattle.ready_hints.specs.Hints.{Passed, passed, IsPassReady};
 
     ghost Value = { Passed };
 
     ghost view = { passed };
 
-    ghost invariant = { IsReady };
+    ghost invariant = { IsPassReady };
 }
 
 /// The passes that were made with the hints and not given out yet. Contracts see the list of them, the next first.

@@ -9,7 +9,7 @@ use Rattle.op_handlers.specs.Marks.{Marks}
 use Rattle.session_run.specs.Answer.{Does, HasFault, Says, Worked}
 use Rattle.session_run.specs.Given.{Given}
 use Rattle.session_run.specs.Run.{ShowsFault}
-use Rattle.session_run.specs.Form.{IsForm, IsGen, IsReading, IsRunning, Reads}
+use Rattle.session_run.specs.Form.{IsForm, IsGen, IsReadingForm, IsRunning, Reads}
 use Rattle.session_run.specs.declared.form.Form.{Form}
 use Rattle.session_run.specs.declared.form.Form.TheVariants as forms
 use Rattle.session_run.specs.declared.status.Status.{Status}
@@ -71,7 +71,7 @@ not_broken marks given calm worked running = failed worked.form running worked.w
 gen_reads_nothing : (words : List (List ℕ)) (start size : ℕ) → IsGen words start size → Reads words → ⊥
 gen_reads_nothing words start size gen (form, named, reading) = apart form named reading
   where
-    apart : (form : Form) → IsForm words form → IsReading form → ⊥
+    apart : (form : Form) → IsForm words form → IsReadingForm form → ⊥
     apart forms.Run named reading = cc (gen.0, named.0)
     apart forms.Upgrade named reading = cc (gen.0, named.0)
     apart (forms.Gen first second) named reading = reading

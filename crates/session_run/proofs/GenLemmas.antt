@@ -14,7 +14,7 @@ use Rattle.session_run.specs.Form.{IsForm, IsGen}
 use Rattle.history_book.specs.Legal.{IsLegal}
 use Rattle.session_run.specs.Given.{Given, tells}
 use Rattle.session_run.specs.Origin.{HasOrigin}
-use Rattle.session_run.specs.RackMarks.{drop_mark, run_mark}
+use Rattle.session_run.specs.RackMarks.{drop_mark, rack_run_mark}
 use Rattle.session_run.specs.Run.{ShowsNoFault}
 use Rattle.session_run.specs.declared.form.Form.{Form}
 use Rattle.session_run.specs.declared.form.Form.TheVariants as forms
@@ -84,30 +84,30 @@ same_numbers start size other_start other_size words first second =
 -- what was written of the session that two numbers made, where all went well
 plain_done : {H : Type 0} (marks : H → Marks) (given : Given H) (note : List ℕ) → Says marks given status.Done note
     → SummariesArePlain → (start size : ℕ) → IsGen given.words start size
-    → Writes given.out (plain_summary start size (run_mark marks given.rack_before))
+    → Writes given.out (plain_summary start size (rack_run_mark marks given.rack_before))
 plain_done marks given note said law start size words = by_form said.0.form said.0.words said.0.origin said.0.work
   where
     by_form : (form : Form) → IsForm given.words form → HasOrigin form given.source said.0.script
         → Does form marks said.0.script given.reactor given.rack_before given.rack_after ShowsNoFault (Writes given.out)
-        → Writes given.out (plain_summary start size (run_mark marks given.rack_before))
+        → Writes given.out (plain_summary start size (rack_run_mark marks given.rack_before))
     by_form forms.Run named origin work = absurd (cc (named.0, words.0))
     by_form forms.Upgrade named origin work = absurd (cc (named.0, words.0))
     by_form (forms.Gen first second) named origin (events, run, quiet, wrote) =
         let same = same_numbers first second start size given.words named words in
         let legal = subst (λ script. IsLegal script (tells given.reactor) events) origin run.legal in
-        let plain : summary_of first second events ≡ plain_summary first second (run_mark marks given.rack_before) =
+        let plain : summary_of first second events ≡ plain_summary first second (rack_run_mark marks given.rack_before) =
         law first second (named.1.2) (tells given.reactor) events legal
         (none_passes is_fault event.Fault only_fault events quiet)
         (none_passes is_outside_stop (event.Stop None) only_outside events run.unstopped)
-        (run_mark marks given.rack_before) (drop_mark marks given.rack_before) run.marked in
-        let both : plain_summary first second (run_mark marks given.rack_before) ≡ plain_summary start size
-        (run_mark marks given.rack_before) =
-        λ i. plain_summary (same.0 i) (same.1 i) (run_mark marks given.rack_before) in
+        (rack_run_mark marks given.rack_before) (drop_mark marks given.rack_before) run.marked in
+        let both : plain_summary first second (rack_run_mark marks given.rack_before) ≡ plain_summary start size
+        (rack_run_mark marks given.rack_before) =
+        λ i. plain_summary (same.0 i) (same.1 i) (rack_run_mark marks given.rack_before) in
         subst (Writes given.out) (plain ∙ both) wrote
 
 -- the same of an answer that is status 0
 pub plain_of : {H : Type 0} (marks : H → Marks) (given : Given H) (answer : Status) (note : List ℕ)
     → Says marks given answer note → answer ≡ status.Done → SummariesArePlain → (start size : ℕ) → IsGen given.words start size
-    → Writes given.out (plain_summary start size (run_mark marks given.rack_before))
+    → Writes given.out (plain_summary start size (rack_run_mark marks given.rack_before))
 plain_of marks given answer note said done law start size words =
     plain_done marks given note (subst (λ one. Says marks given one note) done said) law start size words

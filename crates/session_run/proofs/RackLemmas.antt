@@ -6,7 +6,7 @@ use Rattle.session_script.specs.Script.{ScriptModel, is_op}
 use Rattle.op_handlers.specs.Marks.{Marks}
 use Rattle.op_handlers.specs.Rack.{AllTaken, IsWholeRack, handler_at, handlers_in}
 use Rattle.op_handlers.specs.declared.rack.Rack.{Rack}
-use Rattle.session_run.specs.RackMarks.{drop_mark, mark_by, run_mark}
+use Rattle.session_run.specs.RackMarks.{drop_mark, mark_by, rack_run_mark}
 
 -- the number of an operation is that of an act
 op_within : (script : ScriptModel) (n : ℕ) → is_op script n ≡ true → n < length script.acts
@@ -32,7 +32,7 @@ has_handler script rack whole long n is =
 
 -- each operation of a script has the marks that a whole rack names for its handler
 pub named_marks : {H : Type 0} (marks : H → Marks) (script : ScriptModel) (rack : Rack H) (run drop : ℕ → ℕ)
-    → run ≡ run_mark marks rack → drop ≡ drop_mark marks rack → IsWholeRack rack → length script.acts ≤ length (handlers_in rack)
+    → run ≡ rack_run_mark marks rack → drop ≡ drop_mark marks rack → IsWholeRack rack → length script.acts ≤ length (handlers_in rack)
     → (n : ℕ) → is_op script n ≡ true → option_map marks (handler_at rack n) ≡ Some (record { run = run n; drop = drop n })
 named_marks marks script rack run drop run_is drop_is whole long n is =
     marks_of_some marks (handler_at rack n) (has_handler script rack whole long n is)

@@ -14,7 +14,7 @@ use Rattle.op_handlers.specs.Marks.{Marks}
 use Rattle.op_handlers.specs.Rack.{AllTaken}
 use Rattle.op_handlers.specs.declared.rack.Rack.{Rack}
 use Rattle.session_run.specs.Given.{SeenReactor, sent_outside}
-use Rattle.session_run.specs.RackMarks.{drop_mark, run_mark}
+use Rattle.session_run.specs.RackMarks.{drop_mark, rack_run_mark}
 use Rattle.session_run.specs.Run.{IsRunOf, ShowsFault, ShowsNoFault, sent_of}
 
 -- a reactor is seen to tell its bytes where it does
@@ -61,7 +61,7 @@ seen_of first outside before after state =
 -- it is a run with these names
 run_by_names : {H : Type 0} (marks : H → Marks) (script : ScriptModel) (told : Bool) (run drop : ℕ → ℕ) (before after : ℕ)
     (events : List Event) (state : ReactorState) (first outside : Option Outside) (old new : Rack H)
-    → run ≡ run_mark marks old → drop ≡ drop_mark marks old → AllTaken old new → told ≡ is_some (option_map sent_outside outside)
+    → run ≡ rack_run_mark marks old → drop ≡ drop_mark marks old → AllTaken old new → told ≡ is_some (option_map sent_outside outside)
     → Finished script told run drop before after events state outside
     → IsRunOf marks script (seen_of first outside before after state) old new events
 run_by_names marks script told run drop before after events state first outside old new run_is drop_is spent told_is f =
@@ -81,7 +81,7 @@ run_by_names marks script told run drop before after events state first outside 
 -- it is a run of the script that was named
 pub run_of : {H : Type 0} (marks : H → Marks) (named script : ScriptModel) (told : Bool) (run drop : ℕ → ℕ)
     (faults before after : ℕ) (events : List Event) (state : ReactorState) (first outside : Option Outside) (old new : Rack H)
-    → named ≡ script → faults ≡ before → run ≡ run_mark marks old → drop ≡ drop_mark marks old → AllTaken old new
+    → named ≡ script → faults ≡ before → run ≡ rack_run_mark marks old → drop ≡ drop_mark marks old → AllTaken old new
     → Finished named told run drop faults after events state outside
     → IsRunOf marks script (seen_of first outside before after state) old new events
 run_of marks named script told run drop faults before after events state first outside old new named_is faults_is run_is drop_is spent f =

@@ -8,7 +8,7 @@ use Rattle.asio_types.specs.declared.failure.Failed.{Failed}
 use Rattle.op_handlers.specs.Marks.{Marks}
 use Rattle.op_handlers.specs.declared.rack.Rack.{Rack}
 use Rattle.session_script.specs.Script.{ScriptModel}
-use Rattle.session_run.specs.Answer.{Does, Runs, Says}
+use Rattle.session_run.specs.Answer.{Does, RunsScript, Says}
 use Rattle.session_run.specs.Ending.{note_at, status_of}
 use Rattle.session_run.specs.Form.{IsForm, IsRunning}
 use Rattle.session_run.specs.Given.{Given, SeenReactor}
@@ -37,7 +37,7 @@ said marks given form script outcome.NoMemory words origin works = ((form, words
 -- what is done with a script by a form that runs it
 does : {H : Type 0} (form : Form) (marks : H → Marks) (script : ScriptModel) (reactor : SeenReactor) (old new : Rack H)
     (Q : List Event → Type 0) (P : List ℕ → Type 0) → IsRunning form
-    → Runs form marks script reactor old new Q P → Does form marks script reactor old new Q P
+    → RunsScript form marks script reactor old new Q P → Does form marks script reactor old new Q P
 does forms.Run marks script reactor old new Q P running runs = runs
 does (forms.Gen start size) marks script reactor old new Q P running runs = runs
 does forms.Upgrade marks script reactor old new Q P running runs = absurd running

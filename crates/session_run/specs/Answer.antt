@@ -31,17 +31,17 @@ text_of_run (forms.Gen start size) events = summary_of start size events
 text_of_run _ events = trace_of events
 
 -- the script was run, Q holds of the events, and P of what is to be written
-abbrev pub Runs : {H : Type 0} → Form → (H → Marks) → ScriptModel → SeenReactor → Rack H → Rack H → (List Event → Type 0)
+abbrev pub RunsScript : {H : Type 0} → Form → (H → Marks) → ScriptModel → SeenReactor → Rack H → Rack H → (List Event → Type 0)
     → (List ℕ → Type 0) → Type 0
-Runs form marks script reactor old new Q P =
+RunsScript form marks script reactor old new Q P =
     (events : List Event) × IsRunOf marks script reactor old new events × Q events × P (text_of_run form events)
 
 -- What is done with a script: it is run; or the text of its upgrade is to be written, and every handler stays.
 abbrev pub Does : {H : Type 0} → Form → (H → Marks) → ScriptModel → SeenReactor → Rack H → Rack H → (List Event → Type 0)
     → (List ℕ → Type 0) → Type 0
 Does forms.Upgrade marks script reactor old new Q P = (handlers_in new ≡ handlers_in old) × P (upgraded_text script)
-Does forms.Run marks script reactor old new Q P = Runs forms.Run marks script reactor old new Q P
-Does (forms.Gen start size) marks script reactor old new Q P = Runs (forms.Gen start size) marks script reactor old new Q P
+Does forms.Run marks script reactor old new Q P = RunsScript forms.Run marks script reactor old new Q P
+Does (forms.Gen start size) marks script reactor old new Q P = RunsScript (forms.Gen start size) marks script reactor old new Q P
 
 -- a script was had, and was worked on
 pub record Worked {H : Type 0} (marks : H → Marks) (given : Given H) (Q : List Event → Type 0) (P : List ℕ → Type 0) : Type 0 where

@@ -12,13 +12,13 @@ words_of forms.Upgrade = codes "upgrade" ∷ []
 words_of (forms.Gen start size) = codes "gen" ∷ decimal start ∷ decimal size ∷ []
 
 -- its numbers make a session
-abbrev pub HasItsNumbers : Form → Type 0
-HasItsNumbers (forms.Gen start size) = (start ≤ most_start) × (1 ≤ size) × (size ≤ most_size)
-HasItsNumbers _ = ⊤
+abbrev pub HasNumbersWithin : Form → Type 0
+HasNumbersWithin (forms.Gen start size) = (start ≤ most_start) × (1 ≤ size) × (size ≤ most_size)
+HasNumbersWithin _ = ⊤
 
 -- the words are those of this form
 abbrev pub IsForm : List (List ℕ) → Form → Type 0
-IsForm words form = (words ≡ words_of form) × HasItsNumbers form
+IsForm words form = (words ≡ words_of form) × HasNumbersWithin form
 
 -- a script is to be run
 abbrev pub IsRun : List (List ℕ) → Type 0
@@ -33,9 +33,9 @@ abbrev pub IsGen : List (List ℕ) → ℕ → ℕ → Type 0
 IsGen words start size = IsForm words (forms.Gen start size)
 
 -- a form that reads a script
-abbrev pub IsReading : Form → Type 0
-IsReading (forms.Gen start size) = ⊥
-IsReading _ = ⊤
+abbrev pub IsReadingForm : Form → Type 0
+IsReadingForm (forms.Gen start size) = ⊥
+IsReadingForm _ = ⊤
 
 -- a form that runs a script
 abbrev pub IsRunning : Form → Type 0
@@ -48,4 +48,4 @@ HasForm words = (form : Form) × IsForm words form
 
 -- the words are those of a form that reads a script
 abbrev pub Reads : List (List ℕ) → Type 0
-Reads words = (form : Form) × IsForm words form × IsReading form
+Reads words = (form : Form) × IsForm words form × IsReadingForm form

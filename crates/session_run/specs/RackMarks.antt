@@ -10,8 +10,8 @@ mark_by pick marks None = 0
 mark_by pick marks (Some handler) = pick (marks handler)
 
 -- the run mark of the handler with a number
-abbrev pub run_mark : {H : Type 0} → (H → Marks) → Rack H → ℕ → ℕ
-run_mark marks rack n = mark_by (λ m. m.run) marks (handler_at rack n)
+abbrev pub rack_run_mark : {H : Type 0} → (H → Marks) → Rack H → ℕ → ℕ
+rack_run_mark marks rack n = mark_by (λ m. m.run) marks (handler_at rack n)
 
 -- the drop mark of the handler with a number
 abbrev pub drop_mark : {H : Type 0} → (H → Marks) → Rack H → ℕ → ℕ

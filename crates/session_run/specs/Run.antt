@@ -11,7 +11,7 @@ use Rattle.op_handlers.specs.Marks.{Marks}
 use Rattle.op_handlers.specs.Rack.{AllTaken}
 use Rattle.op_handlers.specs.declared.rack.Rack.{Rack}
 use Rattle.session_run.specs.Given.{SeenReactor, tells}
-use Rattle.session_run.specs.RackMarks.{drop_mark, run_mark}
+use Rattle.session_run.specs.RackMarks.{drop_mark, rack_run_mark}
 
 -- the events show a failure of the reactor
 abbrev pub ShowsFault : List Event → Type 0
@@ -34,7 +34,7 @@ pub record IsRunOf {H : Type 0} (marks : H → Marks) (script : ScriptModel) (re
   -- each event may come where it comes, and none is missing
   pub legal : IsLegal script (tells reactor) events
   -- the events show the marks that the handlers had
-  pub marked : HasMarks (run_mark marks old) (drop_mark marks old) events
+  pub marked : HasMarks (rack_run_mark marks old) (drop_mark marks old) events
   -- every handler was spent
   pub spent : AllTaken old new
   -- nobody stopped the context from outside

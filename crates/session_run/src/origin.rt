@@ -1,7 +1,7 @@
 ghost use Rattle.std.specs.Prelude.{◌≡◌, Err, IfOk};
 ghost use Rattle.session_run.specs.Answer.{Refuses};
 ghost use Rattle.session_run.specs.Ending.{CountsReading};
-ghost use Rattle.session_run.specs.Form.{HasItsNumbers, IsReading};
+ghost use Rattle.session_run.specs.Form.{HasNumbersWithin, IsReadingForm};
 ghost use Rattle.session_run.specs.Origin.{HasOrigin, IsRead};
 ghost use Rattle.session_run.specs.declared.ending.Refused.{Refused as Refused_of};
 ghost use Rattle.session_script.specs.Limits.{most_read};
@@ -57,13 +57,13 @@ pub(crate) fn script_of<S: Source>(
     form: Form,
     source: &mut S,
 ) -> Result<Script, NoScript>
-    requires numbers { HasItsNumbers form }
+    requires numbers { HasNumbersWithin form }
     ensures origin { IfOk result
         (λ script. HasOrigin form (seen_by S.left S.faults source.old source.new) script) }
-    ensures refused { (refused : Refused_of) → result ≡ Err (NoScript.Refused refused) → IsReading form ×
+    ensures refused { (refused : Refused_of) → result ≡ Err (NoScript.Refused refused) → IsReadingForm form ×
         Refuses (seen_by S.left S.faults source.old source.new) refused.rule refused.line refused.token }
-    ensures failed { result ≡ Err NoScript.Failed → IsReading form }
-    ensures unread { (IsReading form → ⊥) → source.new ≡ source.old }
+    ensures failed { result ≡ Err NoScript.Failed → IsReadingForm form }
+    ensures unread { (IsReadingForm form → ⊥) → source.new ≡ source.old }
     ensures counts { CountsReading result (S.faults source.old) (S.faults source.new) }
     ensures taken { TakesSome most_read (S.left source.old) (S.left source.new) }
 {

@@ -4,7 +4,7 @@ ghost use Rattle.session_script.specs.Limits.{most_acts};
 ghost use Rattle.session_run.specs.Form.{IsRunning};
 ghost use Rattle.session_run.specs.Given.{seen_reactor};
 ghost use Rattle.session_run.specs.Outcome.{CountsRunning, CountsWriting, Works};
-ghost use Rattle.session_run.specs.RackMarks.{drop_mark, run_mark};
+ghost use Rattle.session_run.specs.RackMarks.{drop_mark, rack_run_mark};
 ghost use Rattle.session_run.specs.Run.{IsRunOf, ShowsNoFault};
 ghost use Rattle.text_io.specs.Seen.{seen_by};
 
@@ -37,7 +37,7 @@ fn run_named<
     requires told { N.told ≡ is_some (X.told reactor) }
     requires faults { N.faults ≡ X.faults reactor }
     requires inside { N.outside ≡ false }
-    requires run_marks { N.run ≡ run_mark H.marks rack.old }
+    requires run_marks { N.run ≡ rack_run_mark H.marks rack.old }
     requires drop_marks { N.drop ≡ drop_mark H.marks rack.old }
     requires whole { IsWholeRack rack.old }
     requires count { length (handlers_in rack.old) ≡ most_acts }

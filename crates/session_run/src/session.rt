@@ -4,7 +4,7 @@ ghost use Rattle.session_script.specs.Script.{ScriptModel};
 ghost use Rattle.session_script.specs.Grammar.{IsScript};
 ghost use Rattle.session_script.specs.Limits.{most_acts, most_read};
 ghost use Rattle.generated_session.specs.PlainSummary.{plain_summary};
-ghost use Rattle.session_run.specs.Form.{HasItsNumbers, IsGen, IsUpgrade, Reads};
+ghost use Rattle.session_run.specs.Form.{HasNumbersWithin, IsGen, IsUpgrade, Reads};
 ghost use Rattle.session_run.specs.Answer.{Answers, CountsReactor, CountsReads, CountsWrites, LeavesAll, LeavesReactor, Says};
 ghost use Rattle.session_run.specs.Ending.{note_at, status_of};
 ghost use Rattle.session_run.specs.Given.{seen_reactor};
@@ -12,7 +12,7 @@ ghost use Rattle.session_run.specs.Outcome.{CountsRunning, CountsWriting, Works}
 ghost use Rattle.session_run.specs.declared.form.Form.TheVariants as form_is;
 ghost use Rattle.session_run.specs.declared.status.Status.TheVariants as status;
 ghost use Rattle.text_io.specs.Counts.{Stood};
-ghost use Rattle.session_run.specs.RackMarks.{run_mark};
+ghost use Rattle.session_run.specs.RackMarks.{rack_run_mark};
 ghost use Rattle.text_io.specs.Seen.{Writes, seen_by};
 ghost use Rattle.text_io.specs.Text.{TakesSome};
 
@@ -43,7 +43,7 @@ fn work<R: Threads + Wait + Sync, K: Sink, X: Reactor + Send, H: CompletionHandl
     reactor: X,
     rack: &mut Rack<H>,
 ) -> (Outcome, X)
-    requires numbers { HasItsNumbers form }
+    requires numbers { HasNumbersWithin form }
     requires whole { IsWholeRack rack.old }
     requires count { length (handlers_in rack.old) ≡ most_acts }
     ensures works { Works form H.marks script.now
@@ -179,7 +179,7 @@ pub fn asio_session<
     // The summary of a session that numbers made is the same at each run.
     ensures plain { (start size : ℕ) → IsGen (map string_bytes words.now) start size →
         result.0 ≡ status.Done → Writes (seen_by K.written K.faults out.old out.new)
-        (plain_summary start size (run_mark H.marks rack.old)) }
+        (plain_summary start size (rack_run_mark H.marks rack.old)) }
     // An upgrade executes nothing and destroys nothing.
     ensures upgrade { IsUpgrade (map string_bytes words.now) →
         handlers_in rack.new ≡ handlers_in rack.old }

@@ -11,7 +11,7 @@ use Rattle.session_script.specs.declared.act.Act.TheVariants as act
 use Rattle.session_script.specs.Script.{Place, Entry, ScriptModel, is_op, is_operation, parent_of}
 use Rattle.session_script.specs.Lanes.{caller_lane, is_inline, is_inside, lane_in, lane_of, lane_or_reactor, lanes_after, lanes_of}
 use Rattle.session_script.specs.WellFormed.{HasParent}
-use Rattle.strand_core.specs.Hands.{IsInlineOf, is_of, is_of_lane, same_lane}
+use Rattle.strand_core.specs.Hands.{IsInlineOf, is_op_of, is_of_lane, same_lane}
 
 get_front : {X : Type 0} (xs ys : List X) (k : ℕ) → k < length xs → slice_get (xs ++ ys) k ≡ slice_get xs k
 get_front [] ys k less = absurd (omega arith)
@@ -96,7 +96,7 @@ module _ (script : ScriptModel) (ordered : (n : ℕ) → HasParent script.acts n
       let found : OnLane = on_lane_by (slice_get script.acts n) refl in
       both (is_op script n) (is_op script caller) (same_lane (lane_of script caller) of) (same_lane (lane_of script n) of) found.op of_lane (ap (λ l. same_lane l of) found.lane)
 
-  pub callee_of : (of : Option Lane) → is_of script of caller ≡ true → is_of script of n ≡ true
+  pub callee_of : (of : Option Lane) → is_op_of script of caller ≡ true → is_op_of script of n ≡ true
   callee_of (Some lane) of_lane = callee_of_lane lane of_lane
   callee_of None op = let found : OnLane = on_lane_by (slice_get script.acts n) refl in found.op
 
@@ -114,7 +114,7 @@ op_within script n is = elim (cases_lt n (length script.acts)) [
       absurd (cc (none, is))
 ]
 
-pub of_within : (script : ScriptModel) (of : Option Lane) (n : ℕ) → is_of script of n ≡ true → n < length script.acts
+pub of_within : (script : ScriptModel) (of : Option Lane) (n : ℕ) → is_op_of script of n ≡ true → n < length script.acts
 of_within script (Some lane) n is = op_within script n (first_of (is_op script n) (same_lane (lane_of script n) lane) is).0
 of_within script None n is = op_within script n is
 

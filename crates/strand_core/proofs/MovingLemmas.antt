@@ -9,7 +9,7 @@ use Rattle.std.proofs.lemmas.Option.{slice_get-get_or, slice_get_within}
 use Rattle.asio_types.specs.declared.number.Lane.{Lane}
 use Rattle.session_script.specs.Script.{ScriptModel, parent_of}
 use Rattle.session_script.specs.WellFormed.{HasParent}
-use Rattle.strand_core.specs.Hands.{KeepsInline, behind, in_list, is_of, is_of_lane, left_at, or_else, same_lane, taken_at}
+use Rattle.strand_core.specs.Hands.{KeepsInline, behind, in_list, is_op_of, is_of_lane, left_at, or_else, same_lane, taken_at}
 use Rattle.strand_core.proofs.BehindLemmas.{free-behind, free_at, in_behind, length-behind, none_before, none_past, set-behind}
 use Rattle.strand_core.proofs.HandLemmas.{is_within, taken_other, taken_same}
 use Rattle.strand_core.proofs.LaneLemmas.{callee_of, lanes_apart, of_within}
@@ -101,7 +101,7 @@ module _ {H : Type 0} (of_lane : ℕ → Bool) (first end : ℕ) (spans : Spans 
     ]
 
 -- a rack from which nothing was taken has the handlers of every lane
-pub whole_has : {H : Type 0} (script : ScriptModel) (of : Option Lane) (hs : List (Option H)) → All IsSome hs → length script.acts ≤ length hs → (n : ℕ) → is_of script of n ≡ true → IsSome (in_list hs n)
+pub whole_has : {H : Type 0} (script : ScriptModel) (of : Option Lane) (hs : List (Option H)) → All IsSome hs → length script.acts ≤ length hs → (n : ℕ) → is_op_of script of n ≡ true → IsSome (in_list hs n)
 whole_has script of hs whole long n is =
     let within : n < length hs = omega (arith, long, of_within script of n is) in
     subst IsSome (sym (ap option_flatten (slice_get-get_or hs n None within))) (whole n None within)
@@ -126,10 +126,10 @@ room_for_taken of_lane all left hs size taken is_left n some =
 
 -- the handlers of a lane, or of all, are held with those of all that execute inside them
 pub keeps_of : {H : Type 0} (script : ScriptModel) (ordered : (n : ℕ) → HasParent script.acts n (parent_of script n)) (of : Option Lane) (all hs : List (Option H)) →
-    ((n : ℕ) → is_of script of n ≡ true → IsSome (in_list all n)) → ((n : ℕ) → in_list hs n ≡ taken_at (is_of script of n) (in_list all n)) → KeepsInline script hs
+    ((n : ℕ) → is_op_of script of n ≡ true → IsSome (in_list all n)) → ((n : ℕ) → in_list hs n ≡ taken_at (is_op_of script of n) (in_list all n)) → KeepsInline script hs
 keeps_of script ordered of all hs there taken caller some n inside =
-    let of_lane : is_of script of caller ≡ true = was_of_lane (is_of script of caller) (in_list all caller) (subst IsSome (taken caller) some) in
-    let callee : is_of script of n ≡ true = callee_of script ordered caller n inside of of_lane in
+    let of_lane : is_op_of script of caller ≡ true = was_of_lane (is_op_of script of caller) (in_list all caller) (subst IsSome (taken caller) some) in
+    let callee : is_op_of script of n ≡ true = callee_of script ordered caller n inside of of_lane in
     subst IsSome (sym (taken n ∙ ap (λ b. taken_at b (in_list all n)) callee)) (there n callee)
 
 -- the handlers below number a are back: those of a list from its first number on are in another

@@ -60,9 +60,9 @@ abbrev pub is_of_lane : ScriptModel → Lane → ℕ → Bool
 is_of_lane script at n = is_op script n && same_lane (lane_of script n) at
 
 -- whether an act is an operation of this lane, or of any where none is named
-abbrev pub is_of : ScriptModel → Option Lane → ℕ → Bool
-is_of script (Some lane) n = is_of_lane script lane n
-is_of script None n = is_op script n
+abbrev pub is_op_of : ScriptModel → Option Lane → ℕ → Bool
+is_op_of script (Some lane) n = is_of_lane script lane n
+is_op_of script None n = is_op script n
 
 -- what is at a number where some operations are taken out of one list into another
 abbrev pub taken_at : {H : Type 0} → Bool → Option H → Option H

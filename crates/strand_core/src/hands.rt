@@ -2,7 +2,7 @@ ghost use Rattle.std.specs.Prelude.{◌≡◌, ◌<◌, ℕ, length, true, None,
 ghost use Rattle.std.specs.Option.{option_map};
 ghost use Rattle.op_handlers.specs.Rack.{handler_at, handlers_in};
 ghost use Rattle.session_script.specs.Script.{is_op};
-ghost use Rattle.strand_core.specs.Hands.{CallerIsGone, HasInlineOf, held_at, is_of, is_of_lane, left_at, or_else, taken_at};
+ghost use Rattle.strand_core.specs.Hands.{CallerIsGone, HasInlineOf, held_at, is_op_of, is_of_lane, left_at, or_else, taken_at};
 
 use crate::lane::{is_of, span_of};
 use asio_types::{ActNo, Lane, NoMemory, OpNo};
@@ -112,12 +112,12 @@ impl<'a, H> Hands<'a, H> {
         lane: Option<Lane>,
         rack: &mut Rack<H>,
     ) -> Result<Hands<'a, H>, NoMemory>
-        requires { (n : ℕ) → is_of script.now lane n ≡ true → IsSome (handler_at rack.old n) }
+        requires { (n : ℕ) → is_op_of script.now lane n ≡ true → IsSome (handler_at rack.old n) }
         ensures script { IfOk result (λ hands. hands.script ≡ script.now) }
         ensures held { IfOk result (λ hands. (n : ℕ) →
-            held_at hands n ≡ taken_at (is_of script.now lane n) (handler_at rack.old n)) }
+            held_at hands n ≡ taken_at (is_op_of script.now lane n) (handler_at rack.old n)) }
         ensures left { IfOk result (λ hands. (n : ℕ) →
-            handler_at rack.new n ≡ left_at (is_of script.now lane n) (handler_at rack.old n)) }
+            handler_at rack.new n ≡ left_at (is_op_of script.now lane n) (handler_at rack.old n)) }
         ensures count { IfOk result (λ hands. length (handlers_in rack.new) ≡ length (handlers_in rack.old)) }
         ensures refused { IfErr result (λ fault. rack.new ≡ rack.old) }
     {

@@ -1,5 +1,5 @@
 ghost use Rattle.std.specs.Prelude.{◌≡◌, ℕ, ◌<◌, ◌≤◌, true, length};
-ghost use Rattle.strand_core.specs.Hands.{is_of, is_of_lane, same_lane};
+ghost use Rattle.strand_core.specs.Hands.{is_op_of, is_of_lane, same_lane};
 
 use asio_types::{ActNo, Lane, OpNo};
 use session_script::Script;
@@ -27,7 +27,7 @@ fn is_of_lane(script: &Script, lane: Lane, a: ActNo) -> bool
 /// Whether an act is an operation of this lane, or of any where none is named.
 pub(crate) fn is_of(script: &Script, lane: Option<Lane>, a: ActNo) -> bool
     requires { a < length script.now.acts }
-    ensures { result ≡ is_of script.now lane a }
+    ensures { result ≡ is_op_of script.now lane a }
 {
     match lane {
         Some(lane) => is_of_lane(script, lane, a),
@@ -40,7 +40,7 @@ pub(crate) fn is_of(script: &Script, lane: Option<Lane>, a: ActNo) -> bool
 pub(crate) fn span_of(script: &Script, lane: Option<Lane>) -> (OpNo, OpNo)
     ensures ordered { result.0 ≤ result.1 }
     ensures within { result.1 ≤ length script.now.acts }
-    ensures spans { (n : ℕ) → is_of script.now lane n ≡ true → (result.0 ≤ n) × (n < result.1) }
+    ensures spans { (n : ℕ) → is_op_of script.now lane n ≡ true → (result.0 ≤ n) × (n < result.1) }
 {
     match lane {
         Some(lane) => lane_span(script, lane),

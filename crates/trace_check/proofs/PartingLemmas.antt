@@ -5,10 +5,10 @@ use Rattle.std.proofs.Math.Seq.{drop-append_seam, get_or-append_seam, take-appen
 use Rattle.std.proofs.lemmas.Bool.{cases_lt}
 use Rattle.std.proofs.lemmas.List.{drop-drop, get_or-take, length-drop, length-take, length-take-le, take-append-drop, take_more}
 use Rattle.history_book.specs.Trace.{line_end}
-use Rattle.trace_check.specs.Parting.{AreLines, HasNoParting, IsParted, Parts, StandsAt, parting_line}
+use Rattle.trace_check.specs.Parting.{AreLines, HasNoParting, IsParted, Parts, LineStandsAt, parting_line}
 
 -- a place where it stands parts the input
-parted_at : (input : List ℕ) (at : ℕ) → StandsAt input at → IsParted input (take at input) (drop (at + 3) input)
+parted_at : (input : List ℕ) (at : ℕ) → LineStandsAt input at → IsParted input (take at input) (drop (at + 3) input)
 parted_at input at stands =
     record {
       text =
@@ -40,7 +40,7 @@ lines_end input at inside some = (back, λ same. inr (take (at - 1) input, last 
         sym (get_or-take at input (at - 1) 0 (omega arith)) ∙ ap (λ xs. get_or xs (at - 1) 0) ends ∙ ap (λ n. get_or (front ++ line_end) n 0) place ∙ get_or-append_seam front 10 [] 0
 
 -- and where the input is parted, it stands
-stands_between : (before after input : List ℕ) → IsParted input before after → StandsAt input (length before)
+stands_between : (before after input : List ℕ) → IsParted input before after → LineStandsAt input (length before)
 stands_between before after input parted =
     record {
       line = ap (λ xs. take 3 (drop (length before) xs)) parted.text ∙ ap (take 3) (drop-append_seam before (parting_line ++ after));
@@ -53,7 +53,7 @@ stands_inside before after input parted =
     omega (arith, ap length parted.text, length-append before (parting_line ++ after), length-append parting_line after)
 
 -- the first place where it stands parts the input
-pub first_parts : (input : List ℕ) (at : ℕ) → at ≤ length input → StandsAt input at → ((k : ℕ) → k < at → StandsAt input k → ⊥) → Parts input (take at input) (drop (at + 3) input)
+pub first_parts : (input : List ℕ) (at : ℕ) → at ≤ length input → LineStandsAt input at → ((k : ℕ) → k < at → LineStandsAt input k → ⊥) → Parts input (take at input) (drop (at + 3) input)
 first_parts input at inside stands none =
     record {
       parted = parted_at input at stands;
@@ -65,7 +65,7 @@ first_parts input at inside stands none =
     by_place before after parted (inr more) = omega (arith, length-take-le at input inside, more)
 
 -- where it stands nowhere, nothing parts the input
-pub no_parting : (input : List ℕ) → ((k : ℕ) → k < length input → StandsAt input k → ⊥) → HasNoParting input
+pub no_parting : (input : List ℕ) → ((k : ℕ) → k < length input → LineStandsAt input k → ⊥) → HasNoParting input
 no_parting input none before after parted =
     none (length before) (stands_inside before after input parted) (stands_between before after input parted)
 

@@ -21,7 +21,7 @@ abbrev pub AreLines : List ℕ → Type 0
 AreLines text = (text ≡ []) ⊎ ((front : List ℕ) × (text ≡ front ++ line_end))
 
 -- the line stands at this place, behind whole lines
-pub record StandsAt (input : List ℕ) (at : ℕ) : Type 0 where
+pub record LineStandsAt (input : List ℕ) (at : ℕ) : Type 0 where
   pub line : take 3 (drop at input) ≡ parting_line
   pub lines : AreLines (take at input)
 

@@ -1,5 +1,5 @@
 ghost use Rattle.std.specs.Prelude.{◌≡◌, ◌+◌, ◌≤◌, ◌↔◌, length, take, IsTrue, IfSome, IfNone};
-ghost use Rattle.trace_check.specs.Parting.{AreLines, HasNoParting, Parts, StandsAt, parting_line};
+ghost use Rattle.trace_check.specs.Parting.{AreLines, HasNoParting, Parts, LineStandsAt, parting_line};
 
 use crate::reading::MOST_TRACE;
 use session_script::MOST_BYTES;
@@ -38,7 +38,7 @@ fn is_line_start(input: &[u8], at: usize) -> bool
 /// Whether the line stands at this place, behind whole lines.
 fn stands_at(input: &[u8], at: usize) -> bool
     requires { at ≤ length input.now }
-    ensures stands { IsTrue result ↔ StandsAt input.now at }
+    ensures stands { IsTrue result ↔ LineStandsAt input.now at }
     ensures fits { IsTrue result → at + 3 ≤ length input.now }
 {
     begins_with_it(&input[at..]) && is_line_start(input, at)

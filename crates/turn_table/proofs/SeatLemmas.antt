@@ -4,7 +4,7 @@ use Rattle.std.proofs.lemmas.List.{reverse-append}
 use Rattle.atomic_table.specs.Seated.{TableId}
 use Rattle.turn_table.specs.declared.place.TurnView.{TurnView}
 use Rattle.turn_table.specs.Numbers.{Has, run_from}
-use Rattle.turn_table.specs.Seated.{Seated, seated, IsReady, Lanes, StandsForTwo, first_seat, new_seat, without_greatest, greatest_alone}
+use Rattle.turn_table.specs.Seated.{Seated, seated, IsSeatReady, Lanes, StandsForTwo, first_seat, new_seat, without_greatest, greatest_alone}
 use Rattle.turn_table.proofs.NumberLemmas.{has_run, run-greatest, run-without_greatest}
 
 pub record IsSat (seat : Seated) (view : TurnView) : Type 0 where
@@ -18,7 +18,7 @@ abbrev head_or : TurnView → List TurnView → TurnView
 head_or d [] = d
 head_or d (v ∷ vs) = v
 
-pub sat : (table : TableId) (views : List TurnView) (seat : Seated) (view : TurnView) → IsReady views → seated table views ≡ seat → views ≡ view ∷ [] → IsSat seat view
+pub sat : (table : TableId) (views : List TurnView) (seat : Seated) (view : TurnView) → IsSeatReady views → seated table views ≡ seat → views ≡ view ∷ [] → IsSat seat view
 sat table views seat view ready is sole = let same : ready.view ≡ view = ap (head_or view) (sym ready.sole ∙ sole) in let seen : seat ≡ seated table (view ∷ []) = sym is ∙ ap (seated table) sole in record {
   hand = ap (λ (v : TurnView). v.hand) (sym same) ∙ ready.hand;
   number = (ready.number, subst (λ (v : TurnView). Has v.numbers ready.number) same ready.stands);

@@ -77,7 +77,7 @@ seated table [] = record { table = table; seats = 0; turns = []; numbers = []; m
 seated table (view ∷ _) = record { table = table; seats = view.seats; turns = view.turns; numbers = view.numbers; misses = view.misses }
 
 -- between two calls a seat has one view, has no slot in its hand, and stands for a number
-pub record IsReady (views : List TurnView) : Type 0 where
+pub record IsSeatReady (views : List TurnView) : Type 0 where
   pub view : TurnView
   pub sole : views ≡ view ∷ []
   pub hand : view.hand ≡ None

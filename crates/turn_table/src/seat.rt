@@ -14,13 +14,13 @@ pub struct TurnSeat {
 }
 
 impl Model for TurnSeat {
-    ghost use Rattle.turn_table.specs.Seated.{Seated, seated, IsReady};
+    ghost use Rattle.turn_table.specs.Seated.{Seated, seated, IsSeatReady};
 
     ghost Value = { Seated };
 
     ghost view = { λ s. seated s.badge.table_id s.badge.views };
 
-    ghost invariant = { λ s. IsReady s.badge.views };
+    ghost invariant = { λ s. IsSeatReady s.badge.views };
 }
 
 /// The seats that were made with a table and not given out yet. Contracts see the list of them, the next one first.

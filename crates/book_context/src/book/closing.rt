@@ -3,7 +3,7 @@ ghost use Rattle.history_book.specs.Rounds.{MayRestart};
 ghost use Rattle.book_context.specs.BookSteps.{CannotClose, HasClosed, IsClosing, IsGoing};
 ghost use Rattle.book_context.specs.Recorded.{recorded_state};
 ghost use Rattle.book_context.specs.Recording.{with_closing, with_outside_stop, with_restart};
-ghost use Rattle.book_context.specs.Steps.{GoesOn};
+ghost use Rattle.book_context.specs.Steps.{EventIsRecorded};
 
 use super::Book;
 use super::wait::has_work;
@@ -17,7 +17,7 @@ use reactor_trait::Reactor;
 impl<'a, X: Reactor, H: CompletionHandler, N: Session> Book<'a, X, H, N> {
     /// The event by which the round may close now, and whether it leaves the context stopped.
     fn closing(&self) -> Option<(Event, bool)>
-        ensures closes { IfSome result (λ closing. IsClosing closing.0 × GoesOn N.told self.now.recording closing.0
+        ensures closes { IfSome result (λ closing. IsClosing closing.0 × EventIsRecorded N.told self.now.recording closing.0
             (with_closing closing.0 closing.1 self.now.recording)) }
         ensures cannot { IfNone result (CannotClose self.now.recording.script N.told self.now.recording) }
     {

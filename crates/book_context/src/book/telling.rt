@@ -1,6 +1,6 @@
 ghost use Rattle.std.specs.Prelude.{◌≡◌, ◌<◌, IsTrue, true, false};
 ghost use Rattle.book_context.specs.Book.{IsTurned, KeepsHistory};
-ghost use Rattle.book_context.specs.InTurn.{HasTold, IsInTurn};
+ghost use Rattle.book_context.specs.InTurn.{HasOnlyTold, IsInTurn};
 ghost use Rattle.book_context.specs.Recorded.{recorded_half};
 
 use crate::law::turns_are_recorded;
@@ -19,7 +19,7 @@ fn tell_next<'a, X: Reactor, N: Session>(
     ensures history { KeepsHistory N.script N.told N.run N.drop N.outside record.new }
     ensures turn { IsInTurn X.state X.told N.told record.new proactor.new }
     ensures reactor { proactor.new.reactor ≡ proactor.old.reactor }
-    ensures told { HasTold N.told record.old record.new }
+    ensures told { HasOnlyTold N.told record.old record.new }
     ensures fewer { result ≡ true → record.new.spare < record.old.spare }
     ensures whole { result ≡ false → IsTurned X.state X.told (recorded_half N.told record.new) proactor.new }
 {
@@ -43,7 +43,7 @@ pub(super) fn tell_all<'a, X: Reactor, N: Session>(
     ensures history { KeepsHistory N.script N.told N.run N.drop N.outside record.new }
     ensures turn { IsInTurn X.state X.told N.told record.new proactor.new }
     ensures reactor { proactor.new.reactor ≡ proactor.old.reactor }
-    ensures told { HasTold N.told record.old record.new }
+    ensures told { HasOnlyTold N.told record.old record.new }
     ensures whole { IsTurned X.state X.told (recorded_half N.told record.new) proactor.new }
 {
     while tell_next::<X, N>(record, proactor) {}

@@ -1,4 +1,4 @@
-ghost use Rattle.book_context.specs.BookSteps.{Answers};
+ghost use Rattle.book_context.specs.BookSteps.{TurnAnswers};
 
 use super::Book;
 use super::execution::execute_next;
@@ -16,7 +16,7 @@ impl<'a, X: Reactor, H: CompletionHandler, N: Session> Book<'a, X, H, N> {
     /// the round runs, waits for the outside (Asio reference, io_context::run_one and poll_one). A turn of the reactor is
     /// whole: all that completes by it is ready. Takes no memory.
     pub fn turn(&mut self) -> BookTurn
-        ensures { Answers X.faults N.script N.told N.run result self.old self.new }
+        ensures { TurnAnswers X.faults N.script N.told N.run result self.old self.new }
     {
         openings_are_recorded();
         if self.record.stopped() {

@@ -6,7 +6,7 @@ use Rattle.composed_ops.specs.Asking.{Asking}
 use Rattle.history_book.specs.Untold.{may_give_read}
 use Rattle.proactor_core.specs.declared.pending.PendingOp.{PendingOp}
 use Rattle.proactor_core.specs.Due.{Due}
-use Rattle.proactor_core.specs.Pending.{pending_read, progress_in, reading_in, unmoved, IsNewRead}
+use Rattle.proactor_core.specs.Pending.{pending_read, progress_in, reading_asked, unmoved, IsNewRead}
 use Rattle.proactor_core.proofs.QueueLemmas.{gives-end, gives-go-on, head-unmoved, may-read, reads-go-on, reads-behind}
 use Rattle.proactor_core.proofs.ReadingLemmas.{changes-on, there-still}
 use Rattle.proactor_core.proofs.pending.serve_reads.Goals as goal
@@ -21,7 +21,7 @@ returns-in-None-clause-gives g c =
     let later : PendingOp = record { op = head.op; accepted = head.accepted; machine = c.serve_read.new.machine } in
     let queue = c.loop-head.queue.items in
     let new = c.push_front_reserved.new.self.items in
-    let asks = ap reading_in c.in_ok-serve_read.ensures.asks in
+    let asks = ap reading_asked c.in_ok-serve_read.ensures.asks in
     let same : unmoved (pending_read head) ≡ unmoved (pending_read later) =
     ap (λ (asks : Reading). let p : Pending Reading = record { op = head.op; accepted = head.accepted; asks = asks; moved = 0 } in p) (sym asks) in
     gives-end may_give_read (map pending_read c.args.queue.now.items) (map pending_read queue) (map pending_read new) c.args.due.now c.loop-head.due (head-unmoved pending_read head later c.pop_front.new.self.items queue new c.in-Some.ensures.items c.push_front_reserved.ensures.items same) c.loop-head.invariant.gives

@@ -6,7 +6,7 @@ use Rattle.composed_ops.specs.Asking.{Asking}
 use Rattle.history_book.specs.Untold.{may_give_write}
 use Rattle.proactor_core.specs.declared.pending.PendingOp.{PendingOp}
 use Rattle.proactor_core.specs.Due.{Due}
-use Rattle.proactor_core.specs.Pending.{pending_write, progress_in, writing_in, unmoved}
+use Rattle.proactor_core.specs.Pending.{pending_write, progress_in, writing_asked, unmoved}
 use Rattle.proactor_core.specs.Reactor.{whole_told}
 use Rattle.proactor_core.proofs.QueueLemmas.{gives-end, gives-go-on, head-unmoved, may-write, rules-over, writes-go-on, writes-kept, writes-stay}
 use Rattle.proactor_core.proofs.ReadingLemmas.{changes-on, there-still}
@@ -22,7 +22,7 @@ returns-in-None-clause-gives g c =
     let later : PendingOp = record { op = head.op; accepted = head.accepted; machine = c.serve_write.new.machine } in
     let queue = c.loop-head.queue.items in
     let new = c.push_front_reserved.new.self.items in
-    let asks = ap writing_in c.in_ok-serve_write.ensures.asks in
+    let asks = ap writing_asked c.in_ok-serve_write.ensures.asks in
     let same : unmoved (pending_write head) ≡ unmoved (pending_write later) =
     ap (λ (asks : Writing). let p : Pending Writing = record { op = head.op; accepted = head.accepted; asks = asks; moved = 0 } in p) (sym asks) in
     gives-end may_give_write (map pending_write c.args.queue.now.items) (map pending_write queue) (map pending_write new) c.args.due.now c.loop-head.due (head-unmoved pending_write head later c.pop_front.new.self.items queue new c.in-Some.ensures.items c.push_front_reserved.ensures.items same) c.loop-head.invariant.gives
@@ -46,7 +46,7 @@ returns-in-None-clause-served g c = λ held.
     let before = rw popped at c.loop-head.invariant.served in
     let writes = rw popped at c.loop-head.invariant.writes in
     let follows = rw c.in-None.is at c.in_ok-serve_write.ensures.follows in
-    let asks = ap writing_in c.in_ok-serve_write.ensures.asks in
+    let asks = ap writing_asked c.in_ok-serve_write.ensures.asks in
     let same : pending_write later ≡ record (pending_write head) { moved = (progress_in later).moved } =
     ap (λ (asks : Writing). let p : Pending Writing = record { op = head.op; accepted = head.accepted; asks = asks; moved = (progress_in later).moved } in p) asks in
     let stays = writes-stay (g.X.Reactor.told c.args.reactor.now) (g.X.Reactor.told c.loop-head.reactor) (g.X.Reactor.told c.serve_write.new.reactor) c.args.stream (map pending_write c.args.queue.now.items) head later c.pop_front.new.self.items held c.args.due.now c.loop-head.due c.loop-head.invariant.told (writes 0 head (omega arith)).writes same (follows held) (before held) in

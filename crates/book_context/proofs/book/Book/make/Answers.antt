@@ -5,7 +5,7 @@ use Rattle.session_script.specs.Script.{is_op}
 use Rattle.history_book.specs.State.{first_reactor}
 use Rattle.proactor_core.specs.Proactor.{Follows}
 use Rattle.book_context.specs.Left.{most_history}
-use Rattle.book_context.specs.Recording.{HasOpened, new_recording}
+use Rattle.book_context.specs.Recording.{HasCalledOpening, new_recording}
 use Rattle.book_context.proofs.MakeLemmas.{held_marks, opened_book, some_marked}
 use Rattle.book_context.proofs.book.Book.make.Goals as goal
 
@@ -33,5 +33,5 @@ invariant_of-result g c =
       same_tells = made.tells ∙ sym c.requires.told;
       counted = made.counted ∙ sym c.requires.faults;
     })
-    (subst (λ r. HasOpened r c.open.new.self) c.in-Ok.ensures c.open.ensures)
+    (subst (λ r. HasCalledOpening r c.open.new.self) c.in-Ok.ensures c.open.ensures)
     c.openings_are_recorded.ensures.openings c.executions_show_marks.ensures.calls c.executions_show_marks.ensures.openings

@@ -2,14 +2,14 @@ use Rattle.std.proofs.Common.{◌≡◌, sym, subst}
 use Rattle.asio_types.specs.declared.event.Event.TheVariants as event
 use Rattle.book_context.specs.Book.{IsBook}
 use Rattle.book_context.specs.Recording.{with_restart}
-use Rattle.book_context.specs.Steps.{GoesOn}
+use Rattle.book_context.specs.Steps.{EventIsRecorded}
 use Rattle.book_context.proofs.ClosingStepLemmas.{may_restart, restarted_book, was_allowed}
 use Rattle.book_context.proofs.book.Book.restart.Given as given
 use Rattle.book_context.proofs.book.Book.restart.Goals as goal
 use Rattle.book_context.proofs.book.Book.restart.Goals.{After-rounds_are_recorded}
 
 goes : (g : given.Over) (c : After-rounds_are_recorded g) →
-    GoesOn g.N.Session.told c.self.inside.record event.Restart (with_restart c.self.inside.record)
+    EventIsRecorded g.N.Session.told c.self.inside.record event.Restart (with_restart c.self.inside.record)
 goes g c =
     may_restart g.N.Session.script g.N.Session.told g.N.Session.run g.N.Session.drop g.N.Session.faults g.N.Session.outside
     g.H.CompletionHandler.marks g.X.Reactor.state g.X.Reactor.told g.X.Reactor.faults

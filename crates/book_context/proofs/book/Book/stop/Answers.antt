@@ -3,14 +3,14 @@ use Rattle.asio_types.specs.declared.event.Event.TheVariants as event
 use Rattle.std.specs.Prelude.{None}
 use Rattle.book_context.specs.Book.{IsBook}
 use Rattle.book_context.specs.Recording.{with_outside_stop}
-use Rattle.book_context.specs.Steps.{GoesOn}
+use Rattle.book_context.specs.Steps.{EventIsRecorded}
 use Rattle.book_context.proofs.ClosingStepLemmas.{may_stop_outside, now_going, outside_book}
 use Rattle.book_context.proofs.book.Book.stop.Given as given
 use Rattle.book_context.proofs.book.Book.stop.Goals as goal
 use Rattle.book_context.proofs.book.Book.stop.Goals.{After-rounds_are_recorded}
 
 goes : (g : given.Over) (c : After-rounds_are_recorded g) →
-    GoesOn g.N.Session.told c.self.inside.record (event.Stop None) (with_outside_stop c.self.inside.record)
+    EventIsRecorded g.N.Session.told c.self.inside.record (event.Stop None) (with_outside_stop c.self.inside.record)
 goes g c =
     may_stop_outside g.N.Session.script g.N.Session.told g.N.Session.run g.N.Session.drop g.N.Session.faults g.N.Session.outside
     g.H.CompletionHandler.marks g.X.Reactor.state g.X.Reactor.told g.X.Reactor.faults

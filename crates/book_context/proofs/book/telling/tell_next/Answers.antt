@@ -1,7 +1,7 @@
 use Rattle.std.proofs.Common.{◌≡◌, ◌<◌, sym, ap, subst, ◌∙◌, arith}
 use Rattle.std.specs.Prelude.{Some}
 use Rattle.book_context.specs.Book.{IsTurned, KeepsHistory}
-use Rattle.book_context.specs.InTurn.{HasTold, IsInTurn}
+use Rattle.book_context.specs.InTurn.{HasOnlyTold, IsInTurn}
 use Rattle.book_context.specs.Recorded.{recorded_half}
 use Rattle.book_context.specs.TurnSteps as steps
 use Rattle.book_context.proofs.ToldLemmas.{done_history, done_told, done_turn, step, still_works, turned-none}
@@ -11,7 +11,7 @@ use Rattle.book_context.proofs.book.telling.tell_next.Given as given
 use Rattle.book_context.proofs.book.telling.tell_next.Goals as goal
 use Rattle.book_context.proofs.book.telling.tell_next.Goals.{After-push_done-arg-1}
 
-told_one : (g : given.Over) (c : After-push_done-arg-1 g) → steps.HasTold g.N.Session.told c.args.record.now c.in-Some.op c.in-Some.code c.in-Some.size
+told_one : (g : given.Over) (c : After-push_done-arg-1 g) → steps.CompletionIsRecorded g.N.Session.told c.args.record.now c.in-Some.op c.in-Some.code c.in-Some.size
 told_one g c =
     step g.X.Reactor.state g.X.Reactor.told g.N.Session.told g.N.Session.script g.N.Session.run g.N.Session.drop g.N.Session.outside c.args.record.now c.args.proactor.now c.requires.history c.requires.turn
     c.in-Some.op c.in-Some.code c.in-Some.size c.turns_are_recorded.ensures.completions c.in-Some.ensures.allowed
@@ -39,7 +39,7 @@ returns-in-Some-clause-turn g c =
 
 pub returns-in-Some-clause-told : goal.returns-in-Some-clause-told
 returns-in-Some-clause-told g c =
-    subst (HasTold g.N.Session.told c.args.record.now) (sym c.push_done.ensures)
+    subst (HasOnlyTold g.N.Session.told c.args.record.now) (sym c.push_done.ensures)
     (done_told g.X.Reactor.state g.X.Reactor.told g.N.Session.told g.N.Session.script g.N.Session.run g.N.Session.drop g.N.Session.outside c.args.record.now c.args.proactor.now c.requires.history c.requires.turn
     c.in-Some.op c.in-Some.code c.in-Some.size (told_one g (goal.at.returns-in-Some-clause-told g c).After-push_done-arg-1))
 

@@ -11,7 +11,7 @@ use Rattle.book_context.proofs.book.turn_steps.begin_tick.Given as given
 use Rattle.book_context.proofs.book.turn_steps.begin_tick.Goals as goal
 use Rattle.book_context.proofs.book.turn_steps.begin_tick.Goals.{After-turns_are_recorded}
 
-did : (g : given.Over) (c : After-turns_are_recorded g) → steps.HasTurned g.N.Session.told c.args.record.now (passed c.args.point.now) (with_event (passed c.args.point.now) c.args.record.now)
+did : (g : given.Over) (c : After-turns_are_recorded g) → steps.TurnIsBegun g.N.Session.told c.args.record.now (passed c.args.point.now) (with_event (passed c.args.point.now) c.args.record.now)
 did g c =
     point_turned g.N.Session.script g.N.Session.told g.N.Session.run g.N.Session.drop g.N.Session.outside c.args.record.now c.requires.history c.requires.waiting.turn.round
     c.turns_are_recorded.ensures.ticks c.turns_are_recorded.ensures.last c.requires.history.recorded c.requires.waiting c.args.point.now c.requires.next

@@ -5,7 +5,7 @@ use Rattle.strand_core.specs.Hands.{HasRunMark}
 use Rattle.strand_core.specs.declared.posted.Posted.{Posted}
 use Rattle.history_book.specs.History.{Recorded}
 use Rattle.book_context.specs.Listed.{Listed}
-use Rattle.book_context.specs.Recording.{HasRoom, Recording, with_calls}
+use Rattle.book_context.specs.Recording.{HasRoomForCalls, Recording, with_calls}
 use Rattle.book_context.proofs.RecordLemmas.{any_mark, calls_fit, calls_made, recording_of, room_stays}
 use Rattle.book_context.proofs.record.Record.execute.Goals as goal
 use Rattle.book_context.proofs.record.Record.execute.Given.{Over}
@@ -18,12 +18,12 @@ is_posted g c =
 
 -- there is room for them
 has_room : (g : Over) (c : After-as_slice g) →
-    HasRoom (recording_of c.self.inside.script.now c.self.inside.history c.self.inside.lists c.self.inside.stopped c.self.inside.restarted c.self.inside.closings) c.as_slice.result.now
+    HasRoomForCalls (recording_of c.self.inside.script.now c.self.inside.history c.self.inside.lists c.self.inside.stopped c.self.inside.restarted c.self.inside.closings) c.as_slice.result.now
 has_room g c =
-    let room : HasRoom c.args.self.now c.in-Whole.ensures.executed.calls =
+    let room : HasRoomForCalls c.args.self.now c.in-Whole.ensures.executed.calls =
     c.requires.room c.in-Whole.ensures.executed.calls (subst (λ (s : ScriptModel). IsWholeExecution s AnyMark c.args.op c.args.code c.args.size c.in-Whole.ensures.executed.calls) c.requires.script (any_mark c.in-Whole.ensures.executed.whole)) in
-    subst (λ calls. HasRoom (recording_of c.self.inside.script.now c.self.inside.history c.self.inside.lists c.self.inside.stopped c.self.inside.restarted c.self.inside.closings) calls) (sym (is_posted g c))
-    (subst (λ (r : Recording). HasRoom r c.in-Whole.ensures.executed.calls) (sym c.self.view_is) room)
+    subst (λ calls. HasRoomForCalls (recording_of c.self.inside.script.now c.self.inside.history c.self.inside.lists c.self.inside.stopped c.self.inside.restarted c.self.inside.closings) calls) (sym (is_posted g c))
+    (subst (λ (r : Recording). HasRoomForCalls r c.in-Whole.ensures.executed.calls) (sym c.self.view_is) room)
 
 pub execute-requires-clause-takes : goal.execute-requires-clause-takes
 execute-requires-clause-takes g c can calls whole =

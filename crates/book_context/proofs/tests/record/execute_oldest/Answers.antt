@@ -2,7 +2,7 @@ use Rattle.std.proofs.Common.{false, sym, ap, subst, ◌∙◌}
 use Rattle.session_script.specs.Lanes.{is_inline}
 use Rattle.session_script.specs.Script.{ScriptModel, is_op}
 use Rattle.strand_core.specs.Execution.{AnyMark, IsWholeExecution}
-use Rattle.book_context.specs.Recording.{HasRoom, Recording}
+use Rattle.book_context.specs.Recording.{HasRoomForCalls, Recording}
 use Rattle.book_context.specs.Steps.{MayExecute}
 use Rattle.book_context.proofs.tests.record.execute_oldest.Goals as goal
 use Rattle.book_context.proofs.tests.record.execute_oldest.Goals.{In-Some}
@@ -24,5 +24,5 @@ execute-requires-clause-room c calls whole =
     let may = oldest (goal.at.execute-requires-clause-room c).In-Some in
     let here : IsWholeExecution c.args.record.now.script AnyMark c.in-Some.op c.in-Some.code c.in-Some.size calls =
     subst (λ (s : ScriptModel). IsWholeExecution s AnyMark c.in-Some.op c.in-Some.code c.in-Some.size calls) (ap (λ (r : Recording). r.script) c.pop_ready.ensures.after) whole in
-    subst (λ (r : Recording). HasRoom r calls) (sym c.pop_ready.ensures.after)
+    subst (λ (r : Recording). HasRoomForCalls r calls) (sym c.pop_ready.ensures.after)
     (record { events = may.events calls here; ready = may.postings calls here; requests = may.requests calls here })

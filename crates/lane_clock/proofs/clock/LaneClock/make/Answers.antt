@@ -1,6 +1,6 @@
 use Rattle.std.proofs.Common.{◌≡◌, ap, ◌∙◌, sym, arith, subst, [], ◌+◌, ◌^◌, ◌<◌, ◌≤◌, length}
 use Rattle.atomic_table.specs.Table.{opening}
-use Rattle.lane_clock.specs.History.{IsKept, giver}
+use Rattle.lane_clock.specs.History.{HasOneHistory, giver}
 use Rattle.lane_clock.proofs.EndLemmas.{starts}
 use Rattle.lane_clock.proofs.clock.LaneClock.make.Goals as goal
 
@@ -12,4 +12,4 @@ of_words-requires c =
     let guards : c.in_ok-plan.plan.guards ≡ c.args.guards = ap (λ p. p.guards) plan in
     let few : c.in_ok-plan.plan.seats ≤ 2 ^ 15 = omega (arith, c.requires.seats) in
     let small : c.in_ok-plan.plan.guards < 2 ^ 15 = omega (arith, c.requires.guards) in
-    subst (λ ws. IsKept c.in_ok-plan.plan (opening ws [] (giver c.in_ok-plan.plan))) (sym words) (starts c.in_ok-plan.plan few small)
+    subst (λ ws. HasOneHistory c.in_ok-plan.plan (opening ws [] (giver c.in_ok-plan.plan))) (sym words) (starts c.in_ok-plan.plan few small)

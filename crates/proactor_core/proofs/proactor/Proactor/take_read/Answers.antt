@@ -4,7 +4,7 @@ use Rattle.composed_ops.specs.Asking.{Reads, size_of}
 use Rattle.composed_ops.specs.Machine.{progress_of}
 use Rattle.composed_ops.specs.Progress.{Progress, new_progress}
 use Rattle.history_book.specs.Performing.{read_accepted, with_taken}
-use Rattle.proactor_core.specs.Pending.{reading_in}
+use Rattle.proactor_core.specs.Pending.{reading_asked}
 use Rattle.proactor_core.specs.Proactor.{IsAt, IsTurning, ProactorView}
 use Rattle.proactor_core.specs.Streams.{bad_if_closed, read_begun, stream_in, with_stream_in}
 use Rattle.proactor_core.specs.Tables.{TableState, act_taken}
@@ -69,8 +69,8 @@ connect-requires g c =
     let within : n < length base.streams = omega (arith, declared, may.turning.room.fit.streams) in
     let opened = read_opened a s.accepted asks.reading (stream_in base.streams n) in
     let progress : Some (progress_of c.in-Some.machine) ≡ Some (new_progress (Reads asks.reading)) = ap (option_map progress_of) (sym c.in-Some.is) ∙ c.of.ensures.machine ∙ ap (option_map new_progress) asks.asks in
-    let is_asked : reading_in (progress_of c.in-Some.machine).asks ≡ asks.reading = let same : progress_of c.in-Some.machine ≡ new_progress (Reads asks.reading) = cc in ap (λ (p : Progress). reading_in p.asks) same in
-    let new : c.accept_read.new.self ≡ (begun a n opened base).streams = c.accept_read.ensures.accepted ∙ ap (λ m. with_stream_in n (read_begun a m (reading_in (progress_of c.in-Some.machine).asks)) base.streams) c.accepted-accepted.ensures ∙ ap (λ r. with_stream_in n (read_begun a s.accepted r) base.streams) is_asked in
+    let is_asked : reading_asked (progress_of c.in-Some.machine).asks ≡ asks.reading = let same : progress_of c.in-Some.machine ≡ new_progress (Reads asks.reading) = cc in ap (λ (p : Progress). reading_asked p.asks) same in
+    let new : c.accept_read.new.self ≡ (begun a n opened base).streams = c.accept_read.ensures.accepted ∙ ap (λ m. with_stream_in n (read_begun a m (reading_asked (progress_of c.in-Some.machine).asks)) base.streams) c.accepted-accepted.ensures ∙ ap (λ r. with_stream_in n (read_begun a s.accepted r) base.streams) is_asked in
     let later : c.accept_read.new.due ≡ (begun a n opened base).tables.due = c.accept_read.ensures.due ∙ ap (λ (t : TableState). bad_if_closed a (stream_in base.streams n) t.due) c.tables.view_is in
     let step = begun-turning g.X.Reactor.state g.X.Reactor.told base a n opened within (read-begins base.script a n s.accepted asks.reading it (stream_in base.streams n) may.is_act asks.side) may.untaken may.turning in
     record {
@@ -94,8 +94,8 @@ returns-clause-follows g c = λ half wanted is at.
     let within : n < length base.streams = omega (arith, declared, may.turning.room.fit.streams) in
     let opened = read_opened a s.accepted asks.reading (stream_in base.streams n) in
     let progress : Some (progress_of c.in-Some.machine) ≡ Some (new_progress (Reads asks.reading)) = ap (option_map progress_of) (sym c.in-Some.is) ∙ c.of.ensures.machine ∙ ap (option_map new_progress) asks.asks in
-    let is_asked : reading_in (progress_of c.in-Some.machine).asks ≡ asks.reading = let same : progress_of c.in-Some.machine ≡ new_progress (Reads asks.reading) = cc in ap (λ (p : Progress). reading_in p.asks) same in
-    let new : c.accept_read.new.self ≡ (begun a n opened base).streams = c.accept_read.ensures.accepted ∙ ap (λ m. with_stream_in n (read_begun a m (reading_in (progress_of c.in-Some.machine).asks)) base.streams) c.accepted-accepted.ensures ∙ ap (λ r. with_stream_in n (read_begun a s.accepted r) base.streams) is_asked in
+    let is_asked : reading_asked (progress_of c.in-Some.machine).asks ≡ asks.reading = let same : progress_of c.in-Some.machine ≡ new_progress (Reads asks.reading) = cc in ap (λ (p : Progress). reading_asked p.asks) same in
+    let new : c.accept_read.new.self ≡ (begun a n opened base).streams = c.accept_read.ensures.accepted ∙ ap (λ m. with_stream_in n (read_begun a m (reading_asked (progress_of c.in-Some.machine).asks)) base.streams) c.accepted-accepted.ensures ∙ ap (λ r. with_stream_in n (read_begun a s.accepted r) base.streams) is_asked in
     let later : c.accept_read.new.due ≡ (begun a n opened base).tables.due = c.accept_read.ensures.due ∙ ap (λ (t : TableState). bad_if_closed a (stream_in base.streams n) t.due) c.tables.view_is in
     let same : asks.reading ≡ wanted = let both : Some asks.reading ≡ Some wanted = sym asks.is_read ∙ is in cc in
     let law = (follow base.tables base.streams half).read a n asks.reading within ∙ ap (read_accepted a n asks.reading) here.works in

@@ -4,7 +4,7 @@ use Rattle.composed_ops.specs.Asking.{Writes}
 use Rattle.composed_ops.specs.Machine.{progress_of}
 use Rattle.composed_ops.specs.Progress.{Progress, new_progress}
 use Rattle.history_book.specs.Performing.{with_taken, write_accepted}
-use Rattle.proactor_core.specs.Pending.{writing_in}
+use Rattle.proactor_core.specs.Pending.{writing_asked}
 use Rattle.proactor_core.specs.Proactor.{IsAt, IsTurning, ProactorView}
 use Rattle.proactor_core.specs.Streams.{bad_if_closed, stream_in, with_stream_in, write_begun}
 use Rattle.proactor_core.specs.Tables.{TableState, act_taken}
@@ -52,8 +52,8 @@ connect-requires g c =
     let within : n < length base.streams = omega (arith, declared, may.turning.room.fit.streams) in
     let opened = write_opened a s.accepted asks.writing (stream_in base.streams n) in
     let progress : Some (progress_of c.in-Some.machine) ≡ Some (new_progress (Writes asks.writing)) = ap (option_map progress_of) (sym c.in-Some.is) ∙ c.of.ensures.machine ∙ ap (option_map new_progress) asks.asks in
-    let is_asked : writing_in (progress_of c.in-Some.machine).asks ≡ asks.writing = let same : progress_of c.in-Some.machine ≡ new_progress (Writes asks.writing) = cc in ap (λ (p : Progress). writing_in p.asks) same in
-    let new : c.accept_write.new.self ≡ (begun a n opened base).streams = c.accept_write.ensures.accepted ∙ ap (λ m. with_stream_in n (write_begun a m (writing_in (progress_of c.in-Some.machine).asks)) base.streams) c.accepted-accepted.ensures ∙ ap (λ r. with_stream_in n (write_begun a s.accepted r) base.streams) is_asked in
+    let is_asked : writing_asked (progress_of c.in-Some.machine).asks ≡ asks.writing = let same : progress_of c.in-Some.machine ≡ new_progress (Writes asks.writing) = cc in ap (λ (p : Progress). writing_asked p.asks) same in
+    let new : c.accept_write.new.self ≡ (begun a n opened base).streams = c.accept_write.ensures.accepted ∙ ap (λ m. with_stream_in n (write_begun a m (writing_asked (progress_of c.in-Some.machine).asks)) base.streams) c.accepted-accepted.ensures ∙ ap (λ r. with_stream_in n (write_begun a s.accepted r) base.streams) is_asked in
     let later : c.accept_write.new.due ≡ (begun a n opened base).tables.due = c.accept_write.ensures.due ∙ ap (λ (t : TableState). bad_if_closed a (stream_in base.streams n) t.due) c.tables.view_is in
     let step = begun-turning g.X.Reactor.state g.X.Reactor.told base a n opened within (write-begins base.script a n s.accepted asks.writing it (stream_in base.streams n) may.is_act asks.side) may.untaken may.turning in
     record {
@@ -77,8 +77,8 @@ returns-clause-follows g c = λ half wanted is at.
     let within : n < length base.streams = omega (arith, declared, may.turning.room.fit.streams) in
     let opened = write_opened a s.accepted asks.writing (stream_in base.streams n) in
     let progress : Some (progress_of c.in-Some.machine) ≡ Some (new_progress (Writes asks.writing)) = ap (option_map progress_of) (sym c.in-Some.is) ∙ c.of.ensures.machine ∙ ap (option_map new_progress) asks.asks in
-    let is_asked : writing_in (progress_of c.in-Some.machine).asks ≡ asks.writing = let same : progress_of c.in-Some.machine ≡ new_progress (Writes asks.writing) = cc in ap (λ (p : Progress). writing_in p.asks) same in
-    let new : c.accept_write.new.self ≡ (begun a n opened base).streams = c.accept_write.ensures.accepted ∙ ap (λ m. with_stream_in n (write_begun a m (writing_in (progress_of c.in-Some.machine).asks)) base.streams) c.accepted-accepted.ensures ∙ ap (λ r. with_stream_in n (write_begun a s.accepted r) base.streams) is_asked in
+    let is_asked : writing_asked (progress_of c.in-Some.machine).asks ≡ asks.writing = let same : progress_of c.in-Some.machine ≡ new_progress (Writes asks.writing) = cc in ap (λ (p : Progress). writing_asked p.asks) same in
+    let new : c.accept_write.new.self ≡ (begun a n opened base).streams = c.accept_write.ensures.accepted ∙ ap (λ m. with_stream_in n (write_begun a m (writing_asked (progress_of c.in-Some.machine).asks)) base.streams) c.accepted-accepted.ensures ∙ ap (λ r. with_stream_in n (write_begun a s.accepted r) base.streams) is_asked in
     let later : c.accept_write.new.due ≡ (begun a n opened base).tables.due = c.accept_write.ensures.due ∙ ap (λ (t : TableState). bad_if_closed a (stream_in base.streams n) t.due) c.tables.view_is in
     let same : asks.writing ≡ wanted = let both : Some asks.writing ≡ Some wanted = sym asks.is_write ∙ is in cc in
     let law = (follow base.tables base.streams half).write a n asks.writing within ∙ ap (write_accepted a n asks.writing) here.works in

@@ -6,7 +6,7 @@ use Rattle.stream_rules.specs.Queue.{Pending}
 use Rattle.stream_rules.specs.Serving.{Reading, Writing}
 use Rattle.history_book.specs.Performing.{all_aborted, is_of}
 use Rattle.proactor_core.specs.declared.pending.PendingOp.{PendingOp}
-use Rattle.proactor_core.specs.Aborting.{abort_of, is_op}
+use Rattle.proactor_core.specs.Aborting.{abort_of_pending, is_pending_op}
 use Rattle.proactor_core.specs.Due.{listed}
 use Rattle.proactor_core.specs.Pending.{pending_read, pending_write, progress_in}
 use Rattle.proactor_core.specs.Streams.{StreamView}
@@ -21,14 +21,14 @@ abort_in-requires-2 c =
     let writes = c.self.inside.writes.items in
     let room = rw (← c.self.view_is) at c.requires in
     let came = ap length c.abort_in.ensures.coming in
-    let more = length-append c.args.due.now.coming (map abort_of (filter (is_op op) reads)) in
+    let more = length-append c.args.due.now.coming (map abort_of_pending (filter (is_pending_op op) reads)) in
     omega (arith, room, came, more, aborts-fewer op reads, c.abort_in.ensures.room, length-map reads pending_read, length-map writes pending_write)
 
 pub invariant_of-self : goal.invariant_of-self
 invariant_of-self c =
     let op = c.args.op in
     let held = c.self.inside.held in
-    let stays = λ (pending : PendingOp). not (is_op op pending) in
+    let stays = λ (pending : PendingOp). not (is_pending_op op pending) in
     let reads = reads-filtered held.room held stays c.self.inside.reads.items c.self.invariant.are_reads in
     let writes = all-filtered (λ pending. MayWrite (progress_in pending)) stays c.self.inside.writes.items c.self.invariant.are_writes in
     record {
@@ -54,8 +54,8 @@ pub returns-clause-due : goal.returns-clause-due
 returns-clause-due c =
     let op = c.args.op in
     let old = c.args.due.now in
-    let reads = map abort_of (filter (is_op op) c.self.inside.reads.items) in
-    let writes = map abort_of (filter (is_op op) c.self.inside.writes.items) in
+    let reads = map abort_of_pending (filter (is_pending_op op) c.self.inside.reads.items) in
+    let writes = map abort_of_pending (filter (is_pending_op op) c.self.inside.writes.items) in
     let coming = c.abort_in-2.ensures.coming ∙ ap (λ (cs : List Completion). cs ++ writes) c.abort_in.ensures.coming ∙ append_assoc old.coming reads writes in
     let room = c.abort_in-2.ensures.room ∙ c.abort_in.ensures.room in
     let seen_reads = all_aborted (filter (is_of op) (map pending_read c.self.inside.reads.items)) in

@@ -1,5 +1,5 @@
 use Rattle.std.proofs.Common.{IfSome, IfNone, subst}
-use Rattle.ready_hints.specs.Hints.{Passed, passed, HasAllParts, IsHinted, IsSettled}
+use Rattle.ready_hints.specs.Hints.{Passed, passed, HasAllParts, IsHinted, IsPassSettled}
 use Rattle.ready_hints.proofs.HintLemmas.{pops, learns}
 use Rattle.ready_hints.proofs.PassLemmas.{knows_once, some_hinted, none_settled}
 use Rattle.ready_hints.proofs.hints.ReadyHints.next_hint.Goals as goal
@@ -18,5 +18,5 @@ returns-clause-hinted g c = subst (λ (p : Passed). IfSome c.pop_as.result (λ _
     (some_hinted c.pop_as.result c.pass.inside.pass.me.view.client c.pop_as.new.pass.me.view.client _ c.pop_as.ensures.rule)
 
 pub returns-clause-empty : goal.returns-clause-empty
-returns-clause-empty g c = subst (λ (p : Passed). IfNone c.pop_as.result (HasAllParts p → IsSettled p)) c.pass.view_is
+returns-clause-empty g c = subst (λ (p : Passed). IfNone c.pop_as.result (HasAllParts p → IsPassSettled p)) c.pass.view_is
     (none_settled c.pop_as.result c.pass.inside.pass.me.view.client c.pop_as.new.pass.me.view.client _ c.pop_as.ensures.rule)
