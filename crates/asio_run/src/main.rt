@@ -1,5 +1,5 @@
-//! The program: it makes the handlers of a session and the scripted world, and runs the session that standard input
-//! describes.
+//! The program: it makes the handlers of a session and the scripted world, and runs the session
+//! that standard input describes.
 #![tactic(auto)]
 
 ghost use Rattle.std.specs.Prelude.{◌≡◌, length};
@@ -55,7 +55,8 @@ fn words_of<R: Env + AllocGlobal>(rt: &R) -> Result<Vec<String>, NoMemory> {
     }
 }
 
-/// The status with which the program ends: what was written isn't all written before the last of it is out.
+/// The status with which the program ends: what was written isn't all written before the last of it
+/// is out.
 fn status_at_last(status: Status, flushed: Result<(), Failed>) -> Status {
     match (status, flushed) {
         (Status::Done | Status::ReactorFault, Err(Failed)) => Status::WriteFault,
@@ -63,8 +64,8 @@ fn status_at_last(status: Status, flushed: Result<(), Failed>) -> Status {
     }
 }
 
-/// The session that standard input describes, over the scripted world. Its note is kept until all is written, and is
-/// written then.
+/// The session that standard input describes, over the scripted world. Its note is kept until all
+/// is written, and is written then.
 fn session<R: Threads + Wait + Sync + Env + AllocGlobal, N: Sink, H: CompletionHandler + Send>(
     rt: &R,
     stdin: Stdin,

@@ -4,8 +4,9 @@ use asio_types::{Failed, NoMemory, Sink};
 use std::alloc::Global;
 use std::io::{BufWriter, Write};
 
-/// A writer behind a buffer, as a sink that tells nothing. Each error counts as a fault, and a write that takes no byte as
-/// one. What a trace writes piece by piece goes out some thousand bytes at a time.
+/// A writer behind a buffer, as a sink that tells nothing. Each error counts as a fault, and a
+/// write that takes no byte as one. What a trace writes piece by piece goes out some thousand bytes
+/// at a time.
 #[derive(Drop)]
 pub(crate) struct Output<W: Write + Drop> {
     buffered: BufWriter<W>,

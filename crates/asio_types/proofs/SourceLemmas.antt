@@ -3,7 +3,8 @@ use Rattle.std.proofs.lemmas.List.{nil_from_length}
 use Rattle.asio_types.specs.Source.{IsNextPart}
 
 -- a read that gave what it could, and nothing only where nothing is left
-pub next_bytes : (left : List ℕ) (n : ℕ) (buffer : List ℕ) → n ≤ length left → (n ≡ 0 → length left ≡ 0) → take n buffer ≡ take n left → IsNextPart left n buffer
+pub next_bytes : (left : List ℕ) (n : ℕ) (buffer : List ℕ) → n ≤ length left → (n ≡ 0 → length left ≡ 0) →
+    take n buffer ≡ take n left → IsNextPart left n buffer
 next_bytes left n buffer there empty same =
     record {
       there = there;

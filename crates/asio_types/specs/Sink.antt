@@ -1,4 +1,5 @@
--- What a write does to the bytes that a sink holds, where it tells them (compare AsyncWriteStream's write_some).
+-- What a write does to the bytes that a sink holds, where it tells them (compare AsyncWriteStream's
+-- write_some).
 use Rattle.asio_types.specs.Faults.{Plan, one_more}
 use Rattle.std.specs.Io.{StartsWith}
 use Rattle.std.specs.Prelude.{◌≡◌, ℕ, ◌-◌, ◌==◌, List, ◌++◌, length, Option, Some, None, ⊤, if◌then◌else◌, nat_le}
@@ -11,7 +12,8 @@ Extends (Some before) bytes (Some after) = after ≡ before ++ bytes
 
 -- what is told grew by a first part of these bytes
 abbrev pub ExtendsByPart : Option (List ℕ) → List ℕ → Option (List ℕ) → Type 0
-ExtendsByPart before bytes after = (piece : List ℕ) × StartsWith bytes piece × Extends before piece after
+ExtendsByPart before bytes after =
+    (piece : List ℕ) × StartsWith bytes piece × Extends before piece after
 
 -- bytes in reserved memory, and the room that is left
 pub record Holding : Type 0 where
@@ -45,4 +47,5 @@ told_unless_lost sink = if sink.lost == 0 then Some sink.held.bytes else None
 -- a write that fits into the room is held, and another one is lost whole
 abbrev pub held_or_lost : List ℕ → SureWriting → SureWriting
 held_or_lost bytes sink =
-    if nat_le (length bytes) sink.held.room then record sink { held = holding_more bytes sink.held } else record sink { lost = one_more sink.lost }
+    if nat_le (length bytes) sink.held.room then record sink { held = holding_more bytes sink.held }
+    else record sink { lost = one_more sink.lost }

@@ -1,4 +1,5 @@
--- What a read does to the bytes that a source has left, where it tells them (compare AsyncReadStream's read_some).
+-- What a read does to the bytes that a source has left, where it tells them (compare
+-- AsyncReadStream's read_some).
 use Rattle.asio_types.specs.Faults.{Plan}
 use Rattle.std.specs.Prelude.{◌≡◌, ◌↔◌, ℕ, ◌≤◌, List, [], length, take, drop, Option, Some, None, ⊤}
 

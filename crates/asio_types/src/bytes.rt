@@ -4,7 +4,8 @@ use crate::failure::NoMemory;
 use std::alloc::Global;
 use std::marker::Model;
 
-/// Bytes of a script: a delimiter, or what is fed, read or written. Contracts see the list of the bytes.
+/// Bytes of a script: a delimiter, or what is fed, read or written. Contracts see the list of the
+/// bytes.
 #[derive(Clone, Debug, Drop)]
 pub struct Bytes {
     items: Vec<u8>,

@@ -2,8 +2,8 @@ ghost use Rattle.std.specs.Prelude.{◌≡◌, ◌≢◌, ℕ, ◌≤◌, ◌↔
 
 use std::marker::Model;
 
-/// A set of cancellation types (Asio reference, `cancellation_type`): terminal 1, partial 2 and total 4, combined as
-/// bits; 0 is none. Contracts see it as that number, from 0 to 7.
+/// A set of cancellation types (Asio reference, `cancellation_type`): terminal 1, partial 2 and
+/// total 4, combined as bits; 0 is none. Contracts see it as that number, from 0 to 7.
 #[derive(Clone, Copy, Debug, PartialEq, Eq)]
 pub struct Types {
     bits: u8,

@@ -1,7 +1,8 @@
 ghost use Rattle.std.specs.Prelude.{◌≡◌};
 ghost use Rattle.asio_types.specs.Code.{class_of_code};
 
-/// How an operation completed: the `error_code` of its handler, numbered from 0 in the order of its variants.
+/// How an operation completed: the `error_code` of its handler, numbered from 0 in the order of its
+/// variants.
 #[derive(Clone, Copy, Debug, PartialEq, Eq)]
 pub enum Code {
     /// Success.

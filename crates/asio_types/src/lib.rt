@@ -1,6 +1,7 @@
-//! The values that every layer of asio_run speaks of: numbers, completion codes, cancellation types, events of a
-//! history, the scripted world, and the sources and sinks of the program. It promises that a source or a sink fails
-//! only where its count of faults rose. All other crates stand on it.
+//! The values that every layer of asio_run speaks of: numbers, completion codes, cancellation
+//! types, events of a history, the scripted world, and the sources and sinks of the program. It
+//! promises that a source or a sink fails only where its count of faults rose. All other crates
+//! stand on it.
 #![tactic(auto)]
 
 mod bytes;

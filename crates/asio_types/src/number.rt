@@ -19,7 +19,8 @@ pub type SlotNo = u8;
 /// The number of an `executor_work_guard`, from 0.
 pub type GuardNo = u8;
 
-/// Where handlers run one at a time (Asio reference, Overview, "Strands: Use Threads Without Explicit Locking").
+/// Where handlers run one at a time (Asio reference, Overview, "Strands: Use Threads Without
+/// Explicit Locking").
 #[derive(Clone, Copy, Debug, PartialEq, Eq)]
 pub enum Lane {
     /// An explicit strand.

@@ -5,8 +5,8 @@ use crate::failure::NoMemory;
 use std::alloc::Global;
 use std::marker::Model;
 
-/// Which calls of an object in memory fail, and how many have. Contracts see the numbers of the calls that fail, from 1;
-/// how many calls there were; and how many of them failed.
+/// Which calls of an object in memory fail, and how many have. Contracts see the numbers of the
+/// calls that fail, from 1; how many calls there were; and how many of them failed.
 #[derive(Debug, Drop)]
 pub struct FailPlan {
     // the numbers of the calls that fail, from 1

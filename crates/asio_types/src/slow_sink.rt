@@ -8,7 +8,8 @@ use crate::sink::Sink;
 use std::alloc::Global;
 use std::marker::Model;
 
-/// Memory as a sink that takes a few bytes at a time. It tells its bytes, and fails exactly where its room is used up.
+/// Memory as a sink that takes a few bytes at a time. It tells its bytes, and fails exactly where
+/// its room is used up.
 #[derive(Debug, Drop)]
 pub struct SlowSink {
     held: Kept,
@@ -57,21 +58,26 @@ impl Sink for SlowSink {
 
     ghost written = { λ s. Some s.held.bytes };
 
-    /// Takes the first bytes, as many as there is room for, but at most `step`. A failure leaves the bytes, and counts
-    /// one fault.
+    /// Takes the first bytes, as many as there is room for, but at most `step`. A failure leaves
+    /// the bytes, and counts one fault.
     fn write(&mut self, bytes: &[u8]) -> Result<usize, Failed>
         requires { 0 < length bytes.now }
         ensures some { IfOk result (λ n. 0 < n) }
         ensures bound { IfOk result (λ n. n ≤ length bytes.now) }
-        ensures appended { IfOk result (λ n. Extends (Some self.old.held.bytes) (take n bytes.now) (Some self.new.held.bytes)) }
-        ensures unchanged { OnErr result (Extends (Some self.old.held.bytes) [] (Some self.new.held.bytes)) }
+        ensures appended { IfOk result (λ n.
+            Extends (Some self.old.held.bytes) (take n bytes.now) (Some self.new.held.bytes)) }
+        ensures unchanged { OnErr result
+            (Extends (Some self.old.held.bytes) [] (Some self.new.held.bytes)) }
         ensures counts { CountsFaults result self.old.faults self.new.faults }
         ensures later { self.old.faults ≤ self.new.faults }
         ensures full { IsErr result ↔ (self.old.held.room ≡ 0) }
         ensures same { self.new.step ≡ self.old.step }
-        ensures whole { IfOk result (λ n. n ≡ min self.old.step (min (length bytes.now) self.old.held.room)) }
-        ensures held { IfOk result (λ n. self.new.held ≡ holding_more (take n bytes.now) self.old.held) }
-        ensures failed { OnErr result (self.new ≡ record self.old { faults = one_more self.old.faults }) }
+        ensures whole { IfOk result
+            (λ n. n ≡ min self.old.step (min (length bytes.now) self.old.held.room)) }
+        ensures held { IfOk result
+            (λ n. self.new.held ≡ holding_more (take n bytes.now) self.old.held) }
+        ensures failed { OnErr result
+            (self.new ≡ record self.old { faults = one_more self.old.faults }) }
     {
         if self.held.room() == 0 {
             self.faults = self.faults.saturating_add(1);

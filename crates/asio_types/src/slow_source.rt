@@ -7,7 +7,8 @@ use crate::unread::Unread;
 use std::alloc::Global;
 use std::marker::Model;
 
-/// A text in memory as a source that gives a few bytes at a time. It never fails and tells its bytes.
+/// A text in memory as a source that gives a few bytes at a time. It never fails and tells its
+/// bytes.
 #[derive(Debug, Drop)]
 pub struct SlowSource {
     left: Unread,
@@ -44,13 +45,15 @@ impl Source for SlowSource {
 
     ghost left = { λ s. Some s.left };
 
-    /// Gives the next bytes, as many as the buffer takes, but at most `step`; behind them the buffer stays as it was.
+    /// Gives the next bytes, as many as the buffer takes, but at most `step`; behind them the
+    /// buffer stays as it was.
     fn read(&mut self, buf: &mut [u8]) -> Result<usize, Failed>
         requires { 0 < length buf.old }
         ensures bound { IfOk result (λ n. n ≤ length buf.old) }
         ensures next { IfOk result (λ n. GivesNext (Some self.old.left) n buf.new) }
         ensures rest { IfOk result (λ n. LosesFirst (Some self.old.left) n (Some self.new.left)) }
-        ensures whole { IfOk result (λ n. n ≡ min self.old.step (min (length buf.old) (length self.old.left))) }
+        ensures whole { IfOk result
+            (λ n. n ≡ min self.old.step (min (length buf.old) (length self.old.left))) }
         ensures same { self.new.step ≡ self.old.step }
         ensures behind { IfOk result (λ n. drop n buf.new ≡ drop n buf.old) }
         ensures sure { IsOk result }

@@ -12,9 +12,9 @@ pub trait Source {
     /// The bytes that it has left, where it tells them.
     ghost left: { Self → Option (List ℕ) };
 
-    /// Reads the next bytes into the front of the buffer, and answers how many: none exactly at the end. `Failed`
-    /// comes only where the source's count of faults rose, and an answer leaves that count; after a failure the bytes
-    /// left are as before.
+    /// Reads the next bytes into the front of the buffer, and answers how many: none exactly at the
+    /// end. `Failed` comes only where the source's count of faults rose, and an answer leaves that
+    /// count; after a failure the bytes left are as before.
     fn read(&mut self, buf: &mut [u8]) -> Result<usize, Failed>
         requires { 0 < length buf.old }
         ensures bound { IfOk result (λ n. n ≤ length buf.old) }

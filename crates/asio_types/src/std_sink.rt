@@ -6,8 +6,9 @@ use crate::failure::Failed;
 use crate::sink::Sink;
 use std::io::Write;
 
-/// A writer of std as a sink. It counts each error as a fault, and a write that takes no byte as one, and asks the
-/// writer once a call. As a sink it tells nothing; what the writer holds grows as the writer says.
+/// A writer of std as a sink. It counts each error as a fault, and a write that takes no byte as
+/// one, and asks the writer once a call. As a sink it tells nothing; what the writer holds grows as
+/// the writer says.
 #[derive(Debug, Drop)]
 pub struct StdSink<W> {
     inner: W,
@@ -33,8 +34,10 @@ impl<W: Write> Sink for StdSink<W> {
     fn write(&mut self, bytes: &[u8]) -> Result<usize, Failed>
         ensures some { IfOk result (λ n. 0 < n) }
         ensures bound { IfOk result (λ n. n ≤ length bytes.now) }
-        ensures passed_on { IfOk result (λ n. Appends (W.contents self.old.inner) (W.contents self.new.inner) (take n bytes.now)) }
-        ensures kept { OnErr result (Keeps (W.contents self.old.inner) (W.contents self.new.inner)) }
+        ensures passed_on { IfOk result (λ n.
+            Appends (W.contents self.old.inner) (W.contents self.new.inner) (take n bytes.now)) }
+        ensures kept { OnErr result
+            (Keeps (W.contents self.old.inner) (W.contents self.new.inner)) }
         ensures counts { CountsFaults result self.old.faults self.new.faults }
         ensures later { self.old.faults ≤ self.new.faults }
     {

@@ -4,8 +4,8 @@ use crate::failure::Failed;
 use crate::source::Source;
 use std::io::Read;
 
-/// A reader of std as a source. It tells the bytes that the reader tells, counts each error as a fault, and asks the
-/// reader once a call.
+/// A reader of std as a source. It tells the bytes that the reader tells, counts each error as a
+/// fault, and asks the reader once a call.
 #[derive(Debug, Drop)]
 pub struct StdSource<R> {
     inner: R,

@@ -7,7 +7,8 @@ use crate::sink::Sink;
 use std::alloc::Global;
 use std::marker::Model;
 
-/// Memory as a sink that never fails. A write past its room is counted and lost; it tells its bytes only while none was.
+/// Memory as a sink that never fails. A write past its room is counted and lost; it tells its bytes
+/// only while none was.
 #[derive(Debug, Drop)]
 pub struct SureSink {
     held: Kept,
@@ -60,7 +61,8 @@ impl Sink for SureSink {
         requires { 0 < length bytes.now }
         ensures some { IfOk result (λ n. 0 < n) }
         ensures bound { IfOk result (λ n. n ≤ length bytes.now) }
-        ensures appended { IfOk result (λ n. Extends (told_unless_lost self.old) (take n bytes.now) (told_unless_lost self.new)) }
+        ensures appended { IfOk result (λ n.
+            Extends (told_unless_lost self.old) (take n bytes.now) (told_unless_lost self.new)) }
         ensures sure { IsOk result }
         ensures whole { IfOk result (λ n. n ≡ length bytes.now) }
         ensures after { self.new ≡ held_or_lost bytes.now self.old }

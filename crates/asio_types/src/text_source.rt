@@ -9,7 +9,8 @@ use crate::unread::Unread;
 use std::alloc::Global;
 use std::marker::Model;
 
-/// A text in memory as a source. It tells its bytes, and fails at the calls of `read` that its maker named.
+/// A text in memory as a source. It tells its bytes, and fails at the calls of `read` that its
+/// maker named.
 #[derive(Debug, Drop)]
 pub struct TextSource {
     left: Unread,
@@ -29,7 +30,8 @@ impl TextSource {
     /// A source of these bytes whose calls of `read` with the numbers in `fails`, from 1, fail.
     pub fn make(alloc: Global, bytes: &[u8], fails: &[u32]) -> Result<TextSource, NoMemory>
         ensures bytes { IfOk result (λ source. source.left ≡ bytes.now) }
-        ensures fails { IfOk result (λ source. source.plan ≡ record { fails = fails.now; calls = 0; faults = 0 }) }
+        ensures fails { IfOk result
+            (λ source. source.plan ≡ record { fails = fails.now; calls = 0; faults = 0 }) }
     {
         Ok(TextSource {
             left: Unread::make(alloc, bytes)?,
@@ -43,8 +45,8 @@ impl Source for TextSource {
 
     ghost left = { λ s. Some s.left };
 
-    /// Fails exactly at the named calls, and else fills the buffer as far as bytes are left; behind them it stays as it
-    /// was. A failure leaves the bytes and the buffer, and counts one fault.
+    /// Fails exactly at the named calls, and else fills the buffer as far as bytes are left; behind
+    /// them it stays as it was. A failure leaves the bytes and the buffer, and counts one fault.
     fn read(&mut self, buf: &mut [u8]) -> Result<usize, Failed>
         requires { 0 < length buf.old }
         ensures bound { IfOk result (λ n. n ≤ length buf.old) }
@@ -53,7 +55,8 @@ impl Source for TextSource {
         ensures unchanged { OnErr result (KeepsLeft (Some self.old.left) (Some self.new.left)) }
         ensures counts { CountsFaults result self.old.plan.faults self.new.plan.faults }
         ensures later { self.old.plan.faults ≤ self.new.plan.faults }
-        ensures named { IsErr result ↔ Contains self.old.plan.fails (next_call self.old.plan.calls) }
+        ensures named { IsErr result
+            ↔ Contains self.old.plan.fails (next_call self.old.plan.calls) }
         ensures called { IfOk result (λ _. self.new.plan ≡ plan_called self.old.plan) }
         ensures failed { OnErr result (self.new.plan ≡ plan_failed self.old.plan) }
         ensures whole { IfOk result (λ n. n ≡ min (length buf.old) (length self.old.left)) }

@@ -31,7 +31,8 @@ impl Unread {
         })
     }
 
-    /// Gives the next bytes, as many as the buffer takes, but at most `most`. Behind them the buffer stays as it was.
+    /// Gives the next bytes, as many as the buffer takes, but at most `most`. Behind them the
+    /// buffer stays as it was.
     pub(crate) fn give(&mut self, buf: &mut [u8], most: usize) -> usize
         ensures count { result ≡ min most (min (length buf.old) (length self.old)) }
         ensures given { take result buf.new ≡ take result self.old }

@@ -34,22 +34,28 @@ use Rattle.book_context.proofs.KeptLemmas.{before_absent, before_uncalled}
 use Rattle.book_context.proofs.OpenedLemmas.{is_legal_opening}
 use Rattle.book_context.proofs.SettledLemmas.{settled_request}
 
-module _ (script : ScriptModel) (told : Bool) (s : State) (op : ℕ) (given : Code) (size : ℕ) (calls : List Posted) (well : IsWellFormed script) (rest : IsAtRest script s.context) (orderly : IsOrderly script s)
-    (own : is_inline script op ≡ false) (may : MayBeginOutside script s.context op given size) (whole : IsWholeExecution script AnyMark op given size calls) where
+module _ (script : ScriptModel) (told : Bool) (s : State) (op : ℕ) (given : Code) (size : ℕ) (calls : List Posted)
+    (well : IsWellFormed script) (rest : IsAtRest script s.context) (orderly : IsOrderly script s)
+    (own : is_inline script op ≡ false) (may : MayBeginOutside script s.context op given size)
+    (whole : IsWholeExecution script AnyMark op given size calls) where
   pub did : IsLegalExecution script told s op calls
   did = is_legal_execution script told s op given size calls well rest own may whole
 
   pub in_body : (n : ℕ) → is_called n calls ≡ true → is_called n whole.body ≡ true
-  in_body n is = sym (ap (is_called n) whole.is ∙ called-execution n op given size whole.begun whole.mark whole.body) ∙ is
+  in_body n is =
+      sym (ap (is_called n) whole.is ∙ called-execution n op given size whole.begun whole.mark whole.body) ∙ is
 
   pub unmade : (n : ℕ) → parent_of script n ≡ Some (op, class_of_code given) → call_at s.context n ≡ call.Uncalled
   unmade n under = orderly.branches n op (class_of_code given) under (ap has_begun may.ready.1)
 
   pub absent : (n : ℕ) → is_called n calls ≡ true → phase_at s.context n ≡ phase.Absent
-  absent n is = before_absent script well AnyMark (Some (op, class_of_code given)) whole.body whole.acts s orderly unmade n (in_body n is)
+  absent n is =
+      before_absent script well AnyMark (Some (op, class_of_code given)) whole.body whole.acts s orderly unmade n (in_body n is)
 
   pub untaken : (n : ℕ) → is_called n calls ≡ true → was_taken s.reactor n ≡ false
-  untaken n is = orderly.untaken n (before_uncalled script well AnyMark (Some (op, class_of_code given)) whole.body whole.acts s orderly unmade n (in_body n is))
+  untaken n is =
+      orderly.untaken n (before_uncalled script well AnyMark (Some (op, class_of_code given)) whole.body whole.acts s
+      orderly unmade n (in_body n is))
 
   abbrev pub after : State
   after = record { context = did.after; reactor = s.reactor }
@@ -77,18 +83,24 @@ module _ (script : ScriptModel) (told : Bool) (s : State) (op : ℕ) (given : Co
     ]
   ]
 
-  asked_now : IsAccounted script s → (n : ℕ) → is_request (phase_at did.after n) ≡ true → phase_at did.after n ≡ accepted script n
+  asked_now : IsAccounted script s → (n : ℕ) → is_request (phase_at did.after n) ≡ true →
+      phase_at did.after n ≡ accepted script n
   asked_now account n asks = elim (cases_Bool (is_called n calls)) [
     | inl is ↦
-        let now : phase_at did.after n ≡ settled_phase script n = ap (λ (act : ActState). act.phase) (did.executed.called n is).is in
+        let now : phase_at did.after n ≡ settled_phase script n =
+        ap (λ (act : ActState). act.phase) (did.executed.called n is).is in
         now ∙ settled_request script n (sym (ap is_request now) ∙ asks)
     | inr isnt ↦ elim (cases_eq n op) [
-      | inl same ↦ absurd (let wrong : false ≡ true = sym (ap (λ n. is_request (phase_at did.after n)) same ∙ ap is_request now_ended) ∙ asks in cc)
+      | inl same ↦
+          absurd (let wrong : false ≡ true =
+          sym (ap (λ n. is_request (phase_at did.after n)) same ∙ ap is_request now_ended) ∙ asks in
+          cc)
       | inr differ ↦ still n isnt differ ∙ account.asked n (sym (ap is_request (still n isnt differ)) ∙ asks)
     ]
   ]
 
-  pub accounted_execution : IsAccounted script s → IsAccounted script (state_from script told s (events_of script calls))
+  pub accounted_execution : IsAccounted script s →
+      IsAccounted script (state_from script told s (events_of script calls))
   accounted_execution account = subst (IsAccounted script) (sym did.is) (record {
     streams = account.streams;
     marks = account.marks;
@@ -96,18 +108,25 @@ module _ (script : ScriptModel) (told : Bool) (s : State) (op : ℕ) (given : Co
     pending = pending_same s after (did.executed.rest.acts ∙ sym rest.acts) same_pending ∙ account.pending;
   })
 
-pub account_execution : (script : ScriptModel) (told : Bool) (s : State) (op : ℕ) (given : Code) (size : ℕ) (calls : List Posted) → IsWellFormed script → IsAtRest script s.context → IsOrderly script s → IsAccounted script s → is_inline script op ≡ false →
-    MayBeginOutside script s.context op given size → IsWholeExecution script AnyMark op given size calls → IsAccounted script (state_from script told s (events_of script calls))
-account_execution script told s op given size calls well rest orderly account own may whole = accounted_execution script told s op given size calls well rest orderly own may whole account
+pub account_execution : (script : ScriptModel) (told : Bool) (s : State) (op : ℕ) (given : Code) (size : ℕ)
+    (calls : List Posted) → IsWellFormed script → IsAtRest script s.context → IsOrderly script s →
+    IsAccounted script s → is_inline script op ≡ false → MayBeginOutside script s.context op given size →
+    IsWholeExecution script AnyMark op given size calls →
+    IsAccounted script (state_from script told s (events_of script calls))
+account_execution script told s op given size calls well rest orderly account own may whole =
+    accounted_execution script told s op given size calls well rest orderly own may whole account
 
-none_pending : (n : ℕ) → sum_by (λ (queues : StreamQueues). length queues.reads + length queues.writes) (replicate n no_queues) ≡ 0
+none_pending : (n : ℕ) →
+    sum_by (λ (queues : StreamQueues). length queues.reads + length queues.writes) (replicate n no_queues) ≡ 0
 none_pending zero = refl
 none_pending (suc n) =
-    let first = sum_by-cons (λ (queues : StreamQueues). length queues.reads + length queues.writes) no_queues (replicate n no_queues) in
+    let first =
+    sum_by-cons (λ (queues : StreamQueues). length queues.reads + length queues.writes) no_queues (replicate n no_queues) in
     let rest = none_pending n in
     omega (arith, first, rest)
 
-module _ (script : ScriptModel) (told : Bool) (calls : List Posted) (well : IsWellFormed script) (acts : AreCalls script AnyMark (opening_of script) calls) where
+module _ (script : ScriptModel) (told : Bool) (calls : List Posted) (well : IsWellFormed script)
+    (acts : AreCalls script AnyMark (opening_of script) calls) where
   pub opened : IsLegalOpening script told calls
   opened = is_legal_opening script told calls well acts
 
@@ -117,18 +136,27 @@ module _ (script : ScriptModel) (told : Bool) (calls : List Posted) (well : IsWe
   pub none_taken : (n : ℕ) → was_taken (first_reactor script told) n ≡ false
   none_taken n = elim (cases_lt n (length script.acts)) [
     | inl within ↦ get_or-replicate (length script.acts) n false false within
-    | inr beyond ↦ get_or_past (replicate (length script.acts) false) n false (omega (arith, beyond, length-replicate (length script.acts) false))
+    | inr beyond ↦
+        get_or_past (replicate (length script.acts) false) n false
+        (omega (arith, beyond, length-replicate (length script.acts) false))
   ]
 
   pub not_pending : (n : ℕ) → is_pending open_state n ≡ true → ⊥
-  not_pending n is = let taken : was_taken (first_reactor script told) n ≡ true = (and_parts (is_requested (phase_at opened.after n)) (was_taken (first_reactor script told) n) is).1 in absurd (let wrong : false ≡ true = sym (none_taken n) ∙ taken in cc)
+  not_pending n is =
+      let taken : was_taken (first_reactor script told) n ≡ true =
+      (and_parts (is_requested (phase_at opened.after n)) (was_taken (first_reactor script told) n) is).1 in
+      absurd (let wrong : false ≡ true = sym (none_taken n) ∙ taken in cc)
 
   open_asked : (n : ℕ) → is_request (phase_at opened.after n) ≡ true → phase_at opened.after n ≡ accepted script n
   open_asked n asks = elim (cases_Bool (is_called n calls)) [
     | inl is ↦
-        let now : phase_at opened.after n ≡ settled_phase script n = ap (λ (act : ActState). act.phase) (opened.opened.called n is).is in
+        let now : phase_at opened.after n ≡ settled_phase script n =
+        ap (λ (act : ActState). act.phase) (opened.opened.called n is).is in
         now ∙ settled_request script n (sym (ap is_request now) ∙ asks)
-    | inr isnt ↦ absurd (let wrong : false ≡ true = sym (ap (λ (act : ActState). is_request act.phase) (opened.opened.others n isnt)) ∙ asks in cc)
+    | inr isnt ↦
+        absurd (let wrong : false ≡ true =
+        sym (ap (λ (act : ActState). is_request act.phase) (opened.opened.others n isnt)) ∙ asks in
+        cc)
   ]
 
   pub accounted_opening : IsAccounted script (state_of script told (events_of script calls))
@@ -143,5 +171,7 @@ module _ (script : ScriptModel) (told : Bool) (calls : List Posted) (well : IsWe
         omega (arith, none, range, queues);
   })
 
-pub account_opening : (script : ScriptModel) (told : Bool) (calls : List Posted) → IsWellFormed script → AreCalls script AnyMark (opening_of script) calls → IsAccounted script (state_of script told (events_of script calls))
+pub account_opening : (script : ScriptModel) (told : Bool) (calls : List Posted) → IsWellFormed script →
+    AreCalls script AnyMark (opening_of script) calls →
+    IsAccounted script (state_of script told (events_of script calls))
 account_opening script told calls well acts = accounted_opening script told calls well acts

@@ -23,14 +23,18 @@ use Rattle.book_context.proofs.BookHistoryLemmas.{IsPlain, alone-behind, faults-
 
 module _ (script : ScriptModel) (told : Bool) (run drop : ℕ → ℕ) (outside : Bool) where
   -- the oldest request is taken
-  module _ (r : Recording) (a : ℕ) (keeps : KeepsHistory script told run drop outside (with_request a r)) (did : steps.HasTaken told (with_request a r) a r.requests) where
+  module _ (r : Recording) (a : ℕ) (keeps : KeepsHistory script told run drop outside (with_request a r))
+      (did : steps.HasTaken told (with_request a r) a r.requests) where
     pub take_plain : IsPlain run drop (event.Take a ∷ [])
     take_plain = record { marked = (tt, tt); working = refl; inside = refl }
 
     pub take_history : KeepsHistory script told run drop outside (with_event (event.Take a) r)
-    take_history = history-plain script told run drop outside (with_request a r) (with_event (event.Take a) r) (event.Take a ∷ []) keeps did.turned.goes.recorded refl refl take_plain
+    take_history =
+        history-plain script told run drop outside (with_request a r) (with_event (event.Take a) r) (event.Take a ∷ [])
+        keeps did.turned.goes.recorded refl refl take_plain
 
-    pub take_begun : IsRoundOpen r → HasBegun told r (with_event (event.Take a) r) (reactor_after_take r.script told (recorded_half told r) a)
+    pub take_begun : IsRoundOpen r →
+        HasBegun told r (with_event (event.Take a) r) (reactor_after_take r.script told (recorded_half told r) a)
     take_begun round = record {
       event = event.Take a;
       begins = tt;
@@ -48,8 +52,9 @@ module _ (script : ScriptModel) (told : Bool) (run drop : ℕ → ℕ) (outside 
 
   -- time moves to a point
   module _ (r : Recording) (keeps : KeepsHistory script told run drop outside r) (round : IsRoundOpen r) where
-    point_begun : (event : Event) → IsPlain run drop (event ∷ []) → BeginsTurn event → (half : ReactorHalf) → (after_event r.script told (recorded_state told r) event).reactor ≡ half → steps.TurnIsBegun told r event (with_event event r) →
-        HasBegun told r (with_event event r) half
+    point_begun : (event : Event) → IsPlain run drop (event ∷ []) → BeginsTurn event → (half : ReactorHalf) →
+        (after_event r.script told (recorded_state told r) event).reactor ≡ half →
+        steps.TurnIsBegun told r event (with_event event r) → HasBegun told r (with_event event r) half
     point_begun event plain begins half is_half did = record {
       event = event;
       begins = begins;
@@ -69,24 +74,32 @@ module _ (script : ScriptModel) (told : Bool) (run drop : ℕ → ℕ) (outside 
     point_plain (point.Time now) = record { marked = (tt, tt); working = refl; inside = refl }
     point_plain point.Last = record { marked = (tt, tt); working = refl; inside = refl }
 
-    pub point_turned : steps.TicksAreRecorded → steps.LastIsRecorded → IsRecorded told r → steps.IsWaiting told r → (point : Point) → next_time r.script (recorded_half told r) ≡ point →
+    pub point_turned : steps.TicksAreRecorded → steps.LastIsRecorded → IsRecorded told r → steps.IsWaiting told r →
+        (point : Point) → next_time r.script (recorded_half told r) ≡ point →
         steps.TurnIsBegun told r (passed point) (with_event (passed point) r)
     point_turned ticks last recorded waiting (point.Time now) next = ticks told r now recorded waiting next
     point_turned ticks last recorded waiting point.Last next = last told r recorded waiting next
 
-    pub tick_history : (point : Point) → steps.TurnIsBegun told r (passed point) (with_event (passed point) r) → KeepsHistory script told run drop outside (with_event (passed point) r)
-    tick_history point did = history-plain script told run drop outside r (with_event (passed point) r) (passed point ∷ []) keeps did.goes.recorded refl refl (point_plain point)
+    pub tick_history : (point : Point) → steps.TurnIsBegun told r (passed point) (with_event (passed point) r) →
+        KeepsHistory script told run drop outside (with_event (passed point) r)
+    tick_history point did =
+        history-plain script told run drop outside r (with_event (passed point) r) (passed point ∷ []) keeps
+        did.goes.recorded refl refl (point_plain point)
 
-    pub tick_begun : (point : Point) → steps.TurnIsBegun told r (passed point) (with_event (passed point) r) → HasBegun told r (with_event (passed point) r) (after_point r.script told point (recorded_half told r))
+    pub tick_begun : (point : Point) → steps.TurnIsBegun told r (passed point) (with_event (passed point) r) →
+        HasBegun told r (with_event (passed point) r) (after_point r.script told point (recorded_half told r))
     tick_begun (point.Time now) did = point_begun (event.Tick now) (point_plain (point.Time now)) tt _ refl did
     tick_begun point.Last did = point_begun event.Last (point_plain point.Last) tt _ refl did
 
     -- the reactor has failed behind something
-    pub fault_history : steps.HasFailed told r → r.events ≢ [] → KeepsHistory script told run drop outside (with_fault r)
+    pub fault_history : steps.HasFailed told r → r.events ≢ [] →
+        KeepsHistory script told run drop outside (with_fault r)
     fault_history did some = record {
       recorded = did.goes.recorded;
       is_script = keeps.is_script;
       marked = marked-append run drop r.events (event.Fault ∷ []) keeps.marked (tt, tt);
-      unstopped = λ none. list_any-append is_outside_stop r.events (event.Fault ∷ []) ∙ or_false (has_outside_stop r.events) false refl ∙ keeps.unstopped none;
+      unstopped = λ none.
+          list_any-append is_outside_stop r.events (event.Fault ∷ []) ∙ or_false (has_outside_stop r.events) false refl
+          ∙ keeps.unstopped none;
       set_up = alone-behind r.events some;
     }

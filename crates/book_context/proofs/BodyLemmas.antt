@@ -22,12 +22,14 @@ use Rattle.book_context.proofs.ScriptLemmas.{few_in}
 use Rattle.book_context.proofs.StateLemmas.{IsAt, IsThere, acts_in, both}
 
 module _ (script : ScriptModel) (well : IsWellFormed script) where
-  next_of : (told : Bool) (r : ReactorHalf) (place : Place) (a k : ℕ) → slice_get (acts_in script place) k ≡ Some a → IsGoing r.failed place → IsNext script told r place a k
+  next_of : (told : Bool) (r : ReactorHalf) (place : Place) (a k : ℕ) → slice_get (acts_in script place) k ≡ Some a →
+      IsGoing r.failed place → IsNext script told r place a k
   next_of told r place a k at going = record {
     parent = parent_is script well place a k at;
     behind = behind_it script well place a k at;
     next = at;
-    few = omega (arith, few_acts script well, few_in place 0 script.acts, slice_get_within (acts_in script place) k a at);
+    few =
+        omega (arith, few_acts script well, few_in place 0 script.acts, slice_get_within (acts_in script place) k a at);
     going = going;
   }
 
@@ -42,26 +44,36 @@ module _ (script : ScriptModel) (well : IsWellFormed script) where
     each = λ i a at. let e : 0 + i ≡ i = omega arith in ap (slice_get (acts_in script place)) e ∙ at;
   }
 
-  pub follows-next : (place : Place) (k a : ℕ) (acts : List ℕ) → Follows place k (a ∷ acts) → slice_get (acts_in script place) k ≡ Some a
-  follows-next place k a acts follows = let e : k ≡ k + 0 = omega arith in ap (slice_get (acts_in script place)) e ∙ follows.each 0 a refl
+  pub follows-next : (place : Place) (k a : ℕ) (acts : List ℕ) → Follows place k (a ∷ acts) →
+      slice_get (acts_in script place) k ≡ Some a
+  follows-next place k a acts follows =
+      let e : k ≡ k + 0 = omega arith in ap (slice_get (acts_in script place)) e ∙ follows.each 0 a refl
 
   pub follows-rest : (place : Place) (k a : ℕ) (acts : List ℕ) → Follows place k (a ∷ acts) → Follows place (k + 1) acts
   follows-rest place k a acts follows = record {
     size = follows.size ∙ omega arith;
-    each = λ i b at. let e : k + 1 + i ≡ k + suc i = omega arith in ap (slice_get (acts_in script place)) e ∙ follows.each (suc i) b at;
+    each = λ i b at.
+        let e : k + 1 + i ≡ k + suc i = omega arith in
+        ap (slice_get (acts_in script place)) e ∙ follows.each (suc i) b at;
   }
 
   -- an act that comes next stands in the body, and comes once
-  pub only_here : (place : Place) (k a : ℕ) (acts : List ℕ) (n : ℕ) → Follows place k (a ∷ acts) → IsOf n (a ∷ []) → parent_of script n ≡ place
-  only_here place k a acts n follows (zero, is) = parent_is script well place n k (follows-next place k a acts follows ∙ is)
+  pub only_here : (place : Place) (k a : ℕ) (acts : List ℕ) (n : ℕ) → Follows place k (a ∷ acts) → IsOf n (a ∷ []) →
+      parent_of script n ≡ place
+  only_here place k a acts n follows (zero, is) =
+      parent_is script well place n k (follows-next place k a acts follows ∙ is)
   only_here place k a acts n follows (suc i, is) = absurd (cc)
 
-  pub behind_here : (place : Place) (k a : ℕ) (acts : List ℕ) (n : ℕ) → Follows place k (a ∷ acts) → IsOf n acts → parent_of script n ≡ place
+  pub behind_here : (place : Place) (k a : ℕ) (acts : List ℕ) (n : ℕ) → Follows place k (a ∷ acts) → IsOf n acts →
+      parent_of script n ≡ place
   behind_here place k a acts n follows (i, is) = parent_is script well place n (k + suc i) (follows.each (suc i) n is)
 
-  pub not_again : (place : Place) (k a : ℕ) (acts : List ℕ) (n : ℕ) → Follows place k (a ∷ acts) → IsOf n (a ∷ []) → IsOf n acts → ⊥
+  pub not_again : (place : Place) (k a : ℕ) (acts : List ℕ) (n : ℕ) → Follows place k (a ∷ acts) → IsOf n (a ∷ []) →
+      IsOf n acts → ⊥
   not_again place k a acts n follows (zero, is) (j, again) =
-      let less : n < n = numbers_rise place 0 script.acts k (k + suc j) n n (omega arith) (follows-next place k a acts follows ∙ is) (follows.each (suc j) n again) in
+      let less : n < n =
+      numbers_rise place 0 script.acts k (k + suc j) n n (omega arith) (follows-next place k a acts follows ∙ is)
+      (follows.each (suc j) n again) in
       omega (arith, less)
   not_again place k a acts n follows (suc i, is) again = absurd (cc)
 
@@ -75,15 +87,24 @@ module _ (script : ScriptModel) (well : IsWellFormed script) where
       pub at : IsAt s place (both k)
 
     -- one act of a body, and the acts behind it
-    joined : (place : Place) (k a : ℕ) (acts : List ℕ) (xs ys : List Posted) (s : ContextState) → Follows place k (a ∷ acts) → AreCalls script HasMark (a ∷ []) xs → AreCalls script HasMark acts ys →
+    joined : (place : Place) (k a : ℕ) (acts : List ℕ) (xs ys : List Posted) (s : ContextState) →
+        Follows place k (a ∷ acts) → AreCalls script HasMark (a ∷ []) xs → AreCalls script HasMark acts ys →
         s.events ≤ most_faults → (first : MovesOn script told r place (k + 1) xs s) →
-        MovesOn script told r place (length (acts_in script place)) ys first.after → MovesOn script told r place (length (acts_in script place)) (xs ++ ys) s
+        MovesOn script told r place (length (acts_in script place)) ys first.after →
+        MovesOn script told r place (length (acts_in script place)) (xs ++ ys) s
     joined place k a acts xs ys s follows one others few first rest =
-        let differ = apart script well HasMark place one others (λ n of. only_here place k a acts n follows of) (λ n of. behind_here place k a acts n follows of)
+        let differ =
+        apart script well HasMark place one others (λ n of. only_here place k a acts n follows of)
+        (λ n of. behind_here place k a acts n follows of)
         (λ n of of_too. not_again place k a acts n follows of of_too) first.moves.own rest.moves.own in
-        record { after = rest.after; at = rest.at; moves = moves-both script told r place s first.after rest.after xs ys few first.moves rest.moves differ }
+        record {
+          after = rest.after;
+          at = rest.at;
+          moves = moves-both script told r place s first.after rest.after xs ys few first.moves rest.moves differ;
+        }
 
-    between_still : (place : Place) (k j : ℕ) (calls : List Posted) (s : ContextState) → Between place k s → (first : MovesOn script told r place j calls s) → Between place j first.after
+    between_still : (place : Place) (k j : ℕ) (calls : List Posted) (s : ContextState) → Between place k s →
+        (first : MovesOn script told r place j calls s) → Between place j first.after
     between_still place k j calls s between first = record {
       going = between.going;
       size = first.moves.count ∙ between.size;
@@ -93,24 +114,38 @@ module _ (script : ScriptModel) (well : IsWellFormed script) where
     }
 
     -- the calls of the acts that are left in a body
-    pub whole_body : (place : Place) {acts : List ℕ} {calls : List Posted} → AreCalls script HasMark acts calls → (k : ℕ) (s : ContextState) → Follows place k acts → Between place k s →
+    pub whole_body : (place : Place) {acts : List ℕ} {calls : List Posted} → AreCalls script HasMark acts calls →
+        (k : ℕ) (s : ContextState) → Follows place k acts → Between place k s →
         MovesOn script told r place (length (acts_in script place)) calls s
     whole_body place no_act k s follows between =
         let all : k ≡ length (acts_in script place) = sym (follows.size ∙ omega arith) in
-        record { after = s; at = subst (λ k. IsAt s place (both k)) all between.at; moves = moves-none script told r place s }
+        record {
+          after = s;
+          at = subst (λ k. IsAt s place (both k)) all between.at;
+          moves = moves-none script told r place s;
+        }
     whole_body place (outside {act} {acts} {calls} isnt more) k s follows between =
         let at = follows-next place k act acts follows in
         let within : act < length s.acts = omega (arith, within_script script well place act k at, between.size) in
-        let first = act_outside script told r place act k (next_of told r place act k at between.going) s within between.there between.few between.at isnt in
-        joined place k act acts (posted.Call act ∷ posted.Back act ∷ []) calls s follows (outside isnt no_act) more between.few first
-        (whole_body place more (k + 1) first.after (follows-rest place k act acts follows) (between_still place k (k + 1) (posted.Call act ∷ posted.Back act ∷ []) s between first))
+        let first =
+        act_outside script told r place act k (next_of told r place act k at between.going) s within between.there
+        between.few between.at isnt in
+        joined place k act acts (posted.Call act ∷ posted.Back act ∷ []) calls s follows (outside isnt no_act) more
+        between.few first
+        (whole_body place more (k + 1) first.after (follows-rest place k act acts follows)
+        (between_still place k (k + 1) (posted.Call act ∷ posted.Back act ∷ []) s between first))
     whole_body place (inside {act} {begun} {mark} {acts} {body} {calls} is marked inner more) k s follows between =
         let at = follows-next place k act acts follows in
         let within : act < length s.acts = omega (arith, within_script script well place act k at, between.size) in
         let execution : List Posted = execution_of act code.Ok 0 begun mark body in
-        let first = act_inside script told r place act k (next_of told r place act k at between.going) s within between.there between.few between.at is begun mark body
+        let first =
+        act_inside script told r place act k (next_of told r place act k at between.going) s within between.there
+        between.few between.at is begun mark body
         (λ t size few running. whole_body (Some (act, class.Ok)) inner 0 t (follows-all (Some (act, class.Ok)))
         (record { going = tt; size = size ∙ between.size; there = omega (arith, within, size); few = few; at = running })) in
-        subst (λ xs. MovesOn script told r place (length (acts_in script place)) (posted.Call act ∷ xs) s) (append_assoc execution (posted.Back act ∷ []) calls)
-        (joined place k act acts (posted.Call act ∷ (execution ++ posted.Back act ∷ [])) calls s follows (inside is marked inner no_act) more between.few first
-        (whole_body place more (k + 1) first.after (follows-rest place k act acts follows) (between_still place k (k + 1) (posted.Call act ∷ (execution ++ posted.Back act ∷ [])) s between first)))
+        subst (λ xs. MovesOn script told r place (length (acts_in script place)) (posted.Call act ∷ xs) s)
+        (append_assoc execution (posted.Back act ∷ []) calls)
+        (joined place k act acts (posted.Call act ∷ (execution ++ posted.Back act ∷ [])) calls s follows
+        (inside is marked inner no_act) more between.few first (whole_body place more (k + 1) first.after
+        (follows-rest place k act acts follows)
+        (between_still place k (k + 1) (posted.Call act ∷ (execution ++ posted.Back act ∷ [])) s between first)))

@@ -11,7 +11,8 @@ use Rattle.book_context.specs.Book.{KeepsHistory, has_fault, has_outside_stop, i
 use Rattle.book_context.specs.Recorded.{IsRecorded}
 use Rattle.book_context.specs.Recording.{Recording}
 
-pub marked-append : (run drop : ℕ → ℕ) (xs ys : List Event) → HasMarks run drop xs → HasMarks run drop ys → HasMarks run drop (xs ++ ys)
+pub marked-append : (run drop : ℕ → ℕ) (xs ys : List Event) → HasMarks run drop xs → HasMarks run drop ys →
+    HasMarks run drop (xs ++ ys)
 marked-append run drop [] ys first rest = rest
 marked-append run drop (x ∷ xs) ys first rest = (first.0, marked-append run drop xs ys first.1 rest)
 
@@ -30,18 +31,23 @@ pub record IsPlain (run drop : ℕ → ℕ) (events : List Event) : Type 0 where
   pub inside : has_outside_stop events ≡ false
 
 pub faults-plain : (run drop : ℕ → ℕ) (xs ys : List Event) → IsPlain run drop ys → has_fault (xs ++ ys) ≡ has_fault xs
-faults-plain run drop xs ys plain = list_any-append is_fault xs ys ∙ or_false (has_fault xs) (has_fault ys) plain.working
+faults-plain run drop xs ys plain =
+    list_any-append is_fault xs ys ∙ or_false (has_fault xs) (has_fault ys) plain.working
 
-pub stops-plain : (run drop : ℕ → ℕ) (xs ys : List Event) → IsPlain run drop ys → has_outside_stop (xs ++ ys) ≡ has_outside_stop xs
-stops-plain run drop xs ys plain = list_any-append is_outside_stop xs ys ∙ or_false (has_outside_stop xs) (has_outside_stop ys) plain.inside
+pub stops-plain : (run drop : ℕ → ℕ) (xs ys : List Event) → IsPlain run drop ys →
+    has_outside_stop (xs ++ ys) ≡ has_outside_stop xs
+stops-plain run drop xs ys plain =
+    list_any-append is_outside_stop xs ys ∙ or_false (has_outside_stop xs) (has_outside_stop ys) plain.inside
 
 empty_ends : {X : Type 0} (xs ys : List X) → xs ++ ys ≡ [] → xs ≡ []
 empty_ends [] ys same = refl
 empty_ends (x ∷ xs) ys same = absurd (cc same)
 
 -- what stands in front of events without a failure is no failure alone, if it wasn't before
-alone-plain : (xs ys : List Event) → has_fault ys ≡ false → (xs ≡ event.Fault ∷ [] → ⊥) → xs ++ ys ≡ event.Fault ∷ [] → ⊥
-alone-plain [] ys working isnt same = absurd (let failed : has_fault ys ≡ true = ap has_fault same in cc (working, failed))
+alone-plain : (xs ys : List Event) → has_fault ys ≡ false → (xs ≡ event.Fault ∷ [] → ⊥) → xs ++ ys ≡ event.Fault ∷ [] →
+    ⊥
+alone-plain [] ys working isnt same =
+    absurd (let failed : has_fault ys ≡ true = ap has_fault same in cc (working, failed))
 alone-plain (x ∷ xs) ys working isnt same =
     let first : x ≡ event.Fault = cc same in
     let rest : xs ++ ys ≡ [] = cc same in
@@ -54,9 +60,9 @@ alone-behind [] some same = some refl
 alone-behind (x ∷ []) some same = absurd (cc same)
 alone-behind (x ∷ y ∷ xs) some same = absurd (cc same)
 
-pub history-plain : (script : ScriptModel) (told : Bool) (run drop : ℕ → ℕ) (outside : Bool) (r t : Recording) (events : List Event) →
-    KeepsHistory script told run drop outside r → IsRecorded told t → t.script ≡ r.script → t.events ≡ r.events ++ events → IsPlain run drop events →
-    KeepsHistory script told run drop outside t
+pub history-plain : (script : ScriptModel) (told : Bool) (run drop : ℕ → ℕ) (outside : Bool) (r t : Recording)
+    (events : List Event) → KeepsHistory script told run drop outside r → IsRecorded told t → t.script ≡ r.script →
+    t.events ≡ r.events ++ events → IsPlain run drop events → KeepsHistory script told run drop outside t
 history-plain script told run drop outside r t events keeps recorded same is plain = record {
   recorded = recorded;
   is_script = same ∙ keeps.is_script;
@@ -66,7 +72,8 @@ history-plain script told run drop outside r t events keeps recorded same is pla
 }
 
 -- what is in a list and passes a test is found by it
-pub contains_any : {X : Type 0} (test : X → Bool) (xs : List X) (x : X) → Contains xs x → test x ≡ true → list_any test xs ≡ true
+pub contains_any : {X : Type 0} (test : X → Bool) (xs : List X) (x : X) → Contains xs x → test x ≡ true →
+    list_any test xs ≡ true
 contains_any test xs x there passes = list_any-from_Any test xs (there.0, x, there.1, there.2, passes)
 
 -- something stands where an event came

@@ -17,24 +17,30 @@ either_way false all first second same = same
 pub called-append : (n : ℕ) (xs ys : List Posted) → is_called n (xs ++ ys) ≡ (is_called n xs || is_called n ys)
 called-append n [] ys = refl
 called-append n (posted.Begin op code size begun ∷ xs) ys = called-append n xs ys
-called-append n (posted.Call act ∷ xs) ys = either_way (act == n) (is_called n (xs ++ ys)) (is_called n xs) (is_called n ys) (called-append n xs ys)
+called-append n (posted.Call act ∷ xs) ys =
+    either_way (act == n) (is_called n (xs ++ ys)) (is_called n xs) (is_called n ys) (called-append n xs ys)
 called-append n (posted.Back act ∷ xs) ys = called-append n xs ys
 called-append n (posted.End op ran ∷ xs) ys = called-append n xs ys
 
-pub stopping-append : (script : ScriptModel) (xs ys : List Posted) → are_stopping script (xs ++ ys) ≡ (are_stopping script xs || are_stopping script ys)
+pub stopping-append : (script : ScriptModel) (xs ys : List Posted) →
+    are_stopping script (xs ++ ys) ≡ (are_stopping script xs || are_stopping script ys)
 stopping-append script [] ys = refl
 stopping-append script (posted.Begin op code size begun ∷ xs) ys = stopping-append script xs ys
 stopping-append script (posted.Call act ∷ xs) ys =
-    either_way (stops script act) (are_stopping script (xs ++ ys)) (are_stopping script xs) (are_stopping script ys) (stopping-append script xs ys)
+    either_way (stops script act) (are_stopping script (xs ++ ys)) (are_stopping script xs) (are_stopping script ys)
+    (stopping-append script xs ys)
 stopping-append script (posted.Back act ∷ xs) ys = stopping-append script xs ys
 stopping-append script (posted.End op ran ∷ xs) ys = stopping-append script xs ys
 
 -- an execution calls what its body calls
-pub called-execution : (n op : ℕ) (code : Code) (size begun mark : ℕ) (body : List Posted) → is_called n (execution_of op code size begun mark body) ≡ is_called n body
+pub called-execution : (n op : ℕ) (code : Code) (size begun mark : ℕ) (body : List Posted) →
+    is_called n (execution_of op code size begun mark body) ≡ is_called n body
 called-execution n op code size begun mark body = called-append n body _ ∙ or-false (is_called n body)
 
-pub stopping-execution : (script : ScriptModel) (op : ℕ) (code : Code) (size begun mark : ℕ) (body : List Posted) → are_stopping script (execution_of op code size begun mark body) ≡ are_stopping script body
-stopping-execution script op code size begun mark body = stopping-append script body _ ∙ or-false (are_stopping script body)
+pub stopping-execution : (script : ScriptModel) (op : ℕ) (code : Code) (size begun mark : ℕ) (body : List Posted) →
+    are_stopping script (execution_of op code size begun mark body) ≡ are_stopping script body
+stopping-execution script op code size begun mark body =
+    stopping-append script body _ ∙ or-false (are_stopping script body)
 
 -- the first call is the act's, or it is among the others
 pub one_called : (a n : ℕ) (others : Bool) → cond (a == n) true others ≡ true → (a ≡ n) ⊎ (others ≡ true)

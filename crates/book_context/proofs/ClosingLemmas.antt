@@ -24,7 +24,8 @@ use Rattle.book_context.specs.RoundSteps.{EndsAreRecorded, PollsAreRecorded, Sto
 use Rattle.book_context.specs.Steps.{EventIsRecorded}
 use Rattle.book_context.proofs.OpenRoundLemmas.{round_open, work_is}
 
-ready-loud : (p : ActPhase) (code : Code) (size : ℕ) (taken : Bool) → IsReadyWith p code size → is_quiet p taken ≡ true → ⊥
+ready-loud : (p : ActPhase) (code : Code) (size : ℕ) (taken : Bool) → IsReadyWith p code size →
+    is_quiet p taken ≡ true → ⊥
 ready-loud p code size taken (why, is) quiet =
     let loud : is_quiet p taken ≡ false = ap (λ q. is_quiet q taken) is in
     absurd (cc (loud, quiet))
@@ -42,24 +43,27 @@ request-loud phase.Ended taken waits quiet = absurd (cc waits)
 request-loud phase.Dropped taken waits quiet = absurd (cc waits)
 
 -- where all is quiet nothing is ready and no request waits
-quiet-none-ready : (s : State) (ready : List (ℕ × Code × ℕ)) → All (λ item. IsReadyWith (phase_at s.context item.0) item.1 item.2) ready →
-    AllQuiet s → ready ≡ []
+quiet-none-ready : (s : State) (ready : List (ℕ × Code × ℕ)) →
+    All (λ item. IsReadyWith (phase_at s.context item.0) item.1 item.2) ready → AllQuiet s → ready ≡ []
 quiet-none-ready s [] are quiet = refl
 quiet-none-ready s ((op, code, size) ∷ newer) are quiet =
     absurd (ready-loud (phase_at s.context op) code size (was_taken s.reactor op)
     (All-head (λ item. IsReadyWith (phase_at s.context item.0) item.1 item.2) (op, code, size) newer are) (quiet op))
 
-quiet-none-asked : (s : State) (requests : List ℕ) → All (λ n. is_untaken s n ≡ true) requests → AllQuiet s → requests ≡ []
+quiet-none-asked : (s : State) (requests : List ℕ) → All (λ n. is_untaken s n ≡ true) requests → AllQuiet s →
+    requests ≡ []
 quiet-none-asked s [] are quiet = refl
 quiet-none-asked s (a ∷ newer) are quiet =
-    absurd (request-loud (phase_at s.context a) (was_taken s.reactor a) (All-head (λ n. is_untaken s n ≡ true) a newer are) (quiet a))
+    absurd (request-loud (phase_at s.context a) (was_taken s.reactor a)
+    (All-head (λ n. is_untaken s n ≡ true) a newer are) (quiet a))
 
 empty-length : {X : Type 0} (xs : List X) → length xs ≡ 0 → xs ≡ []
 empty-length [] none = refl
 empty-length (x ∷ xs) none = absurd (omega (arith, none))
 
 -- what each closing event asks can't be met
-cannot_by : (script : ScriptModel) (told : Bool) (r : Recording) → (MayHappen script told (recorded_state told r) event.Ended → ⊥) →
+cannot_by : (script : ScriptModel) (told : Bool) (r : Recording) →
+    (MayHappen script told (recorded_state told r) event.Ended → ⊥) →
     (MayHappen script told (recorded_state told r) event.Stopped → ⊥) →
     (MayHappen script told (recorded_state told r) event.Polled → ⊥) → CannotClose script told r
 cannot_by script told r ended stopped polled event.Ended is may = ended may
@@ -78,8 +82,8 @@ cannot_by script told r ended stopped polled event.Fault is may = absurd is
 cannot_by script told r ended stopped polled event.Restart is may = absurd is
 cannot_by script told r ended stopped polled (event.Dropped o mark) is may = absurd is
 
-module _ {X : Type 0} (state : X → ReactorState) (told : X → Option Outside) (faults : X → ℕ) (telling : Bool) (named : ℕ)
-    (r : Recording) (view : ProactorView X) (recorded : IsRecorded telling r)
+module _ {X : Type 0} (state : X → ReactorState) (told : X → Option Outside) (faults : X → ℕ) (telling : Bool)
+    (named : ℕ) (r : Recording) (view : ProactorView X) (recorded : IsRecorded telling r)
     (keeps : KeepsReactor state told faults telling named r view) where
   module _ (works : view.tables.failed ≡ false) where
     half_works : (recorded_half telling r).failed ≡ false
@@ -131,39 +135,41 @@ module _ {X : Type 0} (state : X → ReactorState) (told : X → Option Outside)
             law telling r recorded (round_open r opened) going
             (work_is telling r recorded half_works none_ready none_asked work ∙ none (recorded_half telling r) follows_now)
 
-        module _ (work : WorkIsKnown) (some : (half : _) → Follows told view half → 1 ≤ pending_count half + count_by is_held half.guards)
-          where
-            some_work : 1 ≤ outstanding_work (recorded_state telling r)
-            some_work =
-                let same = work_is telling r recorded half_works none_ready none_asked work in
-                let here = some (recorded_half telling r) follows_now in
-                omega (arith, same, here)
+        module _ (work : WorkIsKnown)
+            (some : (half : _) → Follows told view half → 1 ≤ pending_count half + count_by is_held half.guards) where
+          some_work : 1 ≤ outstanding_work (recorded_state telling r)
+          some_work =
+              let same = work_is telling r recorded half_works none_ready none_asked work in
+              let here = some (recorded_half telling r) follows_now in
+              omega (arith, same, here)
 
-            pub cannot_run : runs (open_round r) ≡ true → CannotClose r.script telling r
-            cannot_run is =
-                let here = some_work in
-                cannot_by r.script telling r
-                (λ may. let idle = may.idle in omega (arith, idle, here))
-                not_stopped
-                (λ may.
-                let polls = may.polls in
-                let same : runs (slice_get r.script.rounds (recorded_state telling r).context.closings) ≡ runs (open_round r) = ap
-                (λ closings. runs (slice_get r.script.rounds closings)) recorded.closings in
-                absurd (cc (polls, same, is)))
+          pub cannot_run : runs (open_round r) ≡ true → CannotClose r.script telling r
+          cannot_run is =
+              let here = some_work in
+              cannot_by r.script telling r
+              (λ may. let idle = may.idle in omega (arith, idle, here))
+              not_stopped
+              (λ may.
+              let polls = may.polls in
+              let same : runs (slice_get r.script.rounds (recorded_state telling r).context.closings)
+              ≡ runs (open_round r) =
+              ap
+              (λ closings. runs (slice_get r.script.rounds closings)) recorded.closings in
+              absurd (cc (polls, same, is)))
 
-            pub may_poll : PollsAreRecorded → is_round_open r ≡ true → runs (open_round r) ≡ false →
-                EventIsRecorded telling r event.Polled (with_closing event.Polled false r)
-            may_poll law opened isnt =
-                law telling r recorded (record {
-                  turn = record {
-                    round = round_open r opened;
-                    going = going;
-                    working = half_works;
-                    nothing_due = (keeps.turned works).none_due;
-                    drained = (keeps.turned works).drained;
-                  };
-                  polls = isnt;
-                  none_ready = none_ready;
-                  none_asked = none_asked;
-                  outstanding = some_work;
-                })
+          pub may_poll : PollsAreRecorded → is_round_open r ≡ true → runs (open_round r) ≡ false →
+              EventIsRecorded telling r event.Polled (with_closing event.Polled false r)
+          may_poll law opened isnt =
+              law telling r recorded (record {
+                turn = record {
+                  round = round_open r opened;
+                  going = going;
+                  working = half_works;
+                  nothing_due = (keeps.turned works).none_due;
+                  drained = (keeps.turned works).drained;
+                };
+                polls = isnt;
+                none_ready = none_ready;
+                none_asked = none_asked;
+                outstanding = some_work;
+              })

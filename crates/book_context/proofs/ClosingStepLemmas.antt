@@ -26,7 +26,8 @@ use Rattle.book_context.proofs.OpenRoundLemmas.{round_open}
 
 -- the same handlers are held where the same are spent
 holds_same : {H : Type 0} (marks : H → Marks) (told : Bool) (run drop : ℕ → ℕ) (r t : Recording) (hands : Held H) →
-    HoldsUnspent marks told run drop r hands → t.script ≡ r.script → SpendsNone told r t → HoldsUnspent marks told run drop t hands
+    HoldsUnspent marks told run drop r hands → t.script ≡ r.script → SpendsNone told r t →
+    HoldsUnspent marks told run drop t hands
 holds_same marks told run drop r t hands holds script none = record {
   script = holds.script ∙ sym script;
   each = λ n.
@@ -36,10 +37,9 @@ holds_same marks told run drop r t hands holds script none = record {
 }
 
 -- the proactor stands as before where the reactor's half does
-reactor_same : {X : Type 0} (state : X → ReactorState) (told : X → Option Outside) (faults : X → ℕ) (telling : Bool) (named : ℕ)
-    (r t : Recording) (view : ProactorView X) →
-    KeepsReactor state told faults telling named r view → t.script ≡ r.script → recorded_half telling t ≡ recorded_half telling r →
-    has_fault t.events ≡ has_fault r.events →
+reactor_same : {X : Type 0} (state : X → ReactorState) (told : X → Option Outside) (faults : X → ℕ) (telling : Bool)
+    (named : ℕ) (r t : Recording) (view : ProactorView X) → KeepsReactor state told faults telling named r view →
+    t.script ≡ r.script → recorded_half telling t ≡ recorded_half telling r → has_fault t.events ≡ has_fault r.events →
     (view.tables.failed ≡ true → t.stopped ≡ true) → KeepsReactor state told faults telling named t view
 reactor_same state told faults telling named r t view keeps script half fault stopped = record {
   script = keeps.script ∙ sym script;
@@ -69,7 +69,8 @@ stopped_history script told run drop outside r keeps allowed recorded = record {
   set_up = other_alone r.events;
 }
 
-wants_left : (restarted : Bool) (round : Option Round) → wants_with restarted round ≡ true → (found : Round) × (round ≡ Some found)
+wants_left : (restarted : Bool) (round : Option Round) → wants_with restarted round ≡ true →
+    (found : Round) × (round ≡ Some found)
 wants_left restarted None is = absurd (cc is)
 wants_left restarted (Some round) is = (round, refl)
 
@@ -90,19 +91,21 @@ wants_once true (Some round) is = absurd (by_flag round.restart is)
     by_flag true is = absurd (cc is)
     by_flag false is = absurd (cc is)
 
-module _ {H X : Type 0} (script : ScriptModel) (told : Bool) (run drop : ℕ → ℕ) (named : ℕ) (outside : Bool) (marks : H → Marks)
-    (state : X → ReactorState) (tells_of : X → Option Outside) (faults : X → ℕ)
-    (r : Recording) (hands : Held H) (view : ProactorView X)
+module _ {H X : Type 0} (script : ScriptModel) (told : Bool) (run drop : ℕ → ℕ) (named : ℕ) (outside : Bool)
+    (marks : H → Marks) (state : X → ReactorState) (tells_of : X → Option Outside) (faults : X → ℕ) (r : Recording)
+    (hands : Held H) (view : ProactorView X)
     (book : IsBook script told run drop named outside marks state tells_of faults r hands view) where
   -- an event that leaves the reactor's half
-  book_on : (event : Event) (t : Recording) → EventIsRecorded told r event t → KeepsHistory script told run drop outside t → t.script ≡ r.script →
-      has_fault t.events ≡ has_fault r.events →
-      reactor_after r.script told (recorded_half told r) event ≡ recorded_half told r → (view.tables.failed ≡ true → t.stopped ≡ true) →
+  book_on : (event : Event) (t : Recording) → EventIsRecorded told r event t →
+      KeepsHistory script told run drop outside t → t.script ≡ r.script → has_fault t.events ≡ has_fault r.events →
+      reactor_after r.script told (recorded_half told r) event ≡ recorded_half told r →
+      (view.tables.failed ≡ true → t.stopped ≡ true) →
       IsBook script told run drop named outside marks state tells_of faults t hands view
   book_on event t goes history same fault half stopped = record {
     history = history;
     holds = holds_same marks told run drop r t hands book.holds same goes.spent;
-    reactor = reactor_same state tells_of faults told named r t view book.reactor same (ap (λ (s : State). s.reactor) goes.state ∙ half)
+    reactor =
+        reactor_same state tells_of faults told named r t view book.reactor same (ap (λ (s : State). s.reactor) goes.state ∙ half)
         fault stopped;
   }
 
@@ -120,16 +123,19 @@ module _ {H X : Type 0} (script : ScriptModel) (told : Bool) (run drop : ℕ →
   stops_works : view.tables.failed ≡ true → (recorded_state told r).context.stopped ≡ true
   stops_works failed = book.history.recorded.stopped ∙ book.reactor.stopped failed
 
-  closed_by : (event : Event) (stopped : Bool) → EventIsRecorded told r event (with_closing event stopped r) → IsPlain run drop (event ∷ []) →
-      is_fault event ≡ false →
-      reactor_after r.script told (recorded_half told r) event ≡ recorded_half told r → (view.tables.failed ≡ true → stopped ≡ true) →
+  closed_by : (event : Event) (stopped : Bool) → EventIsRecorded told r event (with_closing event stopped r) →
+      IsPlain run drop (event ∷ []) → is_fault event ≡ false →
+      reactor_after r.script told (recorded_half told r) event ≡ recorded_half told r →
+      (view.tables.failed ≡ true → stopped ≡ true) →
       IsBook script told run drop named outside marks state tells_of faults (with_closing event stopped r) hands view
   closed_by event stopped goes plain isnt half stays =
       book_on event (with_closing event stopped r) goes
-      (history-plain script told run drop outside r (with_closing event stopped r) (event ∷ []) book.history goes.recorded refl refl plain)
+      (history-plain script told run drop outside r (with_closing event stopped r) (event ∷ []) book.history
+      goes.recorded refl refl plain)
       refl (faults_on event isnt) half stays
 
-  pub closed_book : (closing : Event) (stopped : Bool) → IsClosing closing → EventIsRecorded told r closing (with_closing closing stopped r) →
+  pub closed_book : (closing : Event) (stopped : Bool) → IsClosing closing →
+      EventIsRecorded told r closing (with_closing closing stopped r) →
       IsBook script told run drop named outside marks state tells_of faults (with_closing closing stopped r) hands view
   closed_book event.Ended stopped is goes =
       closed_by event.Ended stopped goes (record { marked = (tt, tt); working = refl; inside = refl }) refl refl
@@ -154,10 +160,13 @@ module _ {H X : Type 0} (script : ScriptModel) (told : Bool) (run drop : ℕ →
   closed_book (event.Dropped op mark) stopped is goes = absurd is
 
   -- a restart
-  pub may_restart : RestartsAreRecorded → view.tables.failed ≡ false → wants_restart r ≡ true → EventIsRecorded told r event.Restart (with_restart r)
+  pub may_restart : RestartsAreRecorded → view.tables.failed ≡ false → wants_restart r ≡ true →
+      EventIsRecorded told r event.Restart (with_restart r)
   may_restart law works wants =
       law told r book.history.recorded (record {
-        left = let found = wants_left r.restarted (open_round r) wants in slice_get_within r.script.rounds r.closings found.0 found.1;
+        left =
+            let found = wants_left r.restarted (open_round r) wants in
+            slice_get_within r.script.rounds r.closings found.0 found.1;
         wanted = wants_first r.restarted (open_round r) wants;
         once = wants_once r.restarted (open_round r) wants;
         working = book.reactor.failed ∙ works;
@@ -187,6 +196,7 @@ module _ {H X : Type 0} (script : ScriptModel) (told : Bool) (run drop : ℕ →
       (stopped_history script told run drop outside r book.history allowed goes.recorded)
       refl (faults_on (event.Stop None) refl) refl (λ failed. refl)
 
-  pub now_going : OpenRoundsAreKnown → is_round_open r ≡ true → r.stopped ≡ false → IsGoing script (recorded_state told r)
+  pub now_going : OpenRoundsAreKnown → is_round_open r ≡ true → r.stopped ≡ false →
+      IsGoing script (recorded_state told r)
   now_going law opened still = subst (λ s. IsGoing s (recorded_state told r)) book.history.is_script
       (record { round = law told r book.history.recorded (round_open r opened); going = book.history.recorded.stopped ∙ still })

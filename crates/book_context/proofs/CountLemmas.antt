@@ -17,7 +17,9 @@ one_more-is n below = min-eq_left (omega (arith, below))
 pub one_more-rose : (n : ℕ) → one_more n < most_faults → n < one_more n
 one_more-rose n room = elim (cases_lt n most_faults) [
   | inl below ↦ let e = one_more-is n below in omega (arith, e)
-  | inr end ↦ let least : most_faults ≤ one_more n = le-min (omega (arith, end)) (omega arith) in absurd (omega (arith, least, room))
+  | inr end ↦
+      let least : most_faults ≤ one_more n = le-min (omega (arith, end)) (omega arith) in
+      absurd (omega (arith, least, room))
 ]
 
 -- a count after so many more
@@ -25,7 +27,8 @@ abbrev pub later : ℕ → ℕ → ℕ
 later zero n = n
 later (suc k) n = later k (one_more n)
 
-pub later-append : {A : Type 0} (xs ys : List A) (n : ℕ) → later (length (xs ++ ys)) n ≡ later (length ys) (later (length xs) n)
+pub later-append : {A : Type 0} (xs ys : List A) (n : ℕ) →
+    later (length (xs ++ ys)) n ≡ later (length ys) (later (length xs) n)
 later-append [] ys n = refl
 later-append (x ∷ xs) ys n = later-append xs ys (one_more n)
 

@@ -28,7 +28,8 @@ either_one false true never = refl
 either_one false false never = refl
 
 -- two tests that no number passes both
-pub counted-either : (one two : ℕ → Bool) (n : ℕ) → ((m : ℕ) → one m ≡ true → two m ≡ true → ⊥) → counted (λ m. one m || two m) n ≡ counted one n + counted two n
+pub counted-either : (one two : ℕ → Bool) (n : ℕ) → ((m : ℕ) → one m ≡ true → two m ≡ true → ⊥) →
+    counted (λ m. one m || two m) n ≡ counted one n + counted two n
 counted-either one two zero never = refl
 counted-either one two (suc n) never =
     let rest = counted-either one two n never in
@@ -57,17 +58,20 @@ counted-one a (suc n) less = elim (cases_eq a n) [
 pub counted-same : (one two : ℕ → Bool) (n : ℕ) → ((m : ℕ) → one m ≡ two m) → counted one n ≡ counted two n
 counted-same one two zero same = refl
 counted-same one two (suc n) same =
-    ap (λ (c : ℕ). c + cond (one n) 1 0) (counted-same one two n same) ∙ ap (λ (b : Bool). counted two n + cond b 1 0) (same n)
+    ap (λ (c : ℕ). c + cond (one n) 1 0) (counted-same one two n same)
+    ∙ ap (λ (b : Bool). counted two n + cond b 1 0) (same n)
 
 cond_or : (a b : Bool) → cond a true b ≡ (a || b)
 cond_or true b = refl
 cond_or false b = refl
 
 -- a number, and others
-pub counted-more : (a n : ℕ) (others : ℕ → Bool) → a < n → others a ≡ false → counted (λ m. cond (a == m) true (others m)) n ≡ 1 + counted others n
+pub counted-more : (a n : ℕ) (others : ℕ → Bool) → a < n → others a ≡ false →
+    counted (λ m. cond (a == m) true (others m)) n ≡ 1 + counted others n
 counted-more a n others less alone =
     let one = counted-one a n less in
-    let never = λ (m : ℕ) (here : (a == m) ≡ true) (there : others m ≡ true). absurd (let wrong : false ≡ true = sym alone ∙ (ap others (eqb-true a m here) ∙ there) in cc) in
+    let never = λ (m : ℕ) (here : (a == m) ≡ true) (there : others m ≡ true).
+    absurd (let wrong : false ≡ true = sym alone ∙ (ap others (eqb-true a m here) ∙ there) in cc) in
     counted-same (λ m. cond (a == m) true (others m)) (λ m. (a == m) || others m) n (λ m. cond_or (a == m) (others m))
     ∙ (counted-either (λ m. a == m) others n never ∙ ap (λ c. c + counted others n) one)
 
@@ -91,7 +95,9 @@ range_counted test a (suc n) =
     omega (arith, first, rest, here, all)
 
 pub counted-range : (test : ℕ → Bool) (n : ℕ) → count_by test (range_with_len 0 n) ≡ counted test n
-counted-range test n = let all = range_counted test 0 n in let e : 0 + n ≡ n = omega arith in let same = ap (counted test) e in omega (arith, all, same)
+counted-range test n =
+    let all = range_counted test 0 n in
+    let e : 0 + n ≡ n = omega arith in let same = ap (counted test) e in omega (arith, all, same)
 
 split_at : (test : ℕ → Bool) (a m : ℕ) → test a ≡ true → test m ≡ cond (a == m) true (test m && not (a == m))
 split_at test a m is = by_test (a == m) refl
@@ -101,19 +107,25 @@ split_at test a m is = by_test (a == m) refl
     by_test false differ = sym (and-true (test m))
 
 -- a list of all that pass, in which something rises, is as long as there are such numbers
-pub counted-list : {X : Type 0} (place : ℕ → ℕ) (key : X → ℕ) (n : ℕ) (test : ℕ → Bool) (xs : List X) → Rises (λ x. place (key x)) xs → All (λ x. test (key x) ≡ true) xs → All (λ x. key x < n) xs →
+pub counted-list : {X : Type 0} (place : ℕ → ℕ) (key : X → ℕ) (n : ℕ) (test : ℕ → Bool) (xs : List X) →
+    Rises (λ x. place (key x)) xs → All (λ x. test (key x) ≡ true) xs → All (λ x. key x < n) xs →
     ((m : ℕ) → test m ≡ true → Any (λ x. key x ≡ m) xs) → counted test n ≡ length xs
-counted-list place key n test [] rises each within all = counted-never test n (λ m is. let found = all m is in absurd (omega (arith, found.2)))
+counted-list place key n test [] rises each within all =
+    counted-never test n (λ m is. let found = all m is in absurd (omega (arith, found.2)))
 counted-list {X} place key n test (x ∷ xs) rises each within all =
     let a : ℕ = key x in
     let others : ℕ → Bool = λ m. test m && not (a == m) in
     let here : test a ≡ true = All-head (λ x. test (key x) ≡ true) x xs each in
-    let apart : All (λ y. (a == key y) ≡ false) xs = λ k d below. ne_eqb a (key (get_or xs k d)) (λ same. let less = rises.0 k d below in let e = ap place same in absurd (omega (arith, less, e))) in
+    let apart : All (λ y. (a == key y) ≡ false) xs = λ k d below.
+    ne_eqb a (key (get_or xs k d))
+    (λ same. let less = rises.0 k d below in let e = ap place same in absurd (omega (arith, less, e))) in
     let alone : others a ≡ false = and_right (test a) (not (a == a)) (ap not (eq-eqb a a refl)) in
     let one = counted-more a n others (All-head (λ x. key x < n) x xs within) alone in
     let rest : counted others n ≡ length xs =
     counted-list place key n others xs rises.1
-    (λ k d below. and_from (test (key (get_or xs k d))) (not (a == key (get_or xs k d))) (All-tail (λ x. test (key x) ≡ true) x xs each k d below) (ap not (apart k d below)))
+    (λ k d below.
+    and_from (test (key (get_or xs k d))) (not (a == key (get_or xs k d)))
+    (All-tail (λ x. test (key x) ≡ true) x xs each k d below) (ap not (apart k d below)))
     (All-tail (λ x. key x < n) x xs within)
     (λ m is.
     let parts = and_parts (test m) (not (a == m)) is in

@@ -28,7 +28,8 @@ use Rattle.book_context.proofs.StateLemmas.{act_at-other, act_at-same, length-ac
 use Rattle.book_context.proofs.SummingLemmas.{one_if, summed, summed-apart, summed-less, summed-range}
 
 -- an accepted operation at rest is unspent or spent
-one_of : (p : ActPhase) → is_accepted p ≡ true → is_running p ≡ false → waits_inside p ≡ false → is_unspent p ≡ not (is_spent p)
+one_of : (p : ActPhase) → is_accepted p ≡ true → is_running p ≡ false → waits_inside p ≡ false →
+    is_unspent p ≡ not (is_spent p)
 one_of phase.Absent is quiet entered = absurd (cc)
 one_of phase.Inside is quiet entered = absurd (cc)
 one_of phase.Requested is quiet entered = refl
@@ -47,18 +48,25 @@ not_called (call.Back called back) isnt = absurd (cc)
 pub unspent_called : (told : Bool) (r : Recording) (n : ℕ) → IsRecorded told r →
     is_unspent_at told r n ≡ (is_op r.script n && (slice_index_or r.called n false && not (is_spent_at told r n)))
 unspent_called told r n knows = elim (cases_Bool (is_op r.script n)) [
-  | inr isnt ↦ knows.kinds.others n isnt ∙ sym (ap (λ b. b && (slice_index_or r.called n false && not (is_spent_at told r n))) isnt)
+  | inr isnt ↦
+      knows.kinds.others n isnt
+      ∙ sym (ap (λ b. b && (slice_index_or r.called n false && not (is_spent_at told r n))) isnt)
   | inl is ↦ elim (cases_Bool (slice_index_or r.called n false)) [
     | inr uncalled ↦
         let absent : phase_at s.context n ≡ phase.Absent =
         knows.kept.orderly.uncalled n (not_called (call_at s.context n) (sym (knows.called n) ∙ uncalled)) in
         ap is_unspent absent
-        ∙ sym (ap (λ b. b && (slice_index_or r.called n false && not (is_spent_at told r n))) is ∙ ap (λ b. b && not (is_spent_at told r n)) uncalled)
+        ∙ sym (ap (λ b. b && (slice_index_or r.called n false && not (is_spent_at told r n))) is
+        ∙ ap (λ b. b && not (is_spent_at told r n)) uncalled)
     | inl called ↦
         let accepted = knows.kinds.operations n is (sym (knows.called n) ∙ called) in
         let either =
-        one_of (phase_at s.context n) accepted (at_each (λ act. is_running act.phase ≡ false) s.context refl knows.kept.rest.quiet n) (at_each (λ act. waits_inside act.phase ≡ false) s.context refl knows.kept.rest.entered n) in
-        either ∙ sym (ap (λ b. b && (slice_index_or r.called n false && not (is_spent_at told r n))) is ∙ ap (λ b. b && not (is_spent_at told r n)) called)
+        one_of (phase_at s.context n) accepted
+        (at_each (λ act. is_running act.phase ≡ false) s.context refl knows.kept.rest.quiet n)
+        (at_each (λ act. waits_inside act.phase ≡ false) s.context refl knows.kept.rest.entered n) in
+        either
+        ∙ sym (ap (λ b. b && (slice_index_or r.called n false && not (is_spent_at told r n))) is
+        ∙ ap (λ b. b && not (is_spent_at told r n)) called)
   ]
 ]
   where
@@ -98,7 +106,8 @@ unspent_one s n = one_if (is_unspent (phase_at s n))
 unspent_sum : (s : ContextState) → unspent_count s ≡ summed (unspent_one s) (length s.acts)
 unspent_sum s = summed-range (unspent_one s) (length s.acts)
 
-over_from : (told : Bool) (r : Recording) → IsRecorded told r → IsDoneWith told r → IsOver r.script (recorded_state told r)
+over_from : (told : Bool) (r : Recording) → IsRecorded told r → IsDoneWith told r →
+    IsOver r.script (recorded_state told r)
 over_from told r knows (inl closed) = inl (knows.closings ∙ closed)
 over_from told r knows (inr failed) = inr (failed, knows.kept.rest.quiet)
 
@@ -117,7 +126,8 @@ dropping_begins told r knows done =
       room =
           let count = unspent_sum s.context in
           let less =
-          summed-less (unspent_one s.context) (act_left_at s) (length s.context.acts) (λ n. unspent_left (call_at s.context n) (phase_at s.context n) (was_taken s.reactor n)) in
+          summed-less (unspent_one s.context) (act_left_at s) (length s.context.acts)
+          (λ n. unspent_left (call_at s.context n) (phase_at s.context n) (was_taken s.reactor n)) in
           let parts = left-parts r.script s in
           let had = knows.room in
           omega (arith, count, less, parts, had);
@@ -155,7 +165,8 @@ module _ (told : Bool) (r : Recording) (n : ℕ) (t : Recording) (drops : IsDrop
     unspent_here = ap is_unspent same_here ∙ left
 
     within : n < length u.context.acts
-    within = is_within u.context n (λ absent. let wrong : false ≡ true = sym (ap is_unspent absent) ∙ unspent_here in absurd (cc))
+    within =
+        is_within u.context n (λ absent. let wrong : false ≡ true = sym (ap is_unspent absent) ∙ unspent_here in absurd (cc))
 
     abbrev dropped_act : ActState
     dropped_act = record (act_at u.context n) { phase = phase.Dropped }
@@ -175,14 +186,18 @@ module _ (told : Bool) (r : Recording) (n : ℕ) (t : Recording) (drops : IsDrop
         let two = unspent_sum v.context in
         let gone = ap (λ (act : ActState). one_if (is_unspent act.phase)) now in
         let was = ap one_if unspent_here in
-        let less = summed-apart (unspent_one v.context) (unspent_one u.context) n 1 (length u.context.acts) within (omega (arith, gone, was))
-        (λ m differ. let same = ap (λ (act : ActState). one_if (is_unspent act.phase)) (others m differ) in omega (arith, same)) in
+        let less =
+        summed-apart (unspent_one v.context) (unspent_one u.context) n 1 (length u.context.acts) within (omega (arith, gone, was))
+        (λ m differ.
+        let same = ap (λ (act : ActState). one_if (is_unspent act.phase)) (others m differ) in omega (arith, same))
+        in
         let size = ap (summed (unspent_one v.context)) same_size in
         omega (arith, one, two, less, size)
 
     still_over : IsOver t.script u → IsOver t.script v
     still_over (inl closed) = inl closed
-    still_over (inr failed) = inr (failed.0, All-set (λ act. is_running act.phase ≡ false) u.context.acts n dropped_act refl failed.1)
+    still_over (inr failed) =
+        inr (failed.0, All-set (λ act. is_running act.phase ≡ false) u.context.acts n dropped_act refl failed.1)
 
     abbrev next : Recording
     next = with_event (event.Dropped n mark) t
@@ -197,8 +212,11 @@ module _ (told : Bool) (r : Recording) (n : ℕ) (t : Recording) (drops : IsDrop
       over = still_over drops.over;
       acts = same_size ∙ drops.acts;
       below = λ m less. elim (cases_eq m n) [
-        | inl same ↦ ap (λ m. is_unspent (phase_at v.context m)) same ∙ ap (λ (act : ActState). is_unspent act.phase) now
-        | inr differ ↦ ap (λ (act : ActState). is_unspent act.phase) (others m differ) ∙ drops.below m (omega (arith, less, differ))
+        | inl same ↦
+            ap (λ m. is_unspent (phase_at v.context m)) same ∙ ap (λ (act : ActState). is_unspent act.phase) now
+        | inr differ ↦
+            ap (λ (act : ActState). is_unspent act.phase) (others m differ)
+            ∙ drops.below m (omega (arith, less, differ))
       ];
       from = λ m less. ap (λ (act : ActState). act.phase) (others m (λ same. absurd (omega (arith, less, same))))
           ∙ drops.from m (omega (arith, less));
@@ -211,10 +229,12 @@ module _ (told : Bool) (r : Recording) (n : ℕ) (t : Recording) (drops : IsDrop
     has_dropped = record {
       may = may;
       room = let less = fewer in let had = drops.room in omega (arith, less, had);
-      next = subst (DropsTo told r (n + 1) next) (sym (state_goes_on t.script told t.events (event.Dropped n mark ∷ []))) known;
+      next =
+          subst (DropsTo told r (n + 1) next) (sym (state_goes_on t.script told t.events (event.Dropped n mark ∷ []))) known;
     }
 
-over_whole : (script : ScriptModel) (s : State) → IsOver script s → AllClosed script s.context ⊎ (s.reactor.failed ≡ true)
+over_whole : (script : ScriptModel) (s : State) → IsOver script s →
+    AllClosed script s.context ⊎ (s.reactor.failed ≡ true)
 over_whole script s (inl closed) = inl closed
 over_whole script s (inr failed) = inr failed.0
 
@@ -226,7 +246,9 @@ dropped_legal told r t drops =
     let acts = drops.acts in
     let whole : IsWhole t.script u = record {
       over = over_whole t.script u drops.over;
-      spent = All-from_get_or (λ act. is_unspent act.phase ≡ false) u.context.acts fresh (λ n within. drops.below n (omega (arith, within, long, acts)));
+      spent =
+          All-from_get_or (λ act. is_unspent act.phase ≡ false) u.context.acts fresh
+          (λ n within. drops.below n (omega (arith, within, long, acts)));
     } in
     let legal : IsLegal t.script told t.events = record { legal = drops.legal; whole = whole } in
     subst (λ script. IsLegal script told t.events) drops.script legal

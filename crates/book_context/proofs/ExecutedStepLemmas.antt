@@ -67,7 +67,8 @@ or_none false = refl
 
 pub begins-execution : (n op : ℕ) (code : Code) (size begun mark : ℕ) (body : List Posted) →
     begins n (execution_of op code size begun mark body) ≡ cond (op == n) true (begins n body)
-begins-execution n op code size begun mark body = ap (λ b. cond (op == n) true b) (begins-append n body _ ∙ or_none (begins n body))
+begins-execution n op code size begun mark body =
+    ap (λ b. cond (op == n) true b) (begins-append n body _ ∙ or_none (begins n body))
 
 outside_by : (here called inline began : Bool) → (here ≡ true → inline ≡ false) → began ≡ (called && inline) →
     began ≡ (cond here true called && inline)
@@ -92,7 +93,8 @@ pub begins-calls : (script : ScriptModel) {HasMark : ℕ → ℕ → Type 0} {ac
     AreCalls script HasMark acts calls → begins n calls ≡ (is_called n calls && is_inline script n)
 begins-calls script n no_act = refl
 begins-calls script n (outside {act} {acts} {calls} isnt more) =
-    outside_by (act == n) (is_called n calls) (is_inline script n) (begins n calls) (λ same. ap (is_inline script) (sym (eqb-true act n same)) ∙ isnt) (begins-calls script n more)
+    outside_by (act == n) (is_called n calls) (is_inline script n) (begins n calls)
+    (λ same. ap (is_inline script) (sym (eqb-true act n same)) ∙ isnt) (begins-calls script n more)
 begins-calls script n (inside {act} {begun} {mark} {acts} {body} {calls} is marked inner more) =
     let execution : List Posted = execution_of act code.Ok 0 begun mark body in
     let began =
@@ -102,14 +104,16 @@ begins-calls script n (inside {act} {begun} {mark} {acts} {body} {calls} is mark
     called-append n execution (posted.Back act ∷ calls)
     ∙ ap (λ b. b || is_called n calls) (called-execution n act code.Ok 0 begun mark body) in
     began
-    ∙ (inside_by (act == n) (is_called n body) (is_called n calls) (is_inline script n) (begins n body) (begins n calls) (λ same. ap (is_inline script) (sym (eqb-true act n same)) ∙ is) (begins-calls script n inner) (begins-calls script n more)
-    ∙ ap (λ b. cond (act == n) true b && is_inline script n) (sym called))
+    ∙ (inside_by (act == n) (is_called n body) (is_called n calls) (is_inline script n) (begins n body) (begins n calls)
+    (λ same. ap (is_inline script) (sym (eqb-true act n same)) ∙ is) (begins-calls script n inner)
+    (begins-calls script n more) ∙ ap (λ b. cond (act == n) true b && is_inline script n) (sym called))
 
 -- of which acts the calls were made
 pub marked-length : (calls : List Posted) (called : List Bool) → length (marked calls called) ≡ length called
 marked-length [] called = refl
 marked-length (posted.Begin op code size begun ∷ calls) called = marked-length calls called
-marked-length (posted.Call act ∷ calls) called = marked-length calls (slice_set called act true) ∙ length-set called act true
+marked-length (posted.Call act ∷ calls) called =
+    marked-length calls (slice_set called act true) ∙ length-set called act true
 marked-length (posted.Back act ∷ calls) called = marked-length calls called
 marked-length (posted.End op ran ∷ calls) called = marked-length calls called
 
@@ -122,16 +126,24 @@ marked-at : (calls : List Posted) (called : List Bool) (n : ℕ) → n < length 
 marked-at [] called n within = refl
 marked-at (posted.Begin op code size begun ∷ calls) called n within = marked-at calls called n within
 marked-at (posted.Call act ∷ calls) called n within =
-    let rest = marked-at calls (slice_set called act true) n (let size = length-set called act true in omega (arith, within, size)) in
+    let rest =
+    marked-at calls (slice_set called act true) n (let size = length-set called act true in omega (arith, within, size)) in
     elim (cases_eq act n) [
       | inl same ↦
           let here : slice_index_or (slice_set called act true) n false ≡ true =
-          ap (λ act. slice_index_or (slice_set called act true) n false) same ∙ get_or-set_same called n true false within in
-          rest ∙ (ap (λ b. is_called n calls || b) here ∙ (or_true (is_called n calls) ∙ sym (ap (λ b. cond b true (is_called n calls) || slice_index_or called n false) (eq-eqb act n same))))
+          ap (λ act. slice_index_or (slice_set called act true) n false) same
+          ∙ get_or-set_same called n true false within in
+          rest
+          ∙ (ap (λ b. is_called n calls || b) here
+          ∙ (or_true (is_called n calls)
+          ∙ sym (ap (λ b. cond b true (is_called n calls) || slice_index_or called n false)
+          (eq-eqb act n same))))
       | inr differ ↦
           let there : slice_index_or (slice_set called act true) n false ≡ slice_index_or called n false =
           get_or-set_other called act n true false (λ same. differ (sym same)) in
-          rest ∙ (ap (λ b. is_called n calls || b) there ∙ sym (ap (λ b. cond b true (is_called n calls) || slice_index_or called n false) (ne_eqb act n differ)))
+          rest
+          ∙ (ap (λ b. is_called n calls || b) there
+          ∙ sym (ap (λ b. cond b true (is_called n calls) || slice_index_or called n false) (ne_eqb act n differ)))
     ]
 marked-at (posted.Back act ∷ calls) called n within = marked-at calls called n within
 marked-at (posted.End op ran ∷ calls) called n within = marked-at calls called n within
@@ -139,7 +151,9 @@ marked-at (posted.End op ran ∷ calls) called n within = marked-at calls called
 -- what was called is known after the calls
 pub marked-calls : (calls : List Posted) (called : List Bool) (s t : ContextState) → length called ≡ length t.acts →
     ((n : ℕ) → slice_index_or called n false ≡ was_called (call_at s n)) →
-    ((n : ℕ) → is_called n calls ≡ true → was_called (call_at t n) ≡ true) → ((n : ℕ) → is_called n calls ≡ false → call_at t n ≡ call_at s n) → (n : ℕ) → slice_index_or (marked calls called) n false ≡ was_called (call_at t n)
+    ((n : ℕ) → is_called n calls ≡ true → was_called (call_at t n) ≡ true) →
+    ((n : ℕ) → is_called n calls ≡ false → call_at t n ≡ call_at s n) → (n : ℕ) →
+    slice_index_or (marked calls called) n false ≡ was_called (call_at t n)
 marked-calls calls called s t size were now still n = elim (cases_lt n (length called)) [
   | inl within ↦ marked-at calls called n within ∙ elim (cases_Bool (is_called n calls)) [
     | inl is ↦ ap (λ b. b || slice_index_or called n false) is ∙ sym (now n is)
@@ -156,8 +170,9 @@ stops_less true stopping = omega arith
 stops_less false true = omega arith
 stops_less false false = omega arith
 
-module _ (told : Bool) (r : Recording) (op : ℕ) (given : Code) (size : ℕ) (newer : List (ℕ × Code × ℕ)) (knows : IsRecorded told r)
-    (is_oldest : r.ready ≡ (op, given, size) ∷ newer) (going : r.stopped ≡ false) (round : IsRoundOpen r) where
+module _ (told : Bool) (r : Recording) (op : ℕ) (given : Code) (size : ℕ) (newer : List (ℕ × Code × ℕ))
+    (knows : IsRecorded told r) (is_oldest : r.ready ≡ (op, given, size) ∷ newer) (going : r.stopped ≡ false)
+    (round : IsRoundOpen r) where
   abbrev s : State
   s = recorded_state told r
 
@@ -166,14 +181,16 @@ module _ (told : Bool) (r : Recording) (op : ℕ) (given : Code) (size : ℕ) (n
 
   may : MayBeginOutside r.script s.context op given size
   may =
-      may_begin r.script s op given size newer r.requests oldest (round_open told r knows round) (free_may_start r.script s.context op knows.script knows.free (knows.stopped ∙ going))
+      may_begin r.script s op given size newer r.requests oldest (round_open told r knows round)
+      (free_may_start r.script s.context op knows.script knows.free (knows.stopped ∙ going))
 
   still_unspent : is_unspent (phase_at s.context op) ≡ true
   still_unspent = ap is_unspent may.ready.1
 
   own : is_inline r.script op ≡ false
   own =
-      false_from_ne_true (is_inline r.script op) (λ is. absurd (let wrong : false ≡ true = sym (knows.kinds.inline op is) ∙ still_unspent in cc))
+      false_from_ne_true (is_inline r.script op)
+      (λ is. absurd (let wrong : false ≡ true = sym (knows.kinds.inline op is) ∙ still_unspent in cc))
 
   handled : is_op r.script op ≡ true
   handled = elim (cases_Bool (is_op r.script op)) [
@@ -196,11 +213,14 @@ module _ (told : Bool) (r : Recording) (op : ℕ) (given : Code) (size : ℕ) (n
 
     uncalled : (n : ℕ) → is_called n calls ≡ true → call_at s.context n ≡ call.Uncalled
     uncalled n is =
-        before_uncalled r.script knows.script AnyMark (Some (op, class_of_code given)) whole.body whole.acts s knows.kept.orderly unmade n (sym (in_body n) ∙ is)
+        before_uncalled r.script knows.script AnyMark (Some (op, class_of_code given)) whole.body whole.acts s
+        knows.kept.orderly unmade n (sym (in_body n) ∙ is)
 
     made : call_at s.context op ≢ call.Uncalled
     made isnt =
-        absurd (let wrong : phase.Absent ≡ phase.Ready given size may.ready.0 = sym (knows.kept.orderly.uncalled op isnt) ∙ may.ready.1 in cc)
+        absurd (let wrong : phase.Absent ≡ phase.Ready given size may.ready.0 =
+        sym (knows.kept.orderly.uncalled op isnt) ∙ may.ready.1 in
+        cc)
 
     differs : (n : ℕ) → is_called n calls ≡ true → n ≢ op
     differs n is same = absurd (made (ap (call_at s.context) (sym same) ∙ uncalled n is))
@@ -218,7 +238,8 @@ module _ (told : Bool) (r : Recording) (op : ℕ) (given : Code) (size : ℕ) (n
         let now : act_left_at t n ≡ phase_left (settled_phase r.script n) false =
         ap (λ (act : ActState). act_left act.call act.phase (was_taken s.reactor n)) (did.executed.called n is).is
         ∙ ap (phase_left (settled_phase r.script n)) untaken in
-        let before : act_left_at s n ≡ 7 = ap (λ c. act_left c (phase_at s.context n) (was_taken s.reactor n)) (uncalled n is) in
+        let before : act_left_at s n ≡ 7 =
+        ap (λ c. act_left c (phase_at s.context n) (was_taken s.reactor n)) (uncalled n is) in
         let most = settled_left r.script n in
         let shown : cond (is_called n calls) (shown_by r.script n) 0 ≡ shown_by r.script n =
         ap (λ b. cond b (shown_by r.script n) 0) is in
@@ -237,7 +258,8 @@ module _ (told : Bool) (r : Recording) (op : ℕ) (given : Code) (size : ℕ) (n
 
     other_left : (n : ℕ) → is_called n calls ≡ false → act_left_at t n + shows n ≤ act_left_at s n
     other_left n isnt =
-        let shown : cond (is_called n calls) (shown_by r.script n) 0 ≡ 0 = ap (λ b. cond b (shown_by r.script n) 0) isnt in
+        let shown : cond (is_called n calls) (shown_by r.script n) 0 ≡ 0 =
+        ap (λ b. cond b (shown_by r.script n) 0) isnt in
         elim (cases_eq n op) [
           | inl same ↦
               let here : only op 2 n ≡ 2 = ap (λ b. cond b 2 0) (eq-eqb op n (sym same)) in
@@ -263,7 +285,9 @@ module _ (told : Bool) (r : Recording) (op : ℕ) (given : Code) (size : ℕ) (n
         let all : ℕ = length s.context.acts in
         let both = summed-both (λ n. cond (is_called n calls) (shown_by r.script n) 0) (only op 2) all in
         let within : op < all =
-        is_within s.context op (λ absent. absurd (let wrong : phase.Absent ≡ phase.Ready given size may.ready.0 = sym absent ∙ may.ready.1 in cc)) in
+        is_within s.context op
+        (λ absent.
+        absurd (let wrong : phase.Absent ≡ phase.Ready given size may.ready.0 = sym absent ∙ may.ready.1 in cc)) in
         let two = summed-only op 2 all within in
         let body = bounded_body r.script knows.script AnyMark (Some (op, class_of_code given)) whole.acts in
         let same = weigh-same (shown_by r.script) (λ n. is_called n calls) (λ n. is_called n whole.body) all in_body in
@@ -283,20 +307,25 @@ module _ (told : Bool) (r : Recording) (op : ℕ) (given : Code) (size : ℕ) (n
         ∙ ap (rounds_left (length r.script.rounds - s.context.closings)) did.executed.restarted in
         left-falls r.script s t (length (events_of r.script calls)) (omega (arith, acts, shown, stop, rounds))
       where
-        by_stop : (before after : Bool) → after ≡ (before || are_stopping r.script calls) → one_unless after ≤ one_unless before
+        by_stop : (before after : Bool) → after ≡ (before || are_stopping r.script calls) →
+            one_unless after ≤ one_unless before
         by_stop before after is =
-            let same = ap one_unless is in let less = stops_less before (are_stopping r.script calls) in omega (arith, same, less)
+            let same = ap one_unless is in
+            let less = stops_less before (are_stopping r.script calls) in omega (arith, same, less)
 
     events_fit : length (events_of r.script calls) ≤ r.spare
     events_fit = let less = left_executed in let had = knows.room in omega (arith, less, had)
 
     order_now : IsKept r.script t (newer ++ postings_of r.script calls) (r.requests ++ requests_of r.script calls)
-    order_now = subst (λ u. IsKept r.script u (newer ++ postings_of r.script calls) (r.requests ++ requests_of r.script calls)) did.is
-        (is_order_kept r.script told s op given size calls newer r.requests knows.script oldest own may whole (let fits = events_fit in let few = knows.within in omega (arith, fits, few)))
+    order_now =
+        subst (λ u. IsKept r.script u (newer ++ postings_of r.script calls) (r.requests ++ requests_of r.script calls)) did.is
+        (is_order_kept r.script told s op given size calls newer r.requests knows.script oldest own may whole
+        (let fits = events_fit in let few = knows.within in omega (arith, fits, few)))
 
     pub postings_fit : length newer + length (postings_of r.script calls) ≤ length r.script.acts
     postings_fit =
-        let count = ready_count r.script t (newer ++ postings_of r.script calls) (r.requests ++ requests_of r.script calls) order_now in
+        let count =
+        ready_count r.script t (newer ++ postings_of r.script calls) (r.requests ++ requests_of r.script calls) order_now in
         let most = counted-most (λ n. is_ready (phase_at t.context n)) (length t.context.acts) in
         let both = length-append newer (postings_of r.script calls) in
         let acts = did.executed.rest.acts in
@@ -304,7 +333,8 @@ module _ (told : Bool) (r : Recording) (op : ℕ) (given : Code) (size : ℕ) (n
 
     pub requests_fit : length r.requests + length (requests_of r.script calls) ≤ length r.script.acts
     requests_fit =
-        let count = request_count r.script t (newer ++ postings_of r.script calls) (r.requests ++ requests_of r.script calls) order_now in
+        let count =
+        request_count r.script t (newer ++ postings_of r.script calls) (r.requests ++ requests_of r.script calls) order_now in
         let most = counted-most (is_untaken t) (length t.context.acts) in
         let both = length-append r.requests (requests_of r.script calls) in
         let acts = did.executed.rest.acts in
@@ -322,13 +352,14 @@ module _ (told : Bool) (r : Recording) (op : ℕ) (given : Code) (size : ℕ) (n
     same_call : (n : ℕ) → is_called n calls ≡ false → call_at t.context n ≡ call_at s.context n
     same_call n isnt = elim (cases_eq n op) [
       | inl same ↦
-          ap (call_at t.context) same ∙ (ap (λ (act : ActState). act.call) did.executed.ended ∙ ap (call_at s.context) (sym same))
+          ap (call_at t.context) same
+          ∙ (ap (λ (act : ActState). act.call) did.executed.ended ∙ ap (call_at s.context) (sym same))
       | inr differ ↦ ap (λ (act : ActState). act.call) (did.executed.others n isnt differ)
     ]
 
     -- what holds of acts that were called, of the operation, and of the others
-    by_act : (P : ActPhase → Type 0) (n : ℕ) → (is_called n calls ≡ true → P (settled_phase r.script n)) → P phase.Ended →
-        (is_called n calls ≡ false → P (phase_at s.context n)) → P (phase_at t.context n)
+    by_act : (P : ActPhase → Type 0) (n : ℕ) → (is_called n calls ≡ true → P (settled_phase r.script n)) →
+        P phase.Ended → (is_called n calls ≡ false → P (phase_at s.context n)) → P (phase_at t.context n)
     by_act P n called ended others = elim (cases_Bool (is_called n calls)) [
       | inl is ↦ subst P (sym (called_phase n is)) (called is)
       | inr isnt ↦ elim (cases_eq n op) [
@@ -339,9 +370,14 @@ module _ (told : Bool) (r : Recording) (op : ℕ) (given : Code) (size : ℕ) (n
 
     kinds_now : AreOfKind r.script t.context
     kinds_now = record {
-      operations = λ n is was. by_act (λ p. is_accepted p ≡ true) n (λ called. settled_accepted r.script n is) refl (λ isnt. knows.kinds.operations n is (sym (ap was_called (same_call n isnt)) ∙ was));
-      others = λ n isnt. by_act (λ p. is_unspent p ≡ false) n (λ called. settled_other r.script n isnt) refl (λ same. knows.kinds.others n isnt);
-      inline = λ n is. by_act (λ p. is_unspent p ≡ false) n (λ called. ap is_unspent (settled_inline r.script n is)) refl (λ same. knows.kinds.inline n is);
+      operations = λ n is was.
+          by_act (λ p. is_accepted p ≡ true) n (λ called. settled_accepted r.script n is) refl
+          (λ isnt. knows.kinds.operations n is (sym (ap was_called (same_call n isnt)) ∙ was));
+      others = λ n isnt.
+          by_act (λ p. is_unspent p ≡ false) n (λ called. settled_other r.script n isnt) refl (λ same. knows.kinds.others n isnt);
+      inline = λ n is.
+          by_act (λ p. is_unspent p ≡ false) n (λ called. ap is_unspent (settled_inline r.script n is)) refl
+          (λ same. knows.kinds.inline n is);
     }
 
     began : (n : ℕ) → begins n calls ≡ cond (op == n) true (is_called n calls && is_inline r.script n)
@@ -352,10 +388,14 @@ module _ (told : Bool) (r : Recording) (op : ℕ) (given : Code) (size : ℕ) (n
     spent_now : (n : ℕ) → is_spent (phase_at t.context n) ≡ (is_spent (phase_at s.context n) || begins n calls)
     spent_now n = elim (cases_Bool (is_called n calls)) [
       | inl is ↦
-          let absent : is_spent (phase_at s.context n) ≡ false = ap is_spent (knows.kept.orderly.uncalled n (uncalled n is)) in
+          let absent : is_spent (phase_at s.context n) ≡ false =
+          ap is_spent (knows.kept.orderly.uncalled n (uncalled n is)) in
           let begin : begins n calls ≡ is_inline r.script n =
-          began n ∙ (ap (λ b. cond b true (is_called n calls && is_inline r.script n)) (ne_eqb op n (λ same. differs n is (sym same))) ∙ ap (λ b. b && is_inline r.script n) is) in
-          ap is_spent (called_phase n is) ∙ (settled_spent r.script n ∙ (sym begin ∙ ap (λ b. b || begins n calls) (sym absent)))
+          began n
+          ∙ (ap (λ b. cond b true (is_called n calls && is_inline r.script n))
+          (ne_eqb op n (λ same. differs n is (sym same))) ∙ ap (λ b. b && is_inline r.script n) is) in
+          ap is_spent (called_phase n is)
+          ∙ (settled_spent r.script n ∙ (sym begin ∙ ap (λ b. b || begins n calls) (sym absent)))
       | inr isnt ↦ elim (cases_eq n op) [
         | inl same ↦
             let begin : begins n calls ≡ true =
@@ -364,7 +404,9 @@ module _ (told : Bool) (r : Recording) (op : ℕ) (given : Code) (size : ℕ) (n
             ∙ (sym (or_true (is_spent (phase_at s.context n))) ∙ ap (λ b. is_spent (phase_at s.context n) || b) (sym begin))
         | inr differ ↦
             let begin : begins n calls ≡ false =
-            began n ∙ (ap (λ b. cond b true (is_called n calls && is_inline r.script n)) (ne_eqb op n (λ same. differ (sym same))) ∙ ap (λ b. b && is_inline r.script n) isnt) in
+            began n
+            ∙ (ap (λ b. cond b true (is_called n calls && is_inline r.script n))
+            (ne_eqb op n (λ same. differ (sym same))) ∙ ap (λ b. b && is_inline r.script n) isnt) in
             ap is_spent (same_phase n isnt differ)
             ∙ (sym (or_none (is_spent (phase_at s.context n))) ∙ ap (λ b. is_spent (phase_at s.context n) || b) (sym begin))
       ]
@@ -381,14 +423,21 @@ module _ (told : Bool) (r : Recording) (op : ℕ) (given : Code) (size : ℕ) (n
       script = knows.script;
       legal = history_goes_on r.script told r.events (events_of r.script calls) knows.legal did.legal;
       kept = order_now;
-      accounted = λ works. subst (IsAccounted r.script) did.is (account_execution r.script told s op given size calls knows.script knows.kept.rest knows.kept.orderly (knows.accounted works) own may whole);
+      accounted = λ works.
+          subst (IsAccounted r.script) did.is
+          (account_execution r.script told s op given size calls knows.script knows.kept.rest knows.kept.orderly
+          (knows.accounted works) own may whole);
       standing = λ works n. knows.standing works n
-          ∙ ap one_if (sym (same_pending r.script told s op given size calls knows.script knows.kept.rest knows.kept.orderly own may whole n));
+          ∙ ap one_if
+          (sym (same_pending r.script told s op given size calls knows.script knows.kept.rest knows.kept.orderly own
+          may whole n));
       ahead = knows.ahead;
       kinds = kinds_now;
       free = free_executed r.script op calls s.context did.after knows.free did.executed;
       opened = did.executed.opening ∙ knows.opened;
-      called = marked-calls calls r.called s.context did.after (knows.called_size ∙ sym did.executed.rest.acts) knows.called (λ n is. ap (λ (act : ActState). was_called act.call) (did.executed.called n is).is) same_call;
+      called =
+          marked-calls calls r.called s.context did.after (knows.called_size ∙ sym did.executed.rest.acts) knows.called
+          (λ n is. ap (λ (act : ActState). was_called act.call) (did.executed.called n is).is) same_call;
       called_size = marked-length calls r.called ∙ knows.called_size;
       stopped = did.executed.stopped ∙ ap (λ b. b || are_stopping r.script calls) knows.stopped;
       restarted = did.executed.restarted ∙ knows.restarted;

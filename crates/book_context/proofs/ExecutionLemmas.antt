@@ -28,12 +28,15 @@ use Rattle.book_context.specs.Steps.{ExecutionsAreRecorded, ExecutionIsRecorded,
 use Rattle.book_context.proofs.BookHistoryLemmas.{IsPlain, faults-plain, history-plain}
 
 -- calls with other marks
-pub other_marks : {script : ScriptModel} {One Two : ℕ → ℕ → Type 0} → ((n mark : ℕ) → One n mark → Two n mark) → {acts : List ℕ} {calls : List Posted} → AreCalls script One acts calls → AreCalls script Two acts calls
+pub other_marks : {script : ScriptModel} {One Two : ℕ → ℕ → Type 0} → ((n mark : ℕ) → One n mark → Two n mark) →
+    {acts : List ℕ} {calls : List Posted} → AreCalls script One acts calls → AreCalls script Two acts calls
 other_marks gives no_act = no_act
 other_marks gives (outside isnt more) = outside isnt (other_marks gives more)
-other_marks gives (inside {act} {begun} {mark} is has inner more) = inside is (gives act mark has) (other_marks gives inner) (other_marks gives more)
+other_marks gives (inside {act} {begun} {mark} is has inner more) =
+    inside is (gives act mark has) (other_marks gives inner) (other_marks gives more)
 
-pub whole_marks : {script : ScriptModel} {One Two : ℕ → ℕ → Type 0} → ((n mark : ℕ) → One n mark → Two n mark) → (op : ℕ) (code : Code) (size : ℕ) (calls : List Posted) → IsWholeExecution script One op code size calls →
+pub whole_marks : {script : ScriptModel} {One Two : ℕ → ℕ → Type 0} → ((n mark : ℕ) → One n mark → Two n mark) →
+    (op : ℕ) (code : Code) (size : ℕ) (calls : List Posted) → IsWholeExecution script One op code size calls →
     IsWholeExecution script Two op code size calls
 whole_marks gives op code size calls whole = record {
   begun = whole.begun;
@@ -62,17 +65,22 @@ runs-append run (posted.Back act ∷ xs) ys first rest = runs-append run xs ys f
 abbrev OwnMark : (ℕ → ℕ) → ℕ → ℕ → Type 0
 OwnMark run n mark = mark ≡ run n
 
-runs_of : (run : ℕ → ℕ) {script : ScriptModel} {acts : List ℕ} {calls : List Posted} → AreCalls script (OwnMark run) acts calls → ShowsRuns run calls
+runs_of : (run : ℕ → ℕ) {script : ScriptModel} {acts : List ℕ} {calls : List Posted} →
+    AreCalls script (OwnMark run) acts calls → ShowsRuns run calls
 runs_of run no_act = tt
 runs_of run (outside isnt more) = runs_of run more
 runs_of run (inside {act} {begun} {mark} {acts} {body} {calls} is has inner more) =
-    runs-append run (execution_of act code.Ok 0 begun mark body) (posted.Back act ∷ calls) (runs-append run body (posted.End act _ ∷ []) (runs_of run inner) (has, tt)) (runs_of run more)
+    runs-append run (execution_of act code.Ok 0 begun mark body) (posted.Back act ∷ calls)
+    (runs-append run body (posted.End act _ ∷ []) (runs_of run inner) (has, tt)) (runs_of run more)
 
-plain_end : (run drop : ℕ → ℕ) (first : Event) (rest : List Event) → IsPlain run drop (first ∷ []) → IsPlain run drop rest → IsPlain run drop (first ∷ rest)
+plain_end : (run drop : ℕ → ℕ) (first : Event) (rest : List Event) → IsPlain run drop (first ∷ []) →
+    IsPlain run drop rest → IsPlain run drop (first ∷ rest)
 plain_end run drop first rest one others = record {
   marked = (one.marked.0, others.marked);
   working = faults-plain run drop (first ∷ []) rest others ∙ one.working;
-  inside = list_any-append is_outside_stop (first ∷ []) rest ∙ both_false (has_outside_stop (first ∷ [])) (has_outside_stop rest) one.inside others.inside;
+  inside =
+      list_any-append is_outside_stop (first ∷ []) rest
+      ∙ both_false (has_outside_stop (first ∷ [])) (has_outside_stop rest) one.inside others.inside;
 }
   where
     both_false : (a b : Bool) → a ≡ false → b ≡ false → (a || b) ≡ false
@@ -82,29 +90,40 @@ plain_end run drop first rest one others = record {
 plain_call : (run drop : ℕ → ℕ) (act : ℕ) (stopping : Bool) (rest : List Event) → IsPlain run drop rest →
     IsPlain run drop (cond stopping (event.Call act ∷ event.Stop (Some act) ∷ rest) (event.Call act ∷ rest))
 plain_call run drop act true rest others =
-    plain_end run drop (event.Call act) (event.Stop (Some act) ∷ rest) (record { marked = (tt, tt); working = refl; inside = refl })
+    plain_end run drop (event.Call act) (event.Stop (Some act) ∷ rest)
+    (record { marked = (tt, tt); working = refl; inside = refl })
     (plain_end run drop (event.Stop (Some act)) rest (record { marked = (tt, tt); working = refl; inside = refl }) others)
-plain_call run drop act false rest others = plain_end run drop (event.Call act) rest (record { marked = (tt, tt); working = refl; inside = refl }) others
+plain_call run drop act false rest others =
+    plain_end run drop (event.Call act) rest (record { marked = (tt, tt); working = refl; inside = refl }) others
 
-plain_calls : (run drop : ℕ → ℕ) (script : ScriptModel) (calls : List Posted) → ShowsRuns run calls → IsPlain run drop (events_of script calls)
+plain_calls : (run drop : ℕ → ℕ) (script : ScriptModel) (calls : List Posted) → ShowsRuns run calls →
+    IsPlain run drop (events_of script calls)
 plain_calls run drop script [] shows = record { marked = tt; working = refl; inside = refl }
 plain_calls run drop script (posted.Begin op code size begun ∷ calls) shows =
-    plain_end run drop (event.Begin op code size) (events_of script calls) (record { marked = (tt, tt); working = refl; inside = refl }) (plain_calls run drop script calls shows)
-plain_calls run drop script (posted.Call act ∷ calls) shows = plain_call run drop act (stops script act) (events_of script calls) (plain_calls run drop script calls shows)
+    plain_end run drop (event.Begin op code size) (events_of script calls)
+    (record { marked = (tt, tt); working = refl; inside = refl }) (plain_calls run drop script calls shows)
+plain_calls run drop script (posted.Call act ∷ calls) shows =
+    plain_call run drop act (stops script act) (events_of script calls) (plain_calls run drop script calls shows)
 plain_calls run drop script (posted.Back act ∷ calls) shows =
-    plain_end run drop (event.Back act) (events_of script calls) (record { marked = (tt, tt); working = refl; inside = refl }) (plain_calls run drop script calls shows)
+    plain_end run drop (event.Back act) (events_of script calls)
+    (record { marked = (tt, tt); working = refl; inside = refl }) (plain_calls run drop script calls shows)
 plain_calls run drop script (posted.End op ran ∷ calls) shows =
-    plain_end run drop (event.End op ran.mark) (events_of script calls) (record { marked = (shows.0, tt); working = refl; inside = refl }) (plain_calls run drop script calls shows.1)
+    plain_end run drop (event.End op ran.mark) (events_of script calls)
+    (record { marked = (shows.0, tt); working = refl; inside = refl }) (plain_calls run drop script calls shows.1)
 
-pub plain_opening : (run drop : ℕ → ℕ) (script : ScriptModel) (acts : List ℕ) (calls : List Posted) → AreCalls script (OwnMark run) acts calls → IsPlain run drop (events_of script calls)
+pub plain_opening : (run drop : ℕ → ℕ) (script : ScriptModel) (acts : List ℕ) (calls : List Posted) →
+    AreCalls script (OwnMark run) acts calls → IsPlain run drop (events_of script calls)
 plain_opening run drop script acts calls are = plain_calls run drop script calls (runs_of run are)
 
-plain_whole : (run drop : ℕ → ℕ) (script : ScriptModel) (op : ℕ) (code : Code) (size : ℕ) (calls : List Posted) → IsWholeExecution script (OwnMark run) op code size calls → IsPlain run drop (events_of script calls)
+plain_whole : (run drop : ℕ → ℕ) (script : ScriptModel) (op : ℕ) (code : Code) (size : ℕ) (calls : List Posted) →
+    IsWholeExecution script (OwnMark run) op code size calls → IsPlain run drop (events_of script calls)
 plain_whole run drop script op code size calls whole =
-    plain_calls run drop script calls (subst (ShowsRuns run) (sym whole.is) (runs-append run whole.body (posted.End op _ ∷ []) (runs_of run whole.acts) (whole.marked, tt)))
+    plain_calls run drop script calls (subst (ShowsRuns run) (sym whole.is)
+    (runs-append run whole.body (posted.End op _ ∷ []) (runs_of run whole.acts) (whole.marked, tt)))
 
 -- what is held after some handlers were spent
-held_after : {H : Type 0} (marks : H → Marks) (begun : Bool) (handler : Option H) (x y : Bool) (m : Marks) → option_map marks handler ≡ unless_spent (x || y) m →
+held_after : {H : Type 0} (marks : H → Marks) (begun : Bool) (handler : Option H) (x y : Bool) (m : Marks) →
+    option_map marks handler ≡ unless_spent (x || y) m →
     option_map marks (left_at begun handler) ≡ unless_spent (x || (y || begun)) m
 held_after marks true handler true y m is = refl
 held_after marks true handler false true m is = refl
@@ -114,7 +133,8 @@ held_after marks false handler false true m is = is
 held_after marks false handler false false m is = is
 
 -- a handler that is held has the marks that are named
-mark_held : {H : Type 0} (marks : H → Marks) (handler : Option H) (spent : Bool) (m : Marks) (mark : ℕ) → option_map marks handler ≡ unless_spent spent m → option_map (λ h. (marks h).run) handler ≡ Some mark → mark ≡ m.run
+mark_held : {H : Type 0} (marks : H → Marks) (handler : Option H) (spent : Bool) (m : Marks) (mark : ℕ) →
+    option_map marks handler ≡ unless_spent spent m → option_map (λ h. (marks h).run) handler ≡ Some mark → mark ≡ m.run
 mark_held marks None spent m mark is has = absurd (cc has)
 mark_held marks (Some h) true m mark is has = absurd (cc is)
 mark_held marks (Some h) false m mark is has =
@@ -122,7 +142,8 @@ mark_held marks (Some h) false m mark is has =
     let run : (marks h).run ≡ mark = cc has in
     sym run ∙ ap (λ (n : Marks). n.run) named
 
-some_held : {H : Type 0} (marks : H → Marks) (handler : Option H) (spent : Bool) (m : Marks) → option_map marks handler ≡ unless_spent spent m → spent ≡ false → IsSome handler
+some_held : {H : Type 0} (marks : H → Marks) (handler : Option H) (spent : Bool) (m : Marks) →
+    option_map marks handler ≡ unless_spent spent m → spent ≡ false → IsSome handler
 some_held marks (Some h) spent m is unspent = refl
 some_held marks None true m is unspent = absurd (cc unspent)
 some_held marks None false m is unspent = absurd (cc is)
@@ -131,8 +152,11 @@ either_false : (a b : Bool) → a ≡ true → b ≡ false → (not a || b) ≡ 
 either_false true b is isnt = isnt
 either_false false b is isnt = absurd (cc is)
 
-module _ {H : Type 0} (marks : H → Marks) (script : ScriptModel) (told : Bool) (run drop : ℕ → ℕ) (from_outside : Bool) (r : Recording) (op : ℕ) (code : Code) (size : ℕ) (held : Held H)
-    (keeps : KeepsHistory script told run drop from_outside (with_ready (op, code, size) r)) (holds : HoldsUnspent marks told run drop (with_ready (op, code, size) r) held) (going : r.stopped ≡ false) (round : IsRoundOpen r) where
+module _ {H : Type 0} (marks : H → Marks) (script : ScriptModel) (told : Bool) (run drop : ℕ → ℕ) (from_outside : Bool)
+    (r : Recording) (op : ℕ) (code : Code) (size : ℕ) (held : Held H)
+    (keeps : KeepsHistory script told run drop from_outside (with_ready (op, code, size) r))
+    (holds : HoldsUnspent marks told run drop (with_ready (op, code, size) r) held) (going : r.stopped ≡ false)
+    (round : IsRoundOpen r) where
   old_round : IsRoundOpen (with_ready (op, code, size) r)
   old_round = record { left = round.left; restarted = round.restarted }
 
@@ -142,20 +166,34 @@ module _ {H : Type 0} (marks : H → Marks) (script : ScriptModel) (told : Bool)
   module _ (can : MayExecute told (with_ready (op, code, size) r) op code size r.ready) where
     pub can_execute : CanExecute held op
     can_execute = (
-      some_held marks (held_at held op) (not (is_op r.script op) || is_spent_at told (with_ready (op, code, size) r) op) _ (holds.each op)
+      some_held marks (held_at held op) (not (is_op r.script op) || is_spent_at told (with_ready (op, code, size) r) op)
+          _ (holds.each op)
           (either_false (is_op r.script op) (is_spent_at told (with_ready (op, code, size) r) op) can.operation can.unspent),
       ap (λ (s : ScriptModel). is_inline s op) holds.script ∙ can.outside,
     )
 
-    pub has_room : (calls : List Posted) → IsWholeExecution r.script AnyMark op code size calls → HasRoomForCalls r calls
-    has_room calls whole = record { events = can.events calls whole; ready = can.postings calls whole; requests = can.requests calls whole }
+    pub has_room : (calls : List Posted) → IsWholeExecution r.script AnyMark op code size calls →
+        HasRoomForCalls r calls
+    has_room calls whole = record {
+      events = can.events calls whole;
+      ready = can.postings calls whole;
+      requests = can.requests calls whole;
+    }
 
-  module _ (law : ExecutionsAreRecorded) (t : Recording) (left : Held H) (did : HasRecorded marks op code size r t held left) where
+  module _ (law : ExecutionsAreRecorded) (t : Recording) (left : Held H)
+      (did : HasRecorded marks op code size r t held left) where
     own : IsWholeExecution r.script (OwnMark run) op code size did.calls
-    own = whole_marks (λ n mark has. mark_held marks (held_at held n) (not (is_op r.script n) || is_spent_at told (with_ready (op, code, size) r) n) _ mark (holds.each n) has) op code size did.calls did.whole
+    own =
+        whole_marks
+        (λ n mark has.
+        mark_held marks (held_at held n)
+        (not (is_op r.script n) || is_spent_at told (with_ready (op, code, size) r) n) _ mark (holds.each n) has)
+        op code size did.calls did.whole
 
     executed : ExecutionIsRecorded told (with_ready (op, code, size) r) r.ready did.calls
-    executed = law told (with_ready (op, code, size) r) op code size r.ready did.calls keeps.recorded refl going old_round (whole_marks (λ n mark has. tt) op code size did.calls did.whole)
+    executed =
+        law told (with_ready (op, code, size) r) op code size r.ready did.calls keeps.recorded refl going old_round
+        (whole_marks (λ n mark has. tt) op code size did.calls did.whole)
 
     plain : IsPlain run drop (events_of r.script did.calls)
     plain = plain_whole run drop r.script op code size did.calls own
@@ -163,7 +201,8 @@ module _ {H : Type 0} (marks : H → Marks) (script : ScriptModel) (told : Bool)
     pub executed_history : KeepsHistory script told run drop from_outside t
     executed_history =
         subst (KeepsHistory script told run drop from_outside) (sym did.is)
-        (history-plain script told run drop from_outside (with_ready (op, code, size) r) (with_calls did.calls r) (events_of r.script did.calls) keeps executed.recorded refl refl plain)
+        (history-plain script told run drop from_outside (with_ready (op, code, size) r) (with_calls did.calls r)
+        (events_of r.script did.calls) keeps executed.recorded refl refl plain)
 
     pub executed_hands : HoldsUnspent marks told run drop t left
     executed_hands =
@@ -172,15 +211,20 @@ module _ {H : Type 0} (marks : H → Marks) (script : ScriptModel) (told : Bool)
           script = did.script ∙ holds.script;
           each = λ n.
               ap (option_map marks) (did.spent n)
-              ∙ held_after marks (begins n did.calls) (held_at held n) (not (is_op r.script n)) (is_spent_at told (with_ready (op, code, size) r) n) (record { run = run n; drop = drop n }) (holds.each n)
-              ∙ ap (λ b. unless_spent (not (is_op r.script n) || b) (record { run = run n; drop = drop n })) (sym (executed.spent n));
+              ∙ held_after marks (begins n did.calls) (held_at held n) (not (is_op r.script n))
+              (is_spent_at told (with_ready (op, code, size) r) n) (record { run = run n; drop = drop n })
+              (holds.each n)
+              ∙ ap (λ b. unless_spent (not (is_op r.script n) || b) (record { run = run n; drop = drop n }))
+              (sym (executed.spent n));
         })
 
     pub executed_half : recorded_half told t ≡ recorded_half told r
     executed_half = ap (recorded_half told) did.is ∙ executed.reactor
 
     pub executed_faults : KeepsFaults r t
-    executed_faults = ap (λ (x : Recording). has_fault x.events) did.is ∙ faults-plain run drop r.events (events_of r.script did.calls) plain
+    executed_faults =
+        ap (λ (x : Recording). has_fault x.events) did.is
+        ∙ faults-plain run drop r.events (events_of r.script did.calls) plain
 
     pub executed_gone : HasGoneOn script run (with_ready (op, code, size) r) t
     executed_gone =
@@ -188,5 +232,16 @@ module _ {H : Type 0} (marks : H → Marks) (script : ScriptModel) (told : Bool)
         (record {
           events = events_of r.script did.calls;
           is = ap (λ (x : Recording). x.events) did.is;
-          step = inl (record { op = op; code = code; size = size; newer = r.ready; oldest = refl; calls = did.calls; whole = own; is = refl });
+          step =
+              inl
+              (record {
+                op = op;
+                code = code;
+                size = size;
+                newer = r.ready;
+                oldest = refl;
+                calls = did.calls;
+                whole = own;
+                is = refl;
+              });
         })

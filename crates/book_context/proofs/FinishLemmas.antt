@@ -95,8 +95,8 @@ drop_behind [] op mark same = absurd (cc same)
 drop_behind (x ∷ []) op mark same = absurd (cc same)
 drop_behind (x ∷ y ∷ xs) op mark same = absurd (cc same)
 
-module _ {H : Type 0} {marks : H → Marks} {told : Bool} {run drop : ℕ → ℕ} {outside : Bool} {op : ℕ} {t : Recording} {left : Held H}
-    (ending : IsEnding marks told run drop outside op t left) where
+module _ {H : Type 0} {marks : H → Marks} {told : Bool} {run drop : ℕ → ℕ} {outside : Bool} {op : ℕ} {t : Recording}
+    {left : Held H} (ending : IsEnding marks told run drop outside op t left) where
   abbrev is_one : Bool
   is_one = is_op ending.last.script op
 
@@ -106,7 +106,8 @@ module _ {H : Type 0} {marks : H → Marks} {told : Bool} {run drop : ℕ → �
   abbrev was_spent : Bool
   was_spent = is_spent_at told ending.last op
 
-  holds_here : option_map marks (held_at left op) ≡ unless_spent (not is_one || was_spent) (record { run = run op; drop = drop op })
+  holds_here : option_map marks (held_at left op)
+      ≡ unless_spent (not is_one || was_spent) (record { run = run op; drop = drop op })
   holds_here = ap (option_map marks) (ending.from op (omega arith)) ∙ ending.holds.each op
 
   -- an act that isn't unspent is passed, whatever became of its own handler
@@ -138,14 +139,18 @@ module _ {H : Type 0} {marks : H → Marks} {told : Bool} {run drop : ℕ → �
       where
         isnt : IsOther → is_unspent_at told ending.last op ≡ false
         isnt (inl no_op) =
-            tests ∙ not_op_out is_one was_called was_spent (subst (λ script. is_op script op ≡ false) ending.dropping.script no_op)
+            tests
+            ∙ not_op_out is_one was_called was_spent (subst (λ script. is_op script op ≡ false) ending.dropping.script no_op)
         isnt (inr (inl inside)) =
-            inline told ending.last op ending.recorded (subst (λ script. is_inline script op ≡ true) ending.dropping.script inside)
+            inline told ending.last op ending.recorded
+            (subst (λ script. is_inline script op ≡ true) ending.dropping.script inside)
         isnt (inr (inr uncalled)) =
-            let isnt_called = subst (λ called. slice_index_or called op false ≡ false) ending.dropping.called uncalled in
+            let isnt_called =
+            subst (λ called. slice_index_or called op false ≡ false) ending.dropping.called uncalled in
             tests ∙ not_called_out is_one was_called was_spent isnt_called
 
-    module _ (after : Held H) (script : after.script ≡ left.script) (taken : after.handlers ≡ slice_set left.handlers op None) where
+    module _ (after : Held H) (script : after.script ≡ left.script)
+        (taken : after.handlers ≡ slice_set left.handlers op None) where
       others : (m : ℕ) → op + 1 ≤ m → held_at after m ≡ held_at left m
       others m less =
           ap (λ handlers. held_at (record after { handlers = handlers }) m) taken
@@ -155,7 +160,8 @@ module _ {H : Type 0} {marks : H → Marks} {told : Bool} {run drop : ℕ → �
       pub pass_spent : SpentArePassed → option_map (λ h. (marks h).drop) (held_at left op) ≡ None →
           IsEnding marks told run drop outside (op + 1) t after
       pass_spent passes none =
-          let spent = no_mark marks (not is_one || was_spent) (record { run = run op; drop = drop op }) (held_at left op) holds_here none in
+          let spent =
+          no_mark marks (not is_one || was_spent) (record { run = run op; drop = drop op }) (held_at left op) holds_here none in
           pass passes (tests ∙ spent_out is_one was_called was_spent spent) after script others
 
       module _ (goes : DropsGoOn) (called : slice_index_or t.called op false ≡ true) (mark : ℕ)

@@ -26,7 +26,8 @@ pub over_legal : DroppedAreLegal → (script : ScriptModel) (told : Bool) (last 
     IsDropping told last (length script.acts) t → t.script ≡ script → events ≡ t.events → IsLegal script told events
 over_legal ends script told last t events dropping same is =
     let of_last : last.script ≡ script = sym dropping.script ∙ same in
-    let whole = ends told last t (subst (λ (s : ScriptModel). IsDropping told last (length s.acts) t) (sym of_last) dropping) in
+    let whole =
+    ends told last t (subst (λ (s : ScriptModel). IsDropping told last (length s.acts) t) (sym of_last) dropping) in
     subst (IsLegal script told) (sym is) (subst (λ s. IsLegal s told t.events) of_last whole)
 
 -- the reactor's half is that of the whole history
@@ -48,8 +49,8 @@ module _ {X : Type 0} {state : X → ReactorState} {tells_of : X → Option Outs
   done_with (inr failed) = inr (reactor.failed ∙ sym reactor.faulted ∙ failed)
 
   -- before the first handler is destroyed
-  pub begin_ending : {H : Type 0} {marks : H → Marks} {held : Held H} → DroppingBegins → HoldsUnspent marks told run drop r held →
-      IsBookOver script r → IsEnding marks told run drop outside 0 r held
+  pub begin_ending : {H : Type 0} {marks : H → Marks} {held : Held H} → DroppingBegins →
+      HoldsUnspent marks told run drop r held → IsBookOver script r → IsEnding marks told run drop outside 0 r held
   begin_ending {held} begins holds over = record {
     last = r;
     held = held;

@@ -13,10 +13,12 @@ module _ {X : Type 0} (state : X → ReactorState) (told : X → Option Outside)
   pub sound_guards : IsSound state told view → length view.tables.guards ≡ view.script.guards
   sound_guards sound = sound.turning.room.fit.guards
 
-pub follows_taken : {X : Type 0} (told : X → Option Outside) (view : ProactorView X) (half : ReactorHalf) → Follows told view half → half.taken ≡ view.tables.taken
+pub follows_taken : {X : Type 0} (told : X → Option Outside) (view : ProactorView X) (half : ReactorHalf) →
+    Follows told view half → half.taken ≡ view.tables.taken
 follows_taken told view half follows = elim (cases_Bool (tells (told view.reactor))) [
   | inl yes_told ↦ sym (ap (λ (h : ReactorHalf). h.taken) (follows.where_told yes_told).works)
   | inr untold ↦
       let other = follows.where_untold untold in
-      (untold-answers view.script other.mid half other.untold).taken ∙ sym (ap (λ (h : ReactorHalf). h.taken) other.is_at.works)
+      (untold-answers view.script other.mid half other.untold).taken
+      ∙ sym (ap (λ (h : ReactorHalf). h.taken) other.is_at.works)
 ]

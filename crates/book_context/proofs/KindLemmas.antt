@@ -78,7 +78,8 @@ spent_kind false false true control = refl
 spent_kind false false false true = refl
 spent_kind false false false false = refl
 
-left_kind : (inline posting operation control stops : Bool) → (stops ≡ true → operation ≡ false) → (operation ≡ false → posting ≡ false) →
+left_kind : (inline posting operation control stops : Bool) → (stops ≡ true → operation ≡ false) →
+    (operation ≡ false → posting ≡ false) →
     phase_left (settled_by inline posting operation control) false + (2 + one_if stops + 2 * one_if inline) ≤ 7
 unfolding accepted_by
 left_kind true posting operation control true never only = omega arith
@@ -97,18 +98,21 @@ module _ (script : ScriptModel) (n : ℕ) where
   pub settled_accepted : is_op script n ≡ true → is_accepted (settled_phase script n) ≡ true
   unfolding accepted_by
   settled_accepted is =
-      accepted_kind (is_inline script n) (is_act is_posting script n) (is_act is_operation script n) (is_act is_control script n) (op-is script n ∙ is)
+      accepted_kind (is_inline script n) (is_act is_posting script n) (is_act is_operation script n)
+      (is_act is_control script n) (op-is script n ∙ is)
 
   -- what has no handler has none unspent
   pub settled_other : is_op script n ≡ false → is_unspent (settled_phase script n) ≡ false
   unfolding accepted_by
   settled_other isnt =
-      unspent_kind (is_inline script n) (is_act is_posting script n) (is_act is_operation script n) (is_act is_control script n) (op-is script n ∙ isnt) (posting-isnt script n isnt)
+      unspent_kind (is_inline script n) (is_act is_posting script n) (is_act is_operation script n)
+      (is_act is_control script n) (op-is script n ∙ isnt) (posting-isnt script n isnt)
 
   -- what executed inside its call is spent, and nothing else
   pub settled_spent : is_spent (settled_phase script n) ≡ is_inline script n
   unfolding accepted_by
-  settled_spent = spent_kind (is_inline script n) (is_act is_posting script n) (is_act is_operation script n) (is_act is_control script n)
+  settled_spent =
+      spent_kind (is_inline script n) (is_act is_posting script n) (is_act is_operation script n) (is_act is_control script n)
 
   pub settled_inline : is_inline script n ≡ true → settled_phase script n ≡ phase.Ended
   settled_inline is = rw is refl
@@ -117,5 +121,6 @@ module _ (script : ScriptModel) (n : ℕ) where
   pub settled_left : phase_left (settled_phase script n) false + shown_by script n ≤ 7
   unfolding accepted_by
   settled_left =
-      left_kind (is_inline script n) (is_act is_posting script n) (is_act is_operation script n) (is_act is_control script n) (stops script n)
+      left_kind (is_inline script n) (is_act is_posting script n) (is_act is_operation script n)
+      (is_act is_control script n) (stops script n)
       (λ is. op-is script n ∙ operation-isnt script n is) (λ isnt. posting-isnt script n (sym (op-is script n) ∙ isnt))

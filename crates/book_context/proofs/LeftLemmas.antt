@@ -37,23 +37,28 @@ pub left-parts : (script : ScriptModel) (s : State) →
     events_left script s ≡ acts_left s + world_left script s + flags_left s + rounds_left_at script s
 left-parts script s =
     let acts = summed-range (act_left_at s) (length s.context.acts) in
-    add_up (sum_by (act_left_at s) (range_with_len 0 (length s.context.acts))) (acts_left s) (length s.reactor.waits) (length (times_after s.reactor.now script.world.lines)) (one_unless s.reactor.last) (one_unless s.reactor.failed) (one_unless s.context.stopped) (rounds_left_at script s) acts
+    add_up (sum_by (act_left_at s) (range_with_len 0 (length s.context.acts))) (acts_left s) (length s.reactor.waits)
+    (length (times_after s.reactor.now script.world.lines)) (one_unless s.reactor.last) (one_unless s.reactor.failed)
+    (one_unless s.context.stopped) (rounds_left_at script s) acts
   where
     add_up : (a b w l o f u r : ℕ) → a ≡ b → a + w + l + o + f + u + r ≡ b + (w + l) + (o + f + u) + r
     add_up a b w l o f u r same = omega (arith, same)
 
 -- the parts fall by so much in all
 pub left-falls : (script : ScriptModel) (s t : State) (k : ℕ) →
-    acts_left t + world_left script t + flags_left t + rounds_left_at script t + k ≤ acts_left s + world_left script s + flags_left s + rounds_left_at script s → events_left script t + k ≤ events_left script s
+    acts_left t + world_left script t + flags_left t + rounds_left_at script t + k
+    ≤ acts_left s + world_left script s + flags_left s + rounds_left_at script s →
+    events_left script t + k ≤ events_left script s
 left-falls script s t k less =
-    let one = left-parts script s in let two = left-parts script t in by_sums (events_left script t) (events_left script s) _ _ k two one less
+    let one = left-parts script s in
+    let two = left-parts script t in by_sums (events_left script t) (events_left script s) _ _ k two one less
   where
     by_sums : (a b c d k : ℕ) → a ≡ c → b ≡ d → c + k ≤ d → a + k ≤ b
     by_sums a b c d k first second less = omega (arith, first, second, less)
 
 -- acts that are as they were show as much
-pub acts-same : (s t : State) → t.context.acts ≡ s.context.acts → ((n : ℕ) → was_taken t.reactor n ≡ was_taken s.reactor n) →
-    acts_left t ≡ acts_left s
+pub acts-same : (s t : State) → t.context.acts ≡ s.context.acts →
+    ((n : ℕ) → was_taken t.reactor n ≡ was_taken s.reactor n) → acts_left t ≡ acts_left s
 acts-same s t acts taken =
     let one = summed-same (act_left_at t) (act_left_at s) (length t.context.acts) (λ n.
     ap (λ (acts : List ActState). act_left (slice_index_or acts n fresh).call (slice_index_or acts n fresh).phase (was_taken t.reactor n)) acts ∙ ap (λ b. act_left (call_at s.context n) (phase_at s.context n) b) (taken n)) in
@@ -61,7 +66,8 @@ acts-same s t acts taken =
     one ∙ long
 
 -- an act whose call was made
-pub left_made : (c : CallPhase) (p : ActPhase) (taken : Bool) → c ≢ call.Uncalled → act_left c p taken ≡ phase_left p taken
+pub left_made : (c : CallPhase) (p : ActPhase) (taken : Bool) → c ≢ call.Uncalled →
+    act_left c p taken ≡ phase_left p taken
 left_made call.Uncalled p taken made = absurd (made refl)
 left_made (call.Open called) p taken made = refl
 left_made (call.Stopping called) p taken made = refl
@@ -95,20 +101,23 @@ length-insert x [] = omega arith
 length-insert x (first ∷ rest) = by_tests (nat_lt x first) (x == first) (length-insert x rest)
   where
     by_tests : (less same : Bool) → length (insert_time x rest) ≤ length rest + 1 →
-        length (cond less (x ∷ (first ∷ rest)) (cond same (first ∷ rest) (first ∷ insert_time x rest))) ≤ length (first ∷ rest) + 1
+        length (cond less (x ∷ (first ∷ rest)) (cond same (first ∷ rest) (first ∷ insert_time x rest)))
+        ≤ length (first ∷ rest) + 1
     by_tests true same more = omega arith
     by_tests false true more = omega arith
     by_tests false false more = omega (arith, more)
 
 length-rising : (xs : List ℕ) → length (rising xs) ≤ length xs
 length-rising [] = omega arith
-length-rising (x ∷ xs) = let rest = length-rising xs in let one = length-insert x (rising xs) in omega (arith, rest, one)
+length-rising (x ∷ xs) =
+    let rest = length-rising xs in let one = length-insert x (rising xs) in omega (arith, rest, one)
 
 times-most : (now : ℕ) (lines : List Line) → length (times_after now lines) ≤ length lines
 times-most now lines =
     let rises = length-rising (filter (λ time. nat_lt now time) (map (λ (line : Line). line.time) lines)) in
     let both =
-    length-filter_both (λ time. nat_lt now time) (λ time. not (nat_lt now time)) (λ x. refl) (map (λ (line : Line). line.time) lines) in
+    length-filter_both (λ time. nat_lt now time) (λ time. not (nat_lt now time)) (λ x. refl)
+    (map (λ (line : Line). line.time) lines) in
     let all = length-map lines (λ (line : Line). line.time) in
     omega (arith, rises, both, all)
 
@@ -124,16 +133,19 @@ pub first_act : (script : ScriptModel) (n : ℕ) → slice_index_or (replicate (
 first_act script n = elim (cases_lt n (length script.acts)) [
   | inl within ↦ get_or-replicate (length script.acts) n fresh fresh within
   | inr beyond ↦
-      get_or_past (replicate (length script.acts) fresh) n fresh (omega (arith, beyond, length-replicate (length script.acts) fresh))
+      get_or_past (replicate (length script.acts) fresh) n fresh
+      (omega (arith, beyond, length-replicate (length script.acts) fresh))
 ]
 
 -- before the first event no more are left than a session needs room for
-pub first_bounded : (script : ScriptModel) (told : Bool) → events_left script (first_state script told) ≤ most_history script
+pub first_bounded : (script : ScriptModel) (told : Bool) →
+    events_left script (first_state script told) ≤ most_history script
 first_bounded script told =
     let s : State = first_state script told in
     let parts = left-parts script s in
     let long : length s.context.acts ≡ length script.acts = length-replicate (length script.acts) fresh in
-    let each = summed-same (act_left_at s) (λ m. 7) (length s.context.acts) (λ n. unmade_left s n (first_act script n)) in
+    let each =
+    summed-same (act_left_at s) (λ m. 7) (length s.context.acts) (λ n. unmade_left s n (first_act script n)) in
     let seven = seven_each (length s.context.acts) in
     let times = times-most 0 script.world.lines in
     omega (arith, parts, long, each, seven, times)
@@ -149,9 +161,11 @@ acts-fall s t f long each =
 
 -- what one act shows
 pub acts-apart : (s t : State) (a k : ℕ) → length t.context.acts ≡ length s.context.acts → a < length s.context.acts →
-    act_left_at t a + k ≤ act_left_at s a → ((m : ℕ) → m ≢ a → act_left_at t m ≡ act_left_at s m) → acts_left t + k ≤ acts_left s
+    act_left_at t a + k ≤ act_left_at s a → ((m : ℕ) → m ≢ a → act_left_at t m ≡ act_left_at s m) →
+    acts_left t + k ≤ acts_left s
 acts-apart s t a k long within here others =
     let less =
-    summed-apart (act_left_at t) (act_left_at s) a k (length s.context.acts) within here (λ m differ. let same = others m differ in omega (arith, same)) in
+    summed-apart (act_left_at t) (act_left_at s) a k (length s.context.acts) within here
+    (λ m differ. let same = others m differ in omega (arith, same)) in
     let same = ap (summed (act_left_at t)) long in
     omega (arith, less, same)

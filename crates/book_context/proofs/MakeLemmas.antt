@@ -60,16 +60,20 @@ no_stop event.Restart is = refl
 no_stop (event.Dropped o mark) is = refl
 
 -- the handlers that were taken from a rack
-pub held_marks : {H : Type 0} (marks : H → Marks) (there : Bool) (handler : Option H) (m : Marks) → (there ≡ true → option_map marks handler ≡ Some m) → option_map marks (taken_at there handler) ≡ unless_spent (not there) m
+pub held_marks : {H : Type 0} (marks : H → Marks) (there : Bool) (handler : Option H) (m : Marks) →
+    (there ≡ true → option_map marks handler ≡ Some m) →
+    option_map marks (taken_at there handler) ≡ unless_spent (not there) m
 held_marks marks true handler m is = is refl
 held_marks marks false handler m is = refl
 
-pub some_marked : {H : Type 0} (marks : H → Marks) (handler : Option H) (m : Marks) → option_map marks handler ≡ Some m → IsSome handler
+pub some_marked : {H : Type 0} (marks : H → Marks) (handler : Option H) (m : Marks) →
+    option_map marks handler ≡ Some m → IsSome handler
 some_marked marks (Some h) m is = refl
 some_marked marks None m is = absurd (cc is)
 
 -- a reactor that failed when it was set up isn't up
-pub refused_down : (fault : SetupFault) (old new : ReactorState) → SetupIsRefused fault old new → fault ≡ setup_fault.Failed → new.up ≡ false
+pub refused_down : (fault : SetupFault) (old new : ReactorState) → SetupIsRefused fault old new →
+    fault ≡ setup_fault.Failed → new.up ≡ false
 refused_down setup_fault.Failed old new refused is = ap (λ (s : ReactorState). s.up) refused
 refused_down setup_fault.NoMemory old new refused is = absurd (cc is)
 
@@ -77,9 +81,11 @@ or_none : (a : Bool) → (a || false) ≡ a
 or_none true = refl
 or_none false = refl
 
-module _ {H X : Type 0} (script : ScriptModel) (told : Bool) (run drop : ℕ → ℕ) (named : ℕ) (outside : Bool) (marks : H → Marks) (state : X → ReactorState) (tells_of : X → Option Outside) (faults : X → ℕ)
-    (old t : Recording) (hands : Held H) (view : ProactorView X) (well : IsWellFormed old.script) (is_script : script ≡ old.script) (new : old ≡ new_recording old.script (most_history old.script))
-    (holds : HoldsAll marks run drop old.script hands) (started : IsStarted state tells_of faults told named old.script view) (did : HasCalledOpening old t)
+module _ {H X : Type 0} (script : ScriptModel) (told : Bool) (run drop : ℕ → ℕ) (named : ℕ) (outside : Bool)
+    (marks : H → Marks) (state : X → ReactorState) (tells_of : X → Option Outside) (faults : X → ℕ) (old t : Recording)
+    (hands : Held H) (view : ProactorView X) (well : IsWellFormed old.script) (is_script : script ≡ old.script)
+    (new : old ≡ new_recording old.script (most_history old.script)) (holds : HoldsAll marks run drop old.script hands)
+    (started : IsStarted state tells_of faults told named old.script view) (did : HasCalledOpening old t)
     (openings : steps.OpeningsAreRecorded) (shown : CallsShowTheirEvents) (unmarked : OpeningsShowNoMarks) where
   opened : steps.OpeningIsRecorded told old.script did.calls
   opened = openings told old.script did.calls well did.are
@@ -132,8 +138,13 @@ module _ {H X : Type 0} (script : ScriptModel) (told : Bool) (run drop : ℕ →
   held : HoldsUnspent marks told run drop (steps.opened_recording old.script did.calls) hands
   held = record {
     script = holds.same_script;
-    each = λ n. holds.each n ∙ ap (λ b. unless_spent b (record { run = run n; drop = drop n })) (sym (ap (λ b. not (is_op old.script n) || b) (opened.spent n) ∙ or_none (not (is_op old.script n))));
+    each = λ n.
+        holds.each n
+        ∙ ap (λ b. unless_spent b (record { run = run n; drop = drop n }))
+        (sym (ap (λ b. not (is_op old.script n) || b) (opened.spent n) ∙ or_none (not (is_op old.script n))));
   }
 
   pub opened_book : IsBook script told run drop named outside marks state tells_of faults t hands view
-  opened_book = subst (λ r. IsBook script told run drop named outside marks state tells_of faults r hands view) (sym is_t) (record { history = history; holds = held; reactor = reactor })
+  opened_book =
+      subst (λ r. IsBook script told run drop named outside marks state tells_of faults r hands view) (sym is_t)
+      (record { history = history; holds = held; reactor = reactor })

@@ -26,19 +26,31 @@ or-assoc true b c = refl
 or-assoc false b c = refl
 
 -- an act is still as it was left
-pub back_still : (script : ScriptModel) (first earlier n : ℕ) (act later : ActState) → earlier ≤ first → later ≡ act → IsBackSince script first n act → IsBackSince script earlier n later
+pub back_still : (script : ScriptModel) (first earlier n : ℕ) (act later : ActState) → earlier ≤ first → later ≡ act →
+    IsBackSince script first n act → IsBackSince script earlier n later
 back_still script first earlier n act later before same back =
-    record { called = back.called; back = back.back; is = same ∙ back.is; since = omega (arith, before, back.since); order = back.order }
+    record {
+      called = back.called;
+      back = back.back;
+      is = same ∙ back.is;
+      since = omega (arith, before, back.since);
+      order = back.order;
+    }
 
 -- where an act that is back was called
-pub asked_since : (script : ScriptModel) (first n : ℕ) (act : ActState) → IsBackSince script first n act → first ≤ called_at act.call
-asked_since script first n act back = let e : called_at act.call ≡ back.called = ap (λ (act : ActState). called_at act.call) back.is in omega (arith, e, back.since)
+pub asked_since : (script : ScriptModel) (first n : ℕ) (act : ActState) → IsBackSince script first n act →
+    first ≤ called_at act.call
+asked_since script first n act back =
+    let e : called_at act.call ≡ back.called = ap (λ (act : ActState). called_at act.call) back.is in
+    omega (arith, e, back.since)
 
 -- and that this is behind us
-pub back_past : (script : ScriptModel) (first now n : ℕ) (act : ActState) → IsBackSince script first n act → IsCallPast now act.call → called_at act.call < now
+pub back_past : (script : ScriptModel) (first now n : ℕ) (act : ActState) → IsBackSince script first n act →
+    IsCallPast now act.call → called_at act.call < now
 back_past script first now n act back past =
     let e : called_at act.call ≡ back.called = ap (λ (act : ActState). called_at act.call) back.is in
-    let p : IsCallPast now (call.Back back.called back.back) = subst (IsCallPast now) (ap (λ (act : ActState). act.call) back.is) past in
+    let p : IsCallPast now (call.Back back.called back.back) =
+    subst (IsCallPast now) (ap (λ (act : ActState). act.call) back.is) past in
     omega (arith, e, p.0, p.1)
 
 -- what is past stays so
@@ -69,11 +81,15 @@ module _ (script : ScriptModel) (told : Bool) (r : ReactorHalf) where
     pub rising : t.events < most_faults → Rises (asked_at t) (acts_called calls)
 
   -- the count of events never falls
-  pub goes-from : (s t : ContextState) (calls : List Posted) → s.events ≤ most_faults → Goes script told r s calls t → s.events ≤ t.events
-  goes-from s t calls within goes = subst (λ n. s.events ≤ n) (sym goes.count) (later-from (length (events_of script calls)) s.events within)
+  pub goes-from : (s t : ContextState) (calls : List Posted) → s.events ≤ most_faults → Goes script told r s calls t →
+      s.events ≤ t.events
+  goes-from s t calls within goes =
+      subst (λ n. s.events ≤ n) (sym goes.count) (later-from (length (events_of script calls)) s.events within)
 
-  pub goes-bound : (s t : ContextState) (calls : List Posted) → s.events ≤ most_faults → Goes script told r s calls t → t.events ≤ most_faults
-  goes-bound s t calls within goes = subst (λ n. n ≤ most_faults) (sym goes.count) (later-bound (length (events_of script calls)) s.events within)
+  pub goes-bound : (s t : ContextState) (calls : List Posted) → s.events ≤ most_faults → Goes script told r s calls t →
+      t.events ≤ most_faults
+  goes-bound s t calls within goes =
+      subst (λ n. n ≤ most_faults) (sym goes.count) (later-bound (length (events_of script calls)) s.events within)
 
   pub moves-none : (place : Place) (s : ContextState) → Moves place [] s s
   moves-none place s = record {
@@ -95,7 +111,8 @@ module _ (script : ScriptModel) (told : Bool) (r : ReactorHalf) where
     rising = λ room. tt;
   }
 
-  module _ (place : Place) (s t u : ContextState) (xs ys : List Posted) (within : s.events ≤ most_faults) (first : Moves place xs s t) (second : Moves place ys t u)
+  module _ (place : Place) (s t u : ContextState) (xs ys : List Posted) (within : s.events ≤ most_faults)
+      (first : Moves place xs s t) (second : Moves place ys t u)
       (apart : (n : ℕ) → is_called n xs ≡ true → is_called n ys ≡ true → ⊥) where
     called_either : (n : ℕ) → is_called n (xs ++ ys) ≡ true → (is_called n xs ≡ true) ⊎ (is_called n ys ≡ true)
     called_either n is = or_cases (is_called n xs) (is_called n ys) (sym (called-append n xs ys) ∙ is)
@@ -107,13 +124,20 @@ module _ (script : ScriptModel) (told : Bool) (r : ReactorHalf) where
     own_both n (inl is) = first.own n is
     own_both n (inr is) = second.own n is
 
-    back_both : (n : ℕ) → (is_called n ys ≡ true) ⊎ (is_called n ys ≡ false) → (is_called n xs ≡ true) ⊎ (is_called n ys ≡ true) → IsBackSince script s.events n (act_at u n)
-    back_both n (inl again) either = back_still script t.events s.events n (act_at u n) (act_at u n) (goes-from s t xs within first.goes) refl (second.back n again)
-    back_both n (inr never) (inl is) = back_still script s.events s.events n (act_at t n) (act_at u n) (omega arith) (second.kept n never (elsewhere place n (first.own n is))) (first.back n is)
+    back_both : (n : ℕ) → (is_called n ys ≡ true) ⊎ (is_called n ys ≡ false) →
+        (is_called n xs ≡ true) ⊎ (is_called n ys ≡ true) → IsBackSince script s.events n (act_at u n)
+    back_both n (inl again) either =
+        back_still script t.events s.events n (act_at u n) (act_at u n) (goes-from s t xs within first.goes) refl
+        (second.back n again)
+    back_both n (inr never) (inl is) =
+        back_still script s.events s.events n (act_at t n) (act_at u n) (omega arith)
+        (second.kept n never (elsewhere place n (first.own n is))) (first.back n is)
     back_both n (inr never) (inr is) = absurd (let wrong : true ≡ false = sym is ∙ never in cc)
 
-    neither_stops : are_stopping script (xs ++ ys) ≡ false → (are_stopping script xs ≡ false) × (are_stopping script ys ≡ false)
-    neither_stops never = or_parts (are_stopping script xs) (are_stopping script ys) (sym (stopping-append script xs ys) ∙ never)
+    neither_stops : are_stopping script (xs ++ ys) ≡ false →
+        (are_stopping script xs ≡ false) × (are_stopping script ys ≡ false)
+    neither_stops never =
+        or_parts (are_stopping script xs) (are_stopping script ys) (sym (stopping-append script xs ys) ∙ never)
 
     before_end : t.events ≤ u.events
     before_end = goes-from t u ys (goes-bound s t xs within first.goes) second.goes
@@ -122,15 +146,20 @@ module _ (script : ScriptModel) (told : Bool) (r : ReactorHalf) where
     still : (n : ℕ) → is_called n xs ≡ true → act_at u n ≡ act_at t n
     still n is = second.kept n (false_from_ne_true (is_called n ys) (apart n is)) (elsewhere place n (first.own n is))
 
-    past_either : u.events < most_faults → (n : ℕ) → (is_called n xs ≡ true) ⊎ (is_called n ys ≡ true) → IsCallPast u.events (call_at u n)
-    past_either room n (inl is) = subst (IsCallPast u.events) (sym (ap (λ (act : ActState). act.call) (still n is))) (past_later t.events u.events (call_at t n) before_end (first.past (omega (arith, room, before_end)) n is))
+    past_either : u.events < most_faults → (n : ℕ) → (is_called n xs ≡ true) ⊎ (is_called n ys ≡ true) →
+        IsCallPast u.events (call_at u n)
+    past_either room n (inl is) =
+        subst (IsCallPast u.events) (sym (ap (λ (act : ActState). act.call) (still n is)))
+        (past_later t.events u.events (call_at t n) before_end (first.past (omega (arith, room, before_end)) n is))
     past_either room n (inr is) = second.past room n is
 
     -- what the first calls called was called before what the others call
-    before_others : u.events < most_faults → (n : ℕ) → is_called n xs ≡ true → (m : ℕ) → is_called m ys ≡ true → asked_at u n < asked_at u m
+    before_others : u.events < most_faults → (n : ℕ) → is_called n xs ≡ true → (m : ℕ) → is_called m ys ≡ true →
+        asked_at u n < asked_at u m
     before_others room n is m is_too =
         let was : asked_at u n ≡ asked_at t n = ap (λ (act : ActState). called_at act.call) (still n is) in
-        let was_past : asked_at t n < t.events = back_past script s.events t.events n (act_at t n) (first.back n is) (first.past (omega (arith, room, before_end)) n is) in
+        let was_past : asked_at t n < t.events =
+        back_past script s.events t.events n (act_at t n) (first.back n is) (first.past (omega (arith, room, before_end)) n is) in
         let since : t.events ≤ asked_at u m = asked_since script t.events m (act_at u m) (second.back m is_too) in
         omega (arith, was, was_past, since)
 
@@ -138,7 +167,10 @@ module _ (script : ScriptModel) (told : Bool) (r : ReactorHalf) where
     rising_both room =
         subst (Rises (asked_at u)) (sym (acts-append xs ys))
         (rises-append (asked_at u) (acts_called xs) (acts_called ys)
-        (rises-same (asked_at t) (asked_at u) (acts_called xs) (all_called (λ n. asked_at u n ≡ asked_at t n) xs (λ n is. ap (λ (act : ActState). called_at act.call) (still n is))) (first.rising (omega (arith, room, before_end))))
+        (rises-same (asked_at t) (asked_at u) (acts_called xs)
+        (all_called (λ n. asked_at u n ≡ asked_at t n) xs
+        (λ n is. ap (λ (act : ActState). called_at act.call) (still n is)))
+        (first.rising (omega (arith, room, before_end))))
         (second.rising room)
         (all_called (λ n. All (λ m. asked_at u n < asked_at u m) (acts_called ys)) xs (λ n is. all_called (λ m. asked_at u n < asked_at u m) ys (before_others room n is))))
 

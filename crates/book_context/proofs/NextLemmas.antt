@@ -19,17 +19,20 @@ use Rattle.book_context.specs.Order.{IsKept}
 use Rattle.book_context.proofs.ReadyLemmas.{first_of_lane, first_request}
 use Rattle.book_context.proofs.RestLemmas.{at_each}
 
-pub may_begin : (script : ScriptModel) (s : State) (op : ℕ) (code : Code) (size : ℕ) (newer : List (ℕ × Code × ℕ)) (requests : List ℕ) → IsKept script s ((op, code, size) ∷ newer) requests →
-    RoundIsOpen script s.context → MayStart s.context (lane_of script op) → MayBeginOutside script s.context op code size
+pub may_begin : (script : ScriptModel) (s : State) (op : ℕ) (code : Code) (size : ℕ) (newer : List (ℕ × Code × ℕ))
+    (requests : List ℕ) → IsKept script s ((op, code, size) ∷ newer) requests → RoundIsOpen script s.context →
+    MayStart s.context (lane_of script op) → MayBeginOutside script s.context op code size
 may_begin script s op code size newer requests kept round allowed = record {
   round = round;
-  ready = All-head (λ item. IsReadyWith (phase_at s.context item.0) item.1 item.2) (op, code, size) newer kept.are_ready.each;
+  ready =
+      All-head (λ item. IsReadyWith (phase_at s.context item.0) item.1 item.2) (op, code, size) newer kept.are_ready.each;
   alone = λ other same. at_each (λ act. is_running act.phase ≡ false) s.context refl kept.rest.quiet other;
   first = first_of_lane script s.context op code size newer kept.orderly.dated kept.are_ready;
   allowed = allowed;
 }
 
-pub may_take : (script : ScriptModel) (s : State) (a : ℕ) (ready : List (ℕ × Code × ℕ)) (newer : List ℕ) → IsKept script s ready (a ∷ newer) → MayTurn script s → MayTake script s a
+pub may_take : (script : ScriptModel) (s : State) (a : ℕ) (ready : List (ℕ × Code × ℕ)) (newer : List ℕ) →
+    IsKept script s ready (a ∷ newer) → MayTurn script s → MayTake script s a
 may_take script s a ready newer kept turn = record {
   turn = turn;
   untaken = All-head (λ n. is_untaken s n ≡ true) a newer kept.are_untaken.each;
@@ -37,7 +40,8 @@ may_take script s a ready newer kept turn = record {
 }
 
 -- what neither is ready nor runs nor waits to be taken is quiet
-quiet_by : (p : ActPhase) (taken : Bool) → is_ready p ≡ false → is_running p ≡ false → (is_request p && not taken) ≡ false → is_quiet p taken ≡ true
+quiet_by : (p : ActPhase) (taken : Bool) → is_ready p ≡ false → is_running p ≡ false →
+    (is_request p && not taken) ≡ false → is_quiet p taken ≡ true
 quiet_by (phase.Ready code size why) taken ready running waits = absurd (cc)
 quiet_by (phase.Running class progress) taken ready running waits = absurd (cc)
 quiet_by phase.Requested true ready running waits = refl

@@ -97,25 +97,33 @@ module _ (told : Bool) (script : ScriptModel) (calls : List Posted) (well : IsWe
   none_taken n = elim (cases_lt n (length script.acts)) [
     | inl within ↦ get_or-replicate (length script.acts) n false false within
     | inr beyond ↦
-        get_or_past (replicate (length script.acts) false) n false (omega (arith, beyond, length-replicate (length script.acts) false))
+        get_or_past (replicate (length script.acts) false) n false
+        (omega (arith, beyond, length-replicate (length script.acts) false))
   ]
 
   before_left : (n : ℕ) → act_left_at s n ≡ 7
   before_left n =
-      ap (λ (act : ActState). act_left act.call act.phase (slice_index_or (replicate (length script.acts) false) n false)) (first_act script n)
+      ap (λ (act : ActState).
+      act_left act.call act.phase (slice_index_or (replicate (length script.acts) false) n false))
+      (first_act script n)
 
   each_left : (n : ℕ) → act_left_at t n + shows n ≤ act_left_at s n
   each_left n = elim (cases_Bool (is_called n calls)) [
     | inl is ↦
         let now : act_left_at t n ≡ phase_left (settled_phase script n) false =
-        ap (λ (act : ActState). act_left act.call act.phase (slice_index_or (replicate (length script.acts) false) n false)) (did.opened.called n is).is ∙ ap (phase_left (settled_phase script n)) (none_taken n) in
+        ap (λ (act : ActState).
+        act_left act.call act.phase (slice_index_or (replicate (length script.acts) false) n false))
+        (did.opened.called n is).is
+        ∙ ap (phase_left (settled_phase script n)) (none_taken n) in
         let most = settled_left script n in
         let shown : shows n ≡ shown_by script n = ap (λ b. cond b (shown_by script n) 0) is in
         let before = before_left n in
         omega (arith, now, most, shown, before)
     | inr isnt ↦
         let now : act_left_at t n ≡ 7 =
-        ap (λ (act : ActState). act_left act.call act.phase (slice_index_or (replicate (length script.acts) false) n false)) (did.opened.others n isnt) in
+        ap (λ (act : ActState).
+        act_left act.call act.phase (slice_index_or (replicate (length script.acts) false) n false))
+        (did.opened.others n isnt) in
         let shown : shows n ≡ 0 = ap (λ b. cond b (shown_by script n) 0) isnt in
         let before = before_left n in
         omega (arith, now, shown, before)
@@ -147,7 +155,9 @@ module _ (told : Bool) (script : ScriptModel) (calls : List Posted) (well : IsWe
     operations = λ n is was. elim (cases_Bool (is_called n calls)) [
       | inl called ↦ ap is_accepted (called_phase n called) ∙ settled_accepted script n is
       | inr isnt ↦
-          absurd (let wrong : false ≡ true = sym (ap (λ (act : ActState). was_called act.call) (did.opened.others n isnt)) ∙ was in cc)
+          absurd (let wrong : false ≡ true =
+          sym (ap (λ (act : ActState). was_called act.call) (did.opened.others n isnt)) ∙ was in
+          cc)
     ];
     others = λ n isnt. by_act (λ p. is_unspent p ≡ false) n (λ called. settled_other script n isnt) refl;
     inline = λ n is. by_act (λ p. is_unspent p ≡ false) n (λ called. ap is_unspent (settled_inline script n is)) refl;
@@ -159,7 +169,12 @@ module _ (told : Bool) (script : ScriptModel) (calls : List Posted) (well : IsWe
   by_depth (suc fuel) n less is = elim (called_from script well AnyMark acts n is) [
     | inl of ↦ open_outside script n (parent_is script well None n of.0 of.1)
     | inr under ↦
-        absurd (let wrong : true ≡ false = sym under.inline ∙ by_depth fuel under.parent (omega (arith, less, (subst (HasParent script.acts n) under.is_parent (has_parent script n well)).0)) under.called in cc)
+        absurd (let wrong : true ≡ false =
+        sym under.inline
+        ∙ by_depth fuel under.parent
+        (omega (arith, less, (subst (HasParent script.acts n) under.is_parent (has_parent script n well)).0))
+        under.called in
+        cc)
   ]
 
   called_outside : (n : ℕ) → is_called n calls ≡ true → is_inline script n ≡ false
@@ -176,7 +191,8 @@ module _ (told : Bool) (script : ScriptModel) (calls : List Posted) (well : IsWe
     script = well;
     legal = did.legal;
     kept = subst (λ u. IsKept script u (postings_of script calls) (requests_of script calls)) did.is
-        (is_order_begun script told calls well acts (let fit = fits in let few = few_events script well in omega (arith, fit, few)));
+        (is_order_begun script told calls well acts
+        (let fit = fits in let few = few_events script well in omega (arith, fit, few)));
     accounted = λ works. subst (IsAccounted script) did.is (account_opening script told calls well acts);
     standing = λ works n.
         let none = none_stands script told n in
@@ -187,11 +203,15 @@ module _ (told : Bool) (script : ScriptModel) (calls : List Posted) (well : IsWe
     free = free_opened script calls did.after did.opened;
     opened = did.opened.opening;
     called =
-        marked-calls calls (replicate (length script.acts) false) s.context did.after (length-replicate (length script.acts) false ∙ sym did.opened.rest.acts)
+        marked-calls calls (replicate (length script.acts) false) s.context did.after
+        (length-replicate (length script.acts) false ∙ sym did.opened.rest.acts)
         (λ n. none_taken n ∙ sym (ap (λ (act : ActState). was_called act.call) (first_act script n)))
         (λ n is. ap (λ (act : ActState). was_called act.call) (did.opened.called n is).is)
-        (λ n isnt. ap (λ (act : ActState). act.call) (did.opened.others n isnt) ∙ sym (ap (λ (act : ActState). act.call) (first_act script n)));
-    called_size = marked-length calls (replicate (length script.acts) false) ∙ length-replicate (length script.acts) false;
+        (λ n isnt.
+        ap (λ (act : ActState). act.call) (did.opened.others n isnt)
+        ∙ sym (ap (λ (act : ActState). act.call) (first_act script n)));
+    called_size =
+        marked-length calls (replicate (length script.acts) false) ∙ length-replicate (length script.acts) false;
     stopped = did.opened.stopped;
     restarted = did.opened.restarted;
     closings = did.opened.closings;
@@ -228,5 +248,6 @@ pub inline_kept : (told : Bool) (r : Recording) (caller n : ℕ) → IsRecorded 
 inline_kept told r caller n knows inline unspent =
     let s : State = recorded_state told r in
     let waits =
-    not_begun (phase_at s.context caller) unspent (at_each (λ act. is_running act.phase ≡ false) s.context refl knows.kept.rest.quiet caller) in
+    not_begun (phase_at s.context caller) unspent
+    (at_each (λ act. is_running act.phase ≡ false) s.context refl knows.kept.rest.quiet caller) in
     ap is_spent (knows.kept.orderly.uncalled n (knows.kept.orderly.branches n caller inline.0 inline.1 waits))

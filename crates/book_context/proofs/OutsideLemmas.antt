@@ -20,24 +20,29 @@ use Rattle.book_context.proofs.MovesLemmas.{Moves, goes-from}
 use Rattle.book_context.proofs.StateLemmas.{IsAt, IsBehind, IsThere, Touches, both, touches-both}
 
 -- what such a call has done
-done_outside : (b inline : Bool) (called : ℕ) (act : ActState) → inline ≡ false → act.call ≡ opened_as b called → is_call_done b inline act ≡ true
+done_outside : (b inline : Bool) (called : ℕ) (act : ActState) → inline ≡ false → act.call ≡ opened_as b called →
+    is_call_done b inline act ≡ true
 done_outside true inline called act outside is = ap has_stopped is
 done_outside false inline called act outside is = rw outside (rw is refl)
 
 -- its operation is there still
-pub there-still : (place : Place) (s t : ContextState) → length t.acts ≡ length s.acts → IsThere s place → IsThere t place
+pub there-still : (place : Place) (s t : ContextState) → length t.acts ≡ length s.acts → IsThere s place →
+    IsThere t place
 there-still None s t same there = tt
 there-still (Some at) s t same there = omega (arith, there, same)
 
 -- a body has come to its next call, and what it did on the way
-pub record MovesOn (script : ScriptModel) (told : Bool) (r : ReactorHalf) (place : Place) (k : ℕ) (calls : List Posted) (s : ContextState) : Type 0 where
+pub record MovesOn (script : ScriptModel) (told : Bool) (r : ReactorHalf) (place : Place) (k : ℕ) (calls : List Posted)
+    (s : ContextState) : Type 0 where
   pub after : ContextState
   pub at : IsAt after place (both k)
   pub moves : Moves script told r place calls s after
 
-module _ (script : ScriptModel) (told : Bool) (r : ReactorHalf) (place : Place) (a k : ℕ) (is_next : IsNext script told r place a k)
-    (s : ContextState) (within : a < length s.acts) (there : IsThere s place) (counted : s.events ≤ most_faults) (at : IsAt s place (both k)) (outside : is_inline script a ≡ false) where
-  module _ (b : Bool) (is : stops script a ≡ b) (t u : ContextState) (first : Opens script told r place a k b s t) (second : Returns script told r place a k b s.events t u) where
+module _ (script : ScriptModel) (told : Bool) (r : ReactorHalf) (place : Place) (a k : ℕ)
+    (is_next : IsNext script told r place a k) (s : ContextState) (within : a < length s.acts) (there : IsThere s place)
+    (counted : s.events ≤ most_faults) (at : IsAt s place (both k)) (outside : is_inline script a ≡ false) where
+  module _ (b : Bool) (is : stops script a ≡ b) (t u : ContextState) (first : Opens script told r place a k b s t)
+      (second : Returns script told r place a k b s.events t u) where
     all_touches : Touches place a s u
     all_touches = touches-both place a s t u first.touches second.touches
 
@@ -62,8 +67,11 @@ module _ (script : ScriptModel) (told : Bool) (r : ReactorHalf) (place : Place) 
     past_act : u.events < most_faults → (n : ℕ) → (a ≡ n) ⊎ (false ≡ true) → IsCallPast u.events (call_at u n)
     past_act room n (inl same) =
         let is_back : call.Back s.events t.events ≡ call_at u a = sym (ap (λ (act : ActState). act.call) second.act) in
-        let rose : t.events < u.events = subst (λ m. t.events < m) (sym second.goes.count) (one_more-rose t.events (subst (λ m. m < most_faults) second.goes.count room)) in
-        subst (λ n. IsCallPast u.events (call_at u n)) same (subst (IsCallPast u.events) is_back (goes-from script told r s t (posted.Call a ∷ []) counted first.goes, rose))
+        let rose : t.events < u.events =
+        subst (λ m. t.events < m) (sym second.goes.count)
+        (one_more-rose t.events (subst (λ m. m < most_faults) second.goes.count room)) in
+        subst (λ n. IsCallPast u.events (call_at u n)) same (subst (IsCallPast u.events) is_back
+        (goes-from script told r s t (posted.Call a ∷ []) counted first.goes, rose))
     past_act room n (inr never) = absurd (cc)
 
     stops_here : are_stopping script (posted.Call a ∷ posted.Back a ∷ []) ≡ b
@@ -98,7 +106,9 @@ module _ (script : ScriptModel) (told : Bool) (r : ReactorHalf) (place : Place) 
       let one = opens script told r place a k is_next s within there at b is in
       let size : a < length one.0.acts = omega (arith, within, one.1.touches.count) in
       let open_call : (act_at one.0 a).call ≡ opened_as b s.events = ap (λ (act : ActState). act.call) one.1.act in
-      let two = returns script told r place a k is_next one.0 size (there-still place s one.0 one.1.touches.count there) b s.events is one.1.at open_call
+      let two =
+      returns script told r place a k is_next one.0 size (there-still place s one.0 one.1.touches.count there) b
+      s.events is one.1.at open_call
       (done_outside b (is_inline script a) s.events (act_at one.0 a) outside open_call) in
       record { after = two.0; at = two.1.at; moves = moves_outside b is one.0 two.0 one.1 two.1 }
 

@@ -10,18 +10,27 @@ use Rattle.book_context.specs.Parts.{IsLegalInParts}
 use Rattle.book_context.proofs.EventLemmas.{events-append, legal-append, state_from-append}
 
 module _ (script : ScriptModel) (told : Bool) where
-  legal_parts : (s : State) (xs ys : List Event) → IsLegalFrom script told s (xs ++ ys) → IsLegalFrom script told s xs × IsLegalFrom script told (state_from script told s xs) ys
+  legal_parts : (s : State) (xs ys : List Event) → IsLegalFrom script told s (xs ++ ys) →
+      IsLegalFrom script told s xs × IsLegalFrom script told (state_from script told s xs) ys
   legal_parts s [] ys legal = (tt, legal)
-  legal_parts s (x ∷ xs) ys legal = let rest = legal_parts (after_event script told s x) xs ys legal.1 in ((legal.0, rest.0), rest.1)
+  legal_parts s (x ∷ xs) ys legal =
+      let rest = legal_parts (after_event script told s x) xs ys legal.1 in ((legal.0, rest.0), rest.1)
 
-  pub in_parts : (s : State) (first rest : List Posted) → IsLegalFrom script told s (events_of script (first ++ rest)) → IsLegalInParts script told s first rest
+  pub in_parts : (s : State) (first rest : List Posted) → IsLegalFrom script told s (events_of script (first ++ rest)) →
+      IsLegalInParts script told s first rest
   in_parts s first rest legal =
-      let parts = legal_parts s (events_of script first) (events_of script rest) (subst (IsLegalFrom script told s) (events-append script first rest) legal) in
+      let parts =
+      legal_parts s (events_of script first) (events_of script rest)
+      (subst (IsLegalFrom script told s) (events-append script first rest) legal) in
       record { first_legal = parts.0; rest_legal = parts.1 }
 
-  pub history_goes_on : (history events : List Event) → IsLegalSoFar script told history → IsLegalFrom script told (state_of script told history) events → IsLegalSoFar script told (history ++ events)
-  history_goes_on history events legal more = legal-append script told (first_state script told) (state_of script told history) history events legal refl more
+  pub history_goes_on : (history events : List Event) → IsLegalSoFar script told history →
+      IsLegalFrom script told (state_of script told history) events → IsLegalSoFar script told (history ++ events)
+  history_goes_on history events legal more =
+      legal-append script told (first_state script told) (state_of script told history) history events legal refl more
 
-  pub state_goes_on : (history events : List Event) → state_of script told (history ++ events) ≡ state_from script told (state_of script told history) events
+  pub state_goes_on : (history events : List Event) →
+      state_of script told (history ++ events) ≡ state_from script told (state_of script told history) events
   state_goes_on history events =
-      state_from-append script told (first_state script told) (state_of script told history) (state_from script told (state_of script told history) events) history events refl refl
+      state_from-append script told (first_state script told) (state_of script told history)
+      (state_from script told (state_of script told history) events) history events refl refl

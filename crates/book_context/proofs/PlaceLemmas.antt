@@ -18,19 +18,30 @@ pub record Listed (place : Place) (n : ℕ) (entries : List Entry) (a : ℕ) : T
   pub at : slice_get entries k ≡ Some entry
   pub here : same_place place entry.parent ≡ true
 
-listed_later : (place : Place) (n a : ℕ) (entry : Entry) (entries : List Entry) → Listed place (n + 1) entries a → Listed place n (entry ∷ entries) a
-listed_later place n a entry entries l = record { k = suc l.k; is = omega (arith, l.is); entry = l.entry; at = l.at; here = l.here }
+listed_later : (place : Place) (n a : ℕ) (entry : Entry) (entries : List Entry) → Listed place (n + 1) entries a →
+    Listed place n (entry ∷ entries) a
+listed_later place n a entry entries l = record {
+  k = suc l.k;
+  is = omega (arith, l.is);
+  entry = l.entry;
+  at = l.at;
+  here = l.here;
+}
 
-listed_by : (place : Place) (n a : ℕ) (entry : Entry) (entries : List Entry) (numbers : List ℕ) (here : Bool) (i : ℕ) → same_place place entry.parent ≡ here →
-    ((j : ℕ) → slice_get numbers j ≡ Some a → Listed place (n + 1) entries a) → slice_get (cond here (n ∷ numbers) numbers) i ≡ Some a → Listed place n (entry ∷ entries) a
-listed_by place n a entry entries numbers true zero here rest is = let same : n ≡ a = cc in record { k = 0; is = omega (arith, same); entry = entry; at = refl; here = here }
+listed_by : (place : Place) (n a : ℕ) (entry : Entry) (entries : List Entry) (numbers : List ℕ) (here : Bool) (i : ℕ) →
+    same_place place entry.parent ≡ here → ((j : ℕ) → slice_get numbers j ≡ Some a → Listed place (n + 1) entries a) →
+    slice_get (cond here (n ∷ numbers) numbers) i ≡ Some a → Listed place n (entry ∷ entries) a
+listed_by place n a entry entries numbers true zero here rest is =
+    let same : n ≡ a = cc in record { k = 0; is = omega (arith, same); entry = entry; at = refl; here = here }
 listed_by place n a entry entries numbers true (suc i) here rest is = listed_later place n a entry entries (rest i is)
 listed_by place n a entry entries numbers false i here rest is = listed_later place n a entry entries (rest i is)
 
-pub listed : (place : Place) (n a : ℕ) (entries : List Entry) (i : ℕ) → slice_get (numbers_in place n entries) i ≡ Some a → Listed place n entries a
+pub listed : (place : Place) (n a : ℕ) (entries : List Entry) (i : ℕ) →
+    slice_get (numbers_in place n entries) i ≡ Some a → Listed place n entries a
 listed place n a [] i is = absurd (cc)
 listed place n a (entry ∷ entries) i is =
-    listed_by place n a entry entries (numbers_in place (n + 1) entries) (same_place place entry.parent) i refl (listed place (n + 1) a entries) is
+    listed_by place n a entry entries (numbers_in place (n + 1) entries) (same_place place entry.parent) i refl
+    (listed place (n + 1) a entries) is
 
 module _ (script : ScriptModel) (well : IsWellFormed script) where
   pub few_acts : length script.acts < most_faults
@@ -39,7 +50,8 @@ module _ (script : ScriptModel) (well : IsWellFormed script) where
   -- what is known of an act of a body
   module _ (place : Place) (a k : ℕ) (at : slice_get (acts_in script place) k ≡ Some a) where
     pub within_script : a < length script.acts
-    within_script = let l = listed place 0 a script.acts k at in omega (arith, l.is, slice_get_within script.acts l.k l.entry l.at)
+    within_script =
+        let l = listed place 0 a script.acts k at in omega (arith, l.is, slice_get_within script.acts l.k l.entry l.at)
 
     pub parent_is : parent_of script a ≡ place
     parent_is =

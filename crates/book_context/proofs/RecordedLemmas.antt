@@ -45,9 +45,14 @@ pub few_rounds : (script : ScriptModel) → IsWellFormed script → length scrip
 few_rounds script well = let rounds = rounds_allowed script.version in omega (arith, rounds, well.round_count)
 
 -- a round is open where a recording says so
-pub round_open : (told : Bool) (r : Recording) → IsRecorded told r → IsRoundOpen r → RoundIsOpen r.script (recorded_state told r).context
+pub round_open : (told : Bool) (r : Recording) → IsRecorded told r → IsRoundOpen r →
+    RoundIsOpen r.script (recorded_state told r).context
 round_open told r knows round = record {
-  begun = record { opened = ap (λ (progress : Progress). progress.back) knows.opened; left = let same = knows.closings in let less = round.left in omega (arith, same, less) };
+  begun =
+      record {
+        opened = ap (λ (progress : Progress). progress.back) knows.opened;
+        left = let same = knows.closings in let less = round.left in omega (arith, same, less);
+      };
   restarted = λ wanted. knows.restarted
       ∙ round.restarted (ap (λ closings. restarts (slice_get r.script.rounds closings)) (sym knows.closings) ∙ wanted);
   alive = knows.alive;
@@ -68,7 +73,8 @@ stepped event r ready requests stopped restarted closings = record {
 }
 
 -- what an event that calls nothing changes
-pub record Changes (script : ScriptModel) (s t : State) (ready : List (ℕ × Code × ℕ)) (requests : List ℕ) (stops restarts : Bool) (closed : ℕ) : Type 0 where
+pub record Changes (script : ScriptModel) (s t : State) (ready : List (ℕ × Code × ℕ)) (requests : List ℕ)
+    (stops restarts : Bool) (closed : ℕ) : Type 0 where
   pub kept : IsKept script t ready requests
   pub accounted : t.reactor.failed ≡ false → IsAccounted script t
   pub standing : t.reactor.failed ≡ false → IsStanding t
@@ -85,8 +91,8 @@ pub record Changes (script : ScriptModel) (s t : State) (ready : List (ℕ × Co
   pub events : t.context.events ≤ s.context.events + 1
   pub spent : (n : ℕ) → is_spent (phase_at t.context n) ≡ is_spent (phase_at s.context n)
 
-module _ (told : Bool) (r : Recording) (event : Event) (ready : List (ℕ × Code × ℕ)) (requests : List ℕ) (stopped restarted : Bool)
-    (closings : ℕ) (knows : IsRecorded told r) where
+module _ (told : Bool) (r : Recording) (event : Event) (ready : List (ℕ × Code × ℕ)) (requests : List ℕ)
+    (stopped restarted : Bool) (closings : ℕ) (knows : IsRecorded told r) where
   abbrev before : State
   before = recorded_state told r
 
@@ -97,8 +103,8 @@ module _ (told : Bool) (r : Recording) (event : Event) (ready : List (ℕ × Cod
   next = stepped event r ready requests stopped restarted closings
 
   -- what may happen is recorded
-  pub goes_on : MayHappen r.script told before event → Changes r.script before after ready requests stopped restarted closings →
-      EventIsRecorded told r event next
+  pub goes_on : MayHappen r.script told before event →
+      Changes r.script before after ready requests stopped restarted closings → EventIsRecorded told r event next
   goes_on may changes =
       let less = changes.left in
       let had = knows.room in

@@ -9,7 +9,8 @@ abbrev pub Rises : {X : Type 0} → (X → ℕ) → List X → Type 0
 Rises f [] = Unit {0}
 Rises f (x ∷ xs) = All (λ y. f x < f y) xs × Rises f xs
 
-pub rises-append : {X : Type 0} (f : X → ℕ) (xs ys : List X) → Rises f xs → Rises f ys → All (λ x. All (λ y. f x < f y) ys) xs → Rises f (xs ++ ys)
+pub rises-append : {X : Type 0} (f : X → ℕ) (xs ys : List X) → Rises f xs → Rises f ys →
+    All (λ x. All (λ y. f x < f y) ys) xs → Rises f (xs ++ ys)
 rises-append f [] ys first second across = second
 rises-append f (x ∷ xs) ys first second across = (
   All-append (λ y. f x < f y) xs ys first.0 (All-head (λ x. All (λ y. f x < f y) ys) x xs across),

@@ -28,20 +28,25 @@ use Rattle.book_context.proofs.WorkLemmas.{is_work_listed}
 
 -- the outstanding work, by what is recorded and what the reactor has to complete
 pub work_known : (told : Bool) (r : Recording) → IsRecorded told r → (recorded_half told r).failed ≡ false →
-    outstanding_work (recorded_state told r) ≡ length r.ready + length r.requests + pending_count (recorded_half told r) + count_by is_held (recorded_half told r).guards
+    outstanding_work (recorded_state told r)
+    ≡ length r.ready + length r.requests + pending_count (recorded_half told r)
+    + count_by is_held (recorded_half told r).guards
 work_known told r knows works =
     let listed = is_work_listed r.script (recorded_state told r) r.ready r.requests knows.kept in
     let same = (knows.accounted works).pending in
     omega (arith, listed, same)
 
 -- where nothing is listed all is quiet
-quiet_now : (told : Bool) (r : Recording) → IsRecorded told r → r.ready ≡ [] → r.requests ≡ [] → AllQuiet (recorded_state told r)
+quiet_now : (told : Bool) (r : Recording) → IsRecorded told r → r.ready ≡ [] → r.requests ≡ [] →
+    AllQuiet (recorded_state told r)
 quiet_now told r knows ready requests =
     let s : State = recorded_state told r in
-    all_quiet r.script s (subst (λ requests. IsKept r.script s [] requests) requests (subst (λ ready. IsKept r.script s ready r.requests) ready knows.kept))
+    all_quiet r.script s (subst (λ requests. IsKept r.script s [] requests) requests
+    (subst (λ ready. IsKept r.script s ready r.requests) ready knows.kept))
 
 -- a round that closes, and a restart
-close_left : (rounds : ℕ) (restarted : Bool) → 1 ≤ rounds → rounds_left (rounds - 1) false + 1 ≤ rounds_left rounds restarted
+close_left : (rounds : ℕ) (restarted : Bool) → 1 ≤ rounds →
+    rounds_left (rounds - 1) false + 1 ≤ rounds_left rounds restarted
 close_left rounds true some = omega (arith, some)
 close_left rounds false some = omega (arith, some)
 
@@ -53,13 +58,20 @@ module _ (told : Bool) (r : Recording) (knows : IsRecorded told r) where
   s = recorded_state told r
 
   -- an event that leaves acts and the reactor as they are
-  same_order : (t : State) → t.context.acts ≡ s.context.acts → t.reactor.taken ≡ s.reactor.taken → s.context.events ≤ t.context.events →
-      t.context.events ≤ one_more s.context.events → unwrap_or t.context.turn 0 ≤ unwrap_or s.context.turn 0 →
-      IsKept r.script t r.ready r.requests
+  same_order : (t : State) → t.context.acts ≡ s.context.acts → t.reactor.taken ≡ s.reactor.taken →
+      s.context.events ≤ t.context.events → t.context.events ≤ one_more s.context.events →
+      unwrap_or t.context.turn 0 ≤ unwrap_or s.context.turn 0 → IsKept r.script t r.ready r.requests
   same_order t acts taken later most turn =
       let bound = one_more-bound s.context.events in
       let dated = knows.kept.orderly.dated.turn in
-      others_keep r.script s t r.ready r.requests (record { acts = acts; taken = taken; later = later; counted = omega (arith, most, bound); turn = omega (arith, turn, dated, later) }) knows.kept
+      others_keep r.script s t r.ready r.requests
+      (record {
+        acts = acts;
+        taken = taken;
+        later = later;
+        counted = omega (arith, most, bound);
+        turn = omega (arith, turn, dated, later);
+      }) knows.kept
 
   later_now : s.context.events ≤ one_more s.context.events
   later_now = one_more-from s.context.events knows.kept.rest.counted
@@ -93,14 +105,21 @@ module _ (told : Bool) (r : Recording) (knows : IsRecorded told r) where
   stop_falls : (b : Bool) → one_unless true ≤ one_unless b
   stop_falls b = omega arith
 
-  changes_close : r.closings < length r.script.rounds → Changes r.script s closed r.ready r.requests true false (r.closings + 1)
+  changes_close : r.closings < length r.script.rounds →
+      Changes r.script s closed r.ready r.requests true false (r.closings + 1)
   changes_close left = record {
     kept = same_order closed refl refl later_now (omega arith) (omega arith);
-    accounted = λ works. let was = knows.accounted works in record { streams = was.streams; marks = was.marks; asked = was.asked; pending = was.pending };
+    accounted = λ works.
+        let was = knows.accounted works in
+        record { streams = was.streams; marks = was.marks; asked = was.asked; pending = was.pending };
     standing = λ works. knows.standing works;
     ahead = knows.ahead;
     kinds = kinds_same r.script s closed (λ n. refl) knows.kinds;
-    free = record { lanes = length-map s.context.allowances.strands (λ _. allowance.Nothing) ∙ knows.free.lanes; free = λ going. absurd (cc) };
+    free =
+        record {
+          lanes = length-map s.context.allowances.strands (λ _. allowance.Nothing) ∙ knows.free.lanes;
+          free = λ going. absurd (cc);
+        };
     opening = refl;
     calls = λ n. refl;
     stopped = refl;
@@ -117,7 +136,8 @@ module _ (told : Bool) (r : Recording) (knows : IsRecorded told r) where
   }
 
   -- the context ran out of work
-  pub has_ended : IsRoundOpen r → r.stopped ≡ false → outstanding_work s ≡ 0 → EventIsRecorded told r event.Ended (with_closing event.Ended true r)
+  pub has_ended : IsRoundOpen r → r.stopped ≡ false → outstanding_work s ≡ 0 →
+      EventIsRecorded told r event.Ended (with_closing event.Ended true r)
   has_ended round going idle =
       goes_on told r event.Ended r.ready r.requests true false (r.closings + 1) knows
       (record { round = round_open told r knows round; going = knows.stopped ∙ going; idle = idle }) (changes_close round.left)
@@ -154,7 +174,9 @@ module _ (told : Bool) (r : Recording) (knows : IsRecorded told r) where
       })
       (record {
         kept = same_order polled refl refl later_now (omega arith) (omega arith);
-        accounted = λ works. let was = knows.accounted works in record { streams = was.streams; marks = was.marks; asked = was.asked; pending = was.pending };
+        accounted = λ works.
+            let was = knows.accounted works in
+            record { streams = was.streams; marks = was.marks; asked = was.asked; pending = was.pending };
         standing = λ works. knows.standing works;
         ahead = knows.ahead;
         kinds = kinds_same r.script s polled (λ n. refl) knows.kinds;
@@ -184,7 +206,11 @@ module _ (told : Bool) (r : Recording) (knows : IsRecorded told r) where
   has_restarted wants =
       goes_on told r event.Restart r.ready r.requests false true r.closings knows
       (record {
-        begun = record { opened = ap (λ (progress : Progress). progress.back) knows.opened; left = let same = knows.closings in let less = wants.left in omega (arith, same, less) };
+        begun =
+            record {
+              opened = ap (λ (progress : Progress). progress.back) knows.opened;
+              left = let same = knows.closings in let less = wants.left in omega (arith, same, less);
+            };
         wanted = ap (λ closings. restarts (slice_get r.script.rounds closings)) knows.closings ∙ wants.wanted;
         once = knows.restarted ∙ wants.once;
         quiet = knows.kept.rest.quiet;
@@ -192,7 +218,9 @@ module _ (told : Bool) (r : Recording) (knows : IsRecorded told r) where
       })
       (record {
         kept = same_order again refl refl later_now (omega arith) (omega arith);
-        accounted = λ works. let was = knows.accounted works in record { streams = was.streams; marks = was.marks; asked = was.asked; pending = was.pending };
+        accounted = λ works.
+            let was = knows.accounted works in
+            record { streams = was.streams; marks = was.marks; asked = was.asked; pending = was.pending };
         standing = λ works. knows.standing works;
         ahead = knows.ahead;
         kinds = kinds_same r.script s again (λ n. refl) knows.kinds;
@@ -222,7 +250,9 @@ module _ (told : Bool) (r : Recording) (knows : IsRecorded told r) where
       goes_on told r (event.Stop None) r.ready r.requests true r.restarted r.closings knows (round_open told r knows round)
       (record {
         kept = same_order outside refl refl (omega arith) later_now (omega arith);
-        accounted = λ works. let was = knows.accounted works in record { streams = was.streams; marks = was.marks; asked = was.asked; pending = was.pending };
+        accounted = λ works.
+            let was = knows.accounted works in
+            record { streams = was.streams; marks = was.marks; asked = was.asked; pending = was.pending };
         standing = λ works. knows.standing works;
         ahead = knows.ahead;
         kinds = kinds_same r.script s outside (λ n. refl) knows.kinds;

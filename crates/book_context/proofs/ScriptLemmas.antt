@@ -17,7 +17,8 @@ same_class-self class.Ok = refl
 same_class-self class.Abort = refl
 same_class-self class.Other = refl
 
-length_by : (n : ℕ) (numbers : List ℕ) (size : ℕ) (here : Bool) → length numbers ≤ size → length (cond here (n ∷ numbers) numbers) ≤ suc size
+length_by : (n : ℕ) (numbers : List ℕ) (size : ℕ) (here : Bool) → length numbers ≤ size →
+    length (cond here (n ∷ numbers) numbers) ≤ suc size
 length_by n numbers size true within = omega (arith, within)
 length_by n numbers size false within = omega (arith, within)
 
@@ -46,7 +47,8 @@ inline_no_stop script a inline = by_entry (slice_get script.acts a) refl
   where
     by_entry : (found : Option Entry) → slice_get script.acts a ≡ found → stops script a ≡ false
     by_entry None there = rw there refl
-    by_entry (Some entry) there = rw there (no_stop_inside (caller_lane (lanes_of script) (parent_of script a)) entry.act (rw there at inline))
+    by_entry (Some entry) there =
+        rw there (no_stop_inside (caller_lane (lanes_of script) (parent_of script a)) entry.act (rw there at inline))
 
 pub accepted-inline : (script : ScriptModel) (a : ℕ) → is_inline script a ≡ true → accepted script a ≡ phase.Inside
 accepted-inline script a inline = rw inline refl

@@ -20,14 +20,16 @@ use Rattle.book_context.proofs.OpenedStepLemmas.{open_outside}
 use Rattle.book_context.proofs.PlaceLemmas.{parent_is}
 
 -- each event of calls is one of a call
-pub of_calls : (script : ScriptModel) (calls : List Posted) → All (λ event. is_of_call event ≡ true) (events_of script calls)
+pub of_calls : (script : ScriptModel) (calls : List Posted) →
+    All (λ event. is_of_call event ≡ true) (events_of script calls)
 of_calls script [] = All-nil (λ event. is_of_call event ≡ true)
 of_calls script (posted.Begin op code size begun ∷ calls) =
     All-cons (λ event. is_of_call event ≡ true) (event.Begin op code size) (events_of script calls) refl (of_calls script calls)
 of_calls script (posted.Call act ∷ calls) = by_stop (stops script act) (of_calls script calls)
   where
     by_stop : (b : Bool) → All (λ event. is_of_call event ≡ true) (events_of script calls) →
-        All (λ event. is_of_call event ≡ true) (cond b (event.Call act ∷ event.Stop (Some act) ∷ events_of script calls) (event.Call act ∷ events_of script calls))
+        All (λ event. is_of_call event ≡ true) (cond b (event.Call act ∷ event.Stop (Some act) ∷ events_of script calls)
+        (event.Call act ∷ events_of script calls))
     by_stop true rest =
         All-cons (λ event. is_of_call event ≡ true) (event.Call act) (event.Stop (Some act) ∷ events_of script calls) refl
         (All-cons (λ event. is_of_call event ≡ true) (event.Stop (Some act)) (events_of script calls) refl rest)
@@ -39,14 +41,15 @@ of_calls script (posted.End op ran ∷ calls) =
 
 -- marks that follow from others
 module _ (script : ScriptModel) (Has Follow : ℕ → ℕ → Type 0) (follow : (n mark : ℕ) → Has n mark → Follow n mark) where
-  pub follow_calls : {acts : List ℕ} {calls : List Posted} → AreCalls script Has acts calls → AreCalls script Follow acts calls
+  pub follow_calls : {acts : List ℕ} {calls : List Posted} → AreCalls script Has acts calls →
+      AreCalls script Follow acts calls
   follow_calls no_act = no_act
   follow_calls (outside isnt more) = outside isnt (follow_calls more)
   follow_calls (inside {act} {begun} {mark} is marked inner more) =
       inside is (follow act mark marked) (follow_calls inner) (follow_calls more)
 
-  pub follow_execution : (op : ℕ) (given : Code) (size : ℕ) (calls : List Posted) → IsWholeExecution script Has op given size calls →
-      IsWholeExecution script Follow op given size calls
+  pub follow_execution : (op : ℕ) (given : Code) (size : ℕ) (calls : List Posted) →
+      IsWholeExecution script Has op given size calls → IsWholeExecution script Follow op given size calls
   follow_execution op given size calls whole = record {
     begun = whole.begun;
     mark = whole.mark;
@@ -57,7 +60,8 @@ module _ (script : ScriptModel) (Has Follow : ℕ → ℕ → Type 0) (follow : 
   }
 
 module _ (run drop : ℕ → ℕ) where
-  pub marks-append : (first rest : List Event) → HasMarks run drop first → HasMarks run drop rest → HasMarks run drop (first ++ rest)
+  pub marks-append : (first rest : List Event) → HasMarks run drop first → HasMarks run drop rest →
+      HasMarks run drop (first ++ rest)
   marks-append [] rest one two = two
   marks-append (event ∷ first) rest one two = (one.0, marks-append first rest one.1 two)
 
@@ -68,14 +72,18 @@ module _ (run drop : ℕ → ℕ) where
   marks-call false act events rest = (tt, rest)
 
   -- an execution shows that of its handler, behind those of its body
-  marks-execution : (script : ScriptModel) (op : ℕ) (given : Code) (size begun mark : ℕ) (body : List Posted) → mark ≡ run op →
-      HasMarks run drop (events_of script body) → HasMarks run drop (events_of script (execution_of op given size begun mark body))
+  marks-execution : (script : ScriptModel) (op : ℕ) (given : Code) (size begun mark : ℕ) (body : List Posted) →
+      mark ≡ run op → HasMarks run drop (events_of script body) →
+      HasMarks run drop (events_of script (execution_of op given size begun mark body))
   marks-execution script op given size begun mark body is inner =
-      let end : List Posted = posted.End op (record { mark = mark; class = class_of_code given; begun = begun }) ∷ [] in
-      (tt, subst (HasMarks run drop) (sym (events-append script body end)) (marks-append (events_of script body) (event.End op mark ∷ []) inner (is, tt)))
+      let end : List Posted = posted.End op (record { mark = mark; class = class_of_code given; begun = begun }) ∷ [] in (
+        tt,
+        subst (HasMarks run drop) (sym (events-append script body end))
+            (marks-append (events_of script body) (event.End op mark ∷ []) inner (is, tt)),
+      )
 
-  marks-calls : (script : ScriptModel) {acts : List ℕ} {calls : List Posted} → AreCalls script (IsRunMark run) acts calls →
-      HasMarks run drop (events_of script calls)
+  marks-calls : (script : ScriptModel) {acts : List ℕ} {calls : List Posted} →
+      AreCalls script (IsRunMark run) acts calls → HasMarks run drop (events_of script calls)
   marks-calls script no_act = tt
   marks-calls script (outside {act} {acts} {calls} isnt more) =
       marks-call (stops script act) act (event.Back act ∷ events_of script calls) (tt, marks-calls script more)
@@ -87,17 +95,25 @@ module _ (run drop : ℕ → ℕ) where
 
   -- where nothing executes inside a call no mark is shown
   marks-none : (script : ScriptModel) (well : IsWellFormed script) {acts : List ℕ} {calls : List Posted} →
-      AreCalls script AnyMark acts calls → (k : ℕ) → Follows script well None k acts → HasMarks run drop (events_of script calls)
+      AreCalls script AnyMark acts calls → (k : ℕ) → Follows script well None k acts →
+      HasMarks run drop (events_of script calls)
   marks-none script well no_act k follows = tt
   marks-none script well (outside {act} {acts} {calls} isnt more) k follows =
-      marks-call (stops script act) act (event.Back act ∷ events_of script calls) (tt, marks-none script well more (k + 1) (follows-rest script well None k act acts follows))
+      marks-call (stops script act) act (event.Back act ∷ events_of script calls)
+      (tt, marks-none script well more (k + 1) (follows-rest script well None k act acts follows))
   marks-none script well (inside {act} {begun} {mark} {acts} {body} {calls} is marked inner more) k follows =
-      absurd (let wrong : true ≡ false = sym is ∙ open_outside script act (parent_is script well None act k (follows-next script well None k act acts follows)) in cc)
+      absurd (let wrong : true ≡ false =
+      sym is
+      ∙ open_outside script act
+      (parent_is script well None act k (follows-next script well None k act acts follows)) in
+      cc)
 
-pub marked_execution : (script : ScriptModel) (run drop : ℕ → ℕ) (op : ℕ) (given : Code) (size : ℕ) (calls : List Posted) →
-    IsWholeExecution script (IsRunMark run) op given size calls → HasMarks run drop (events_of script calls)
+pub marked_execution : (script : ScriptModel) (run drop : ℕ → ℕ) (op : ℕ) (given : Code) (size : ℕ)
+    (calls : List Posted) → IsWholeExecution script (IsRunMark run) op given size calls →
+    HasMarks run drop (events_of script calls)
 marked_execution script run drop op given size calls whole =
-    subst (λ calls. HasMarks run drop (events_of script calls)) (sym whole.is) (marks-execution run drop script op given size whole.begun whole.mark whole.body whole.marked (marks-calls run drop script whole.acts))
+    subst (λ calls. HasMarks run drop (events_of script calls)) (sym whole.is) (marks-execution run drop script op given
+    size whole.begun whole.mark whole.body whole.marked (marks-calls run drop script whole.acts))
 
 pub unmarked_opening : (script : ScriptModel) (run drop : ℕ → ℕ) (calls : List Posted) → IsWellFormed script →
     AreCalls script AnyMark (opening_of script) calls → HasMarks run drop (events_of script calls)

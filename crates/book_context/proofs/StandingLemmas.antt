@@ -44,7 +44,8 @@ count-map p q f (x ∷ xs) same =
     let here = ap one_if (same x) in
     omega (arith, one, two, rest, here)
 
-count-put : {X : Type 0} (p : X → Bool) (key : X → ℕ) (x : X) (xs : List X) → count_by p (put_by key x xs) ≡ one_if (p x) + count_by p xs
+count-put : {X : Type 0} (p : X → Bool) (key : X → ℕ) (x : X) (xs : List X) →
+    count_by p (put_by key x xs) ≡ one_if (p x) + count_by p xs
 count-put p key x [] = count-cons p x []
 count-put p key x (first ∷ rest) = by_test (nat_le (key x) (key first)) (count-put p key x rest)
   where
@@ -52,7 +53,8 @@ count-put p key x (first ∷ rest) = by_test (nat_le (key x) (key first)) (count
         count_by p (cond b (x ∷ (first ∷ rest)) (first ∷ put_by key x rest)) ≡ one_if (p x) + count_by p (first ∷ rest)
     by_test true more = count-cons p x (first ∷ rest)
     by_test false more =
-        let one = count-cons p first (put_by key x rest) in let two = count-cons p first rest in omega (arith, one, two, more)
+        let one = count-cons p first (put_by key x rest) in
+        let two = count-cons p first rest in omega (arith, one, two, more)
 
 count-sorted : {X : Type 0} (p : X → Bool) (key : X → ℕ) (xs : List X) → count_by p (sorted_by key xs) ≡ count_by p xs
 count-sorted p key [] = refl
@@ -74,7 +76,8 @@ module _ (n : ℕ) where
   -- the queues of a stream changed, and what is due; where there is no such stream nothing stays in them
   queues-kept : (queues : List StreamQueues) (due after : List Completion) (stream more : ℕ) (new : StreamQueues) →
       (length queues ≤ stream → queued_of n new ≡ 0) →
-      queued_of n new + dues after ≡ queued_of n (get_or queues stream no_queues) + dues due + more → sum_by (queued_of n) (set queues stream new) + dues after ≡ sum_by (queued_of n) queues + dues due + more
+      queued_of n new + dues after ≡ queued_of n (get_or queues stream no_queues) + dues due + more →
+      sum_by (queued_of n) (set queues stream new) + dues after ≡ sum_by (queued_of n) queues + dues due + more
   queues-kept queues due after stream more new none same = elim (cases_lt stream (length queues)) [
     | inl within ↦ let sums = sum_by-set (queued_of n) queues stream new no_queues within in omega (arith, sums, same)
     | inr past ↦
@@ -86,22 +89,29 @@ module _ (n : ℕ) where
   ]
 
   -- serving a queue completes each operation or leaves it
-  head-kept : {Asks : Type 0} (side : Side Asks) (head : Pending Asks) (queue : List (Pending Asks)) (used : ℕ) (left : Stream) (outcome : Option Outcome) →
-      dues (served_queue side queue left).completed + count_by (is_of n) (served_queue side queue left).staying ≡ count_by (is_of n) queue →
-      dues (served_head head queue used left (served_queue side queue left) outcome).completed + count_by (is_of n) (served_head head queue used left (served_queue side queue left) outcome).staying ≡ one_if (head.op == n) + count_by (is_of n) queue
+  head-kept : {Asks : Type 0} (side : Side Asks) (head : Pending Asks) (queue : List (Pending Asks)) (used : ℕ)
+      (left : Stream) (outcome : Option Outcome) →
+      dues (served_queue side queue left).completed + count_by (is_of n) (served_queue side queue left).staying
+      ≡ count_by (is_of n) queue →
+      dues (served_head head queue used left (served_queue side queue left) outcome).completed
+      + count_by (is_of n) (served_head head queue used left (served_queue side queue left) outcome).staying
+      ≡ one_if (head.op == n) + count_by (is_of n) queue
   head-kept side head queue used left None rest =
       let more = count-cons (is_of n) (record head { moved = head.moved + used }) queue in omega (arith, more)
   head-kept side head queue used left (Some outcome) rest =
-      let more = count-cons (is_completion_of n) (record { op = head.op; outcome = outcome }) (served_queue side queue left).completed in
+      let more =
+      count-cons (is_completion_of n) (record { op = head.op; outcome = outcome }) (served_queue side queue left).completed in
       omega (arith, rest, more)
 
   queue-kept : {Asks : Type 0} (side : Side Asks) (queue : List (Pending Asks)) (stream : Stream) →
-      dues (served_queue side queue stream).completed + count_by (is_of n) (served_queue side queue stream).staying ≡ count_by (is_of n) queue
+      dues (served_queue side queue stream).completed + count_by (is_of n) (served_queue side queue stream).staying
+      ≡ count_by (is_of n) queue
   queue-kept side [] stream = refl
   queue-kept side (head ∷ queue) stream =
       let served = side.served head.asks head.moved stream in
       let left = side.after head.asks head.moved served.used stream in
-      head-kept side head queue served.used left served.outcome (queue-kept side queue left) ∙ sym (count-cons (is_of n) head queue)
+      head-kept side head queue served.used left served.outcome (queue-kept side queue left)
+      ∙ sym (count-cons (is_of n) head queue)
 
   stands-served : (stream : ℕ) (r : ReactorHalf) → stands n (served_at stream r) ≡ stands n r
   stands-served stream r =
@@ -114,10 +124,12 @@ module _ (n : ℕ) where
       let both = count-append (is_completion_of n) reads.completed writes.completed in
       let listed = count-append (is_completion_of n) r.due (reads.completed ++ writes.completed) in
       let none : length r.queues ≤ stream → queued_of n (served_stream bytes old).queues ≡ 0 = λ past.
-      let empty : queued_of n old ≡ 0 = ap (queued_of n) (get_or_past r.queues stream no_queues (omega (arith, past))) in
+      let empty : queued_of n old ≡ 0 =
+      ap (queued_of n) (get_or_past r.queues stream no_queues (omega (arith, past))) in
       omega (arith, empty, one, two) in
       let same =
-      queues-kept r.queues r.due (r.due ++ (reads.completed ++ writes.completed)) stream 0 (served_stream bytes old).queues none (omega (arith, one, two, both, listed)) in
+      queues-kept r.queues r.due (r.due ++ (reads.completed ++ writes.completed)) stream 0
+      (served_stream bytes old).queues none (omega (arith, one, two, both, listed)) in
       omega (arith, same)
 
   stands-below : (k : ℕ) (r : ReactorHalf) → stands n (served_below k r) ≡ stands n r
@@ -131,7 +143,8 @@ module _ (n : ℕ) where
   -- waits that complete or are cancelled stand until they are told
   waits-kept : (test : Wait → Bool) (waits : List Wait) (others : ℕ) (due done : List Completion) →
       dues done ≡ count_by (is_wait_for n) (filter test waits) →
-      count_by (is_wait_for n) (filter (λ wait. not (test wait)) waits) + others + dues (due ++ done) ≡ count_by (is_wait_for n) waits + others + dues due
+      count_by (is_wait_for n) (filter (λ wait. not (test wait)) waits) + others + dues (due ++ done)
+      ≡ count_by (is_wait_for n) waits + others + dues due
   waits-kept test waits others due done same =
       let both = count-parts (is_wait_for n) test waits in
       let listed = count-append (is_completion_of n) due done in
@@ -142,29 +155,36 @@ module _ (n : ℕ) where
       let late : List Wait = filter (is_due r) r.waits in
       stands-streams told (record (with_waits_served r) { whole_turn = true; reached = 0 })
       ∙ waits-kept (is_due r) r.waits (sum_by (queued_of n) r.queues) r.due (due_waits r)
-      (count-map (is_wait_for n) (is_completion_of n) waited (sorted_by (expiry_of r) late) (λ wait. refl) ∙ count-sorted (is_wait_for n) (expiry_of r) late)
+      (count-map (is_wait_for n) (is_completion_of n) waited (sorted_by (expiry_of r) late) (λ wait. refl)
+      ∙ count-sorted (is_wait_for n) (expiry_of r) late)
 
   aborted_waits : (waits : List Wait) → dues (map (λ wait. aborted wait.op 0) waits) ≡ count_by (is_wait_for n) waits
   aborted_waits waits = count-map (is_wait_for n) (is_completion_of n) (λ wait. aborted wait.op 0) waits (λ wait. refl)
 
   stands-of : (timer : ℕ) (r : ReactorHalf) → stands n (waits_cancelled (is_wait_of timer) r) ≡ stands n r
   stands-of timer r =
-      waits-kept (is_wait_of timer) r.waits (sum_by (queued_of n) r.queues) r.due (map (λ wait. aborted wait.op 0) (filter (is_wait_of timer) r.waits)) (aborted_waits (filter (is_wait_of timer) r.waits))
+      waits-kept (is_wait_of timer) r.waits (sum_by (queued_of n) r.queues) r.due
+      (map (λ wait. aborted wait.op 0) (filter (is_wait_of timer) r.waits))
+      (aborted_waits (filter (is_wait_of timer) r.waits))
 
   stands-for : (op : ℕ) (r : ReactorHalf) → stands n (waits_cancelled (is_wait_for op) r) ≡ stands n r
   stands-for op r =
-      waits-kept (is_wait_for op) r.waits (sum_by (queued_of n) r.queues) r.due (map (λ wait. aborted wait.op 0) (filter (is_wait_for op) r.waits)) (aborted_waits (filter (is_wait_for op) r.waits))
+      waits-kept (is_wait_for op) r.waits (sum_by (queued_of n) r.queues) r.due
+      (map (λ wait. aborted wait.op 0) (filter (is_wait_for op) r.waits))
+      (aborted_waits (filter (is_wait_for op) r.waits))
 
   stands-connected : (slot : Option ℕ) (op : ℕ) (r : ReactorHalf) → stands n (connected slot op r) ≡ stands n r
   stands-connected None op r = refl
   stands-connected (Some slot) op r = refl
 
   aborted_all : {Asks : Type 0} (queue : List (Pending Asks)) → dues (all_aborted queue) ≡ count_by (is_of n) queue
-  aborted_all queue = count-map (is_of n) (is_completion_of n) (λ pending. aborted pending.op pending.moved) queue (λ pending. refl)
+  aborted_all queue =
+      count-map (is_of n) (is_completion_of n) (λ pending. aborted pending.op pending.moved) queue (λ pending. refl)
 
   -- an operation of a queue stays or is aborted
   left-aborted : {Asks : Type 0} (op : ℕ) (queue : List (Pending Asks)) →
-      count_by (is_of n) (filter (λ pending. not (is_of op pending)) queue) + dues (all_aborted (filter (is_of op) queue)) ≡ count_by (is_of n) queue
+      count_by (is_of n) (filter (λ pending. not (is_of op pending)) queue)
+      + dues (all_aborted (filter (is_of op) queue)) ≡ count_by (is_of n) queue
   left-aborted op queue =
       let both = count-parts (is_of n) (is_of op) queue in
       let all = aborted_all (filter (is_of op) queue) in
@@ -175,22 +195,31 @@ module _ (n : ℕ) where
       let old = queues_at r stream in
       let reads = left-aborted op old.reads in
       let writes = left-aborted op old.writes in
-      let done : List Completion = all_aborted (filter (is_of op) old.reads) ++ all_aborted (filter (is_of op) old.writes) in
+      let done : List Completion =
+      all_aborted (filter (is_of op) old.reads) ++ all_aborted (filter (is_of op) old.writes) in
       let listed = count-append (is_completion_of n) r.due done in
       let both =
-      count-append (is_completion_of n) (all_aborted (filter (is_of op) old.reads)) (all_aborted (filter (is_of op) old.writes)) in
+      count-append (is_completion_of n) (all_aborted (filter (is_of op) old.reads))
+      (all_aborted (filter (is_of op) old.writes)) in
       let new : StreamQueues =
-      record old { reads = filter (λ pending. not (is_of op pending)) old.reads; writes = filter (λ pending. not (is_of op pending)) old.writes } in
+      record old {
+        reads = filter (λ pending. not (is_of op pending)) old.reads;
+        writes = filter (λ pending. not (is_of op pending)) old.writes;
+      } in
       let none : length r.queues ≤ stream → queued_of n new ≡ 0 = λ past.
-      let empty : queued_of n old ≡ 0 = ap (queued_of n) (get_or_past r.queues stream no_queues (omega (arith, past))) in
+      let empty : queued_of n old ≡ 0 =
+      ap (queued_of n) (get_or_past r.queues stream no_queues (omega (arith, past))) in
       omega (arith, empty, reads, writes) in
-      let same = queues-kept r.queues r.due (r.due ++ done) stream 0 new none (omega (arith, reads, writes, listed, both)) in
+      let same =
+      queues-kept r.queues r.due (r.due ++ done) stream 0 new none (omega (arith, reads, writes, listed, both)) in
       omega (arith, same)
 
   -- all operations of a stream
   count-with_writes : (accepted : ℕ) (read : Completion) (later : List (Pending Writing) → List Completion) (more : ℕ) →
       ((rest : List (Pending Writing)) → dues (later rest) ≡ more + count_by (is_of n) rest) →
-      (writes : List (Pending Writing)) → dues (with_writes accepted read later writes) ≡ one_if (is_completion_of n read) + more + count_by (is_of n) writes
+      (writes : List (Pending Writing)) →
+      dues (with_writes accepted read later writes)
+      ≡ one_if (is_completion_of n read) + more + count_by (is_of n) writes
   count-with_writes accepted read later more h [] =
       let first = count-cons (is_completion_of n) read (later []) in
       let rest = h [] in
@@ -199,12 +228,16 @@ module _ (n : ℕ) where
       by_test (nat_lt accepted write.accepted) (count-with_writes accepted read later more h writes)
     where
       by_test : (b : Bool) →
-          dues (with_writes accepted read later writes) ≡ one_if (is_completion_of n read) + more + count_by (is_of n) writes →
-          dues (cond b (read ∷ later (write ∷ writes)) (aborted write.op write.moved ∷ with_writes accepted read later writes)) ≡ one_if (is_completion_of n read) + more + count_by (is_of n) (write ∷ writes)
+          dues (with_writes accepted read later writes)
+          ≡ one_if (is_completion_of n read) + more + count_by (is_of n) writes →
+          dues (cond b (read ∷ later (write ∷ writes)) (aborted write.op write.moved ∷ with_writes accepted read later writes))
+          ≡ one_if (is_completion_of n read) + more + count_by (is_of n) (write ∷ writes)
       by_test true rest_is =
-          let first = count-cons (is_completion_of n) read (later (write ∷ writes)) in let rest = h (write ∷ writes) in omega (arith, first, rest)
+          let first = count-cons (is_completion_of n) read (later (write ∷ writes)) in
+          let rest = h (write ∷ writes) in omega (arith, first, rest)
       by_test false rest =
-          let first = count-cons (is_completion_of n) (aborted write.op write.moved) (with_writes accepted read later writes) in
+          let first =
+          count-cons (is_completion_of n) (aborted write.op write.moved) (with_writes accepted read later writes) in
           let one = count-cons (is_of n) write writes in
           omega (arith, first, rest, one)
 
@@ -213,7 +246,8 @@ module _ (n : ℕ) where
   count-all [] writes = let all = aborted_all writes in omega (arith, all)
   count-all (read ∷ reads) writes =
       let rest =
-      count-with_writes read.accepted (aborted read.op read.moved) (all_of_stream reads) (count_by (is_of n) reads) (count-all reads) writes in
+      count-with_writes read.accepted (aborted read.op read.moved) (all_of_stream reads) (count_by (is_of n) reads)
+      (count-all reads) writes in
       let one = count-cons (is_of n) read reads in
       omega (arith, rest, one)
 
@@ -228,7 +262,8 @@ module _ (n : ℕ) where
       let count = count-all old.reads old.writes in
       let listed = count-append (is_completion_of n) r.due (all_of_stream old.reads old.writes) in
       let same =
-      queues-kept r.queues r.due (r.due ++ all_of_stream old.reads old.writes) stream 0 (record { closed = true; reads = []; writes = [] }) (λ past. refl) (omega (arith, count, listed)) in
+      queues-kept r.queues r.due (r.due ++ all_of_stream old.reads old.writes) stream 0
+      (record { closed = true; reads = []; writes = [] }) (λ past. refl) (omega (arith, count, listed)) in
       omega (arith, same)
 
   stands-closed : (stream : ℕ) (r : ReactorHalf) → stands n (closed_at stream r) ≡ stands n r
@@ -243,7 +278,8 @@ module _ (n : ℕ) where
   stands-operation (act.WriteAll stream bytes strand slot filter) op r = stands-one op stream r
   stands-operation given op r = refl
 
-  stands-emitted_to : (given : Option Act) (types op : ℕ) (r : ReactorHalf) → stands n (emitted_to given types op r) ≡ stands n r
+  stands-emitted_to : (given : Option Act) (types op : ℕ) (r : ReactorHalf) →
+      stands n (emitted_to given types op r) ≡ stands n r
   stands-emitted_to None types op r = refl
   stands-emitted_to (Some given) types op r =
       stands-if (is_reached given types) (operation_cancelled given op r) r r (stands-operation given op r) refl
@@ -253,22 +289,27 @@ module _ (n : ℕ) where
   stands-emitted script None types r = refl
   stands-emitted script (Some op) types r = stands-emitted_to (act_of script op) types op r
 
-  stands-first : (timer : ℕ) (r : ReactorHalf) → stands n (one_wait_cancelled (find (is_wait_of timer) r.waits) r) ≡ stands n r
-  stands-first timer r = elim (find (is_wait_of timer) r.waits) as (λ wait. stands n (one_wait_cancelled wait r) ≡ stands n r) [
-    | None ↦ refl
-    | Some wait ↦ stands-for wait.op r
-  ]
+  stands-first : (timer : ℕ) (r : ReactorHalf) →
+      stands n (one_wait_cancelled (find (is_wait_of timer) r.waits) r) ≡ stands n r
+  stands-first timer r =
+      elim (find (is_wait_of timer) r.waits) as (λ wait. stands n (one_wait_cancelled wait r) ≡ stands n r) [
+        | None ↦ refl
+        | Some wait ↦ stands-for wait.op r
+      ]
 
   -- an operation on a stream is queued, or completes at once where its stream is closed
   accepted-by : (closed : Bool) (r : ReactorHalf) (stream : ℕ) (done : Completion) (new : StreamQueues) (more : ℕ) →
-      stream < length r.queues → one_if (is_completion_of n done) ≡ more → queued_of n new ≡ queued_of n (queues_at r stream) + more →
-      stands n (cond closed (record r { due = r.due ++ done ∷ [] }) (record r { queues = set r.queues stream new })) ≡ stands n r + more
+      stream < length r.queues → one_if (is_completion_of n done) ≡ more →
+      queued_of n new ≡ queued_of n (queues_at r stream) + more →
+      stands n (cond closed (record r { due = r.due ++ done ∷ [] }) (record r { queues = set r.queues stream new }))
+      ≡ stands n r + more
   accepted-by true r stream done new more within one added =
       let listed = count-append (is_completion_of n) r.due (done ∷ []) in
       let alone = count-cons (is_completion_of n) done [] in
       omega (arith, listed, alone, one)
   accepted-by false r stream done new more within one added =
-      let same = queues-kept r.queues r.due r.due stream more new (λ past. absurd (omega (arith, past, within))) (omega (arith, added)) in
+      let same =
+      queues-kept r.queues r.due r.due stream more new (λ past. absurd (omega (arith, past, within))) (omega (arith, added)) in
       omega (arith, same)
 
   stands-read : (op stream : ℕ) (reading : Reading) (r : ReactorHalf) → stream < length r.queues →
@@ -277,7 +318,9 @@ module _ (n : ℕ) where
       let old = queues_at r stream in
       let more = count-append (is_of n) old.reads (new_pending op r.accepted reading ∷ []) in
       let alone = count-cons (is_of n) (new_pending op r.accepted reading) [] in
-      accepted-by old.closed r stream (bad op) (record old { reads = old.reads ++ new_pending op r.accepted reading ∷ [] }) (one_if (op == n)) within refl (omega (arith, more, alone))
+      accepted-by old.closed r stream (bad op)
+      (record old { reads = old.reads ++ new_pending op r.accepted reading ∷ [] }) (one_if (op == n)) within refl
+      (omega (arith, more, alone))
 
   stands-write : (op stream : ℕ) (writing : Writing) (r : ReactorHalf) → stream < length r.queues →
       stands n (write_accepted op stream writing r) ≡ stands n r + one_if (op == n)
@@ -285,7 +328,9 @@ module _ (n : ℕ) where
       let old = queues_at r stream in
       let more = count-append (is_of n) old.writes (new_pending op r.accepted writing ∷ []) in
       let alone = count-cons (is_of n) (new_pending op r.accepted writing) [] in
-      accepted-by old.closed r stream (bad op) (record old { writes = old.writes ++ new_pending op r.accepted writing ∷ [] }) (one_if (op == n)) within refl (omega (arith, more, alone))
+      accepted-by old.closed r stream (bad op)
+      (record old { writes = old.writes ++ new_pending op r.accepted writing ∷ [] }) (one_if (op == n)) within refl
+      (omega (arith, more, alone))
 
   stands-wait : (op timer : ℕ) (r : ReactorHalf) → stands n (wait_accepted op timer r) ≡ stands n r + one_if (op == n)
   stands-wait op timer r =
@@ -320,7 +365,8 @@ module _ (n : ℕ) where
       stands-of timer (record r { expiries = set r.expiries timer at }) ∙ omega arith
   stands-act script a (act.Cancel timer) r fits size = stands-of timer r ∙ omega arith
   stands-act script a (act.CancelOne timer) r fits size = stands-first timer r ∙ omega arith
-  stands-act script a (act.Emit slot types) r fits size = stands-emitted script (get_or r.slots slot None) types r ∙ omega arith
+  stands-act script a (act.Emit slot types) r fits size =
+      stands-emitted script (get_or r.slots slot None) types r ∙ omega arith
   stands-act script a (act.Close stream) r fits size = stands-closed stream r ∙ omega arith
   stands-act script a (act.Release guard) r fits size = omega arith
   stands-act script a (act.Post strand) r fits size = omega arith
@@ -328,8 +374,8 @@ module _ (n : ℕ) where
   stands-act script a (act.Dispatch strand) r fits size = omega arith
   stands-act script a act.Stop r fits size = omega arith
 
-  pub stands-take : (script : ScriptModel) (told : Bool) (r : ReactorHalf) (a : ℕ) (given : Act) → act_of script a ≡ Some given →
-      FitsAct (header_of script) given → length r.queues ≡ script.world.streams →
+  pub stands-take : (script : ScriptModel) (told : Bool) (r : ReactorHalf) (a : ℕ) (given : Act) →
+      act_of script a ≡ Some given → FitsAct (header_of script) given → length r.queues ≡ script.world.streams →
       stands n (reactor_after_take script told r a) ≡ stands n r + cond (is_awaited given) (one_if (a == n)) 0
   stands-take script told r a given is fits size =
       stands-settled told (performed script a r)
@@ -363,14 +409,21 @@ module _ (n : ℕ) where
   there-read r stream o is = elim (cases_lt stream (length r.queues)) [
     | inl within ↦ within
     | inr past ↦
-        absurd (let none : None ≡ Some o = sym (ap (λ (queues : StreamQueues). head_of queues.reads) (get_or_past r.queues stream no_queues past)) ∙ is in cc)
+        absurd (let none : None ≡ Some o =
+        sym (ap (λ (queues : StreamQueues). head_of queues.reads) (get_or_past r.queues stream no_queues past))
+        ∙ is in
+        cc)
   ]
 
-  there-write : (r : ReactorHalf) (stream o : ℕ) → head_of (queues_at r stream).writes ≡ Some o → stream < length r.queues
+  there-write : (r : ReactorHalf) (stream o : ℕ) → head_of (queues_at r stream).writes ≡ Some o →
+      stream < length r.queues
   there-write r stream o is = elim (cases_lt stream (length r.queues)) [
     | inl within ↦ within
     | inr past ↦
-        absurd (let none : None ≡ Some o = sym (ap (λ (queues : StreamQueues). head_of queues.writes) (get_or_past r.queues stream no_queues past)) ∙ is in cc)
+        absurd (let none : None ≡ Some o =
+        sym (ap (λ (queues : StreamQueues). head_of queues.writes) (get_or_past r.queues stream no_queues past))
+        ∙ is in
+        cc)
   ]
 
   stands-read_gone : (r : ReactorHalf) (stream o : ℕ) → head_of (queues_at r stream).reads ≡ Some o →
@@ -379,7 +432,8 @@ module _ (n : ℕ) where
       let old = queues_at r stream in
       let less = head-gone old.reads o is in
       let same =
-      fewer r stream (one_if (o == n)) (record old { reads = drop 1 old.reads }) (there-read r stream o is) (omega (arith, less)) in
+      fewer r stream (one_if (o == n)) (record old { reads = drop 1 old.reads }) (there-read r stream o is)
+      (omega (arith, less)) in
       omega (arith, same)
 
   stands-write_gone : (r : ReactorHalf) (stream o : ℕ) → head_of (queues_at r stream).writes ≡ Some o →
@@ -388,11 +442,12 @@ module _ (n : ℕ) where
       let old = queues_at r stream in
       let less = head-gone old.writes o is in
       let same =
-      fewer r stream (one_if (o == n)) (record old { writes = drop 1 old.writes }) (there-write r stream o is) (omega (arith, less)) in
+      fewer r stream (one_if (o == n)) (record old { writes = drop 1 old.writes }) (there-write r stream o is)
+      (omega (arith, less)) in
       omega (arith, same)
 
-  stands-gone : (r : ReactorHalf) (o : ℕ) (given : Option Act) (code : Code) (size : ℕ) → MayGiveUntold r o given code size →
-      stands n (gone given r) + one_if (o == n) ≡ stands n r
+  stands-gone : (r : ReactorHalf) (o : ℕ) (given : Option Act) (code : Code) (size : ℕ) →
+      MayGiveUntold r o given code size → stands n (gone given r) + one_if (o == n) ≡ stands n r
   stands-gone r o (Some (act.ReadSome stream b c d e)) code size may = stands-read_gone r stream o may.head
   stands-gone r o (Some (act.ReadAll stream b c d e)) code size may = stands-read_gone r stream o may.head
   stands-gone r o (Some (act.Until stream b c d e f)) code size may = stands-read_gone r stream o may.head
@@ -400,11 +455,13 @@ module _ (n : ℕ) where
   stands-gone r o (Some (act.WriteAll stream b c d e)) code size may = stands-write_gone r stream o may.head
   stands-gone r o given code size may = absurd may
 
-  stands-told_off : (script : ScriptModel) (told : Bool) (r : ReactorHalf) (o : ℕ) (code : Code) (size : ℕ) (due : List Completion) →
-      r.due ≡ due → MayTell script told r o code size →
+  stands-told_off : (script : ScriptModel) (told : Bool) (r : ReactorHalf) (o : ℕ) (code : Code) (size : ℕ)
+      (due : List Completion) → r.due ≡ due → MayTell script told r o code size →
       stands n (told_off script o r due) + one_if (o == n) ≡ stands n r
-  stands-told_off script told r o code size [] is (inl next) = absurd (let head = ap (λ due. slice_get due 0) (sym is) ∙ next.due in cc)
-  stands-told_off script told r o code size [] is (inr untold) = stands-gone r o (act_of script o) code size untold.given
+  stands-told_off script told r o code size [] is (inl next) =
+      absurd (let head = ap (λ due. slice_get due 0) (sym is) ∙ next.due in cc)
+  stands-told_off script told r o code size [] is (inr untold) =
+      stands-gone r o (act_of script o) code size untold.given
   stands-told_off script told r o code size (head ∷ due) is (inl next) =
       let first : Some head ≡ Some next.head = ap (λ due. slice_get due 0) (sym is) ∙ next.due in
       let same : head ≡ next.head = cc in
@@ -413,7 +470,8 @@ module _ (n : ℕ) where
       let count = ap dues is in
       let one = count-cons (is_completion_of n) head due in
       omega (arith, count, one, here)
-  stands-told_off script told r o code size (head ∷ due) is (inr untold) = absurd (let none = sym is ∙ untold.fixed in cc)
+  stands-told_off script told r o code size (head ∷ due) is (inr untold) =
+      absurd (let none = sym is ∙ untold.fixed in cc)
 
   stands-disconnected : (o : ℕ) (slot : Option ℕ) (r : ReactorHalf) → stands n (disconnected o slot r) ≡ stands n r
   stands-disconnected o None r = refl
@@ -423,5 +481,6 @@ module _ (n : ℕ) where
   pub stands-done : (script : ScriptModel) (told : Bool) (r : ReactorHalf) (o : ℕ) (code : Code) (size : ℕ) →
       MayTell script told r o code size → stands n (reactor_after_done script r o) + one_if (o == n) ≡ stands n r
   stands-done script told r o code size may =
-      ap (λ k. k + one_if (o == n)) (stands-disconnected o (slot_in (act_of script o)) (record (told_off script o r r.due) { whole_turn = false }))
+      ap (λ k. k + one_if (o == n))
+      (stands-disconnected o (slot_in (act_of script o)) (record (told_off script o r r.due) { whole_turn = false }))
       ∙ stands-told_off script told r o code size r.due refl may

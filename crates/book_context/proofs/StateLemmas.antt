@@ -19,7 +19,8 @@ use Rattle.history_book.specs.declared.phase.Progress.{Progress}
 pub act_at-same : (s : ContextState) (n : ℕ) (new : ActState) → n < length s.acts → act_at (with_act s n new) n ≡ new
 act_at-same s n new below = get_or-set_same s.acts n new fresh below
 
-pub act_at-other : (s : ContextState) (n : ℕ) (new : ActState) (j : ℕ) → j ≢ n → act_at (with_act s n new) j ≡ act_at s j
+pub act_at-other : (s : ContextState) (n : ℕ) (new : ActState) (j : ℕ) → j ≢ n →
+    act_at (with_act s n new) j ≡ act_at s j
 act_at-other s n new j other = get_or-set_other s.acts n j new fresh other
 
 -- the acts of a body
@@ -85,7 +86,8 @@ kept-counted : (place : Place) (s t : ContextState) → IsCallKept place s t →
 kept-counted None s t kept = tt
 kept-counted (Some at) s t kept = kept
 
-kept-stopped : (place : Place) (s t : ContextState) → IsCallKept place s t → IsCallKept place s (counted (record t { stopped = true }))
+kept-stopped : (place : Place) (s t : ContextState) → IsCallKept place s t →
+    IsCallKept place s (counted (record t { stopped = true }))
 kept-stopped None s t kept = tt
 kept-stopped (Some at) s t kept = kept
 
@@ -93,11 +95,13 @@ pub kept-none : (place : Place) (s : ContextState) → IsCallKept place s s
 kept-none None s = tt
 kept-none (Some at) s = refl
 
-pub kept-both : (place : Place) (s t u : ContextState) → IsCallKept place s t → IsCallKept place t u → IsCallKept place s u
+pub kept-both : (place : Place) (s t u : ContextState) → IsCallKept place s t → IsCallKept place t u →
+    IsCallKept place s u
 kept-both None s t u first second = tt
 kept-both (Some at) s t u first second = second ∙ first
 
-pub touches-both : (place : Place) (a : ℕ) (s t u : ContextState) → Touches place a s t → Touches place a t u → Touches place a s u
+pub touches-both : (place : Place) (a : ℕ) (s t u : ContextState) → Touches place a s t → Touches place a t u →
+    Touches place a s u
 touches-both place a s t u first second = record {
   count = second.count ∙ first.count;
   kept = λ n other away. second.kept n other away ∙ first.kept n other away;
@@ -110,12 +114,15 @@ touches-both place a s t u first second = record {
 }
 
 -- an act behind it was changed
-kept-set : (place : Place) (a : ℕ) (s : ContextState) (new : ActState) → IsBehind place a → IsCallKept place s (with_act s a new)
+kept-set : (place : Place) (a : ℕ) (s : ContextState) (new : ActState) → IsBehind place a →
+    IsCallKept place s (with_act s a new)
 kept-set None a s new behind = tt
-kept-set (Some at) a s new behind = ap (λ (act : ActState). act.call) (act_at-other s a new at.0 (λ same. absurd (omega (arith, behind, same))))
+kept-set (Some at) a s new behind =
+    ap (λ (act : ActState). act.call) (act_at-other s a new at.0 (λ same. absurd (omega (arith, behind, same))))
 
 -- an act was changed, at an event
-pub touches-set : (place : Place) (a : ℕ) (s : ContextState) (new : ActState) → IsBehind place a → Touches place a s (counted (with_act s a new))
+pub touches-set : (place : Place) (a : ℕ) (s : ContextState) (new : ActState) → IsBehind place a →
+    Touches place a s (counted (with_act s a new))
 touches-set place a s new behind = record {
   count = length-set s.acts a new;
   kept = λ n other away. act_at-other s a new n other;
@@ -128,7 +135,8 @@ touches-set place a s new behind = record {
 }
 
 -- a body came further
-pub touches-came : (place : Place) (a : ℕ) (s : ContextState) (progress : Progress) → IsThere s place → Touches place a s (came_to place progress s)
+pub touches-came : (place : Place) (a : ℕ) (s : ContextState) (progress : Progress) → IsThere s place →
+    Touches place a s (came_to place progress s)
 touches-came None a s progress there = record {
   count = refl;
   kept = λ n other away. refl;
@@ -142,7 +150,9 @@ touches-came None a s progress there = record {
 touches-came (Some at) a s progress there = record {
   count = length-set s.acts at.0 (record (act_at s at.0) { phase = phase.Running at.1 progress });
   kept = λ n other away. act_at-other s at.0 (record (act_at s at.0) { phase = phase.Running at.1 progress }) n away;
-  caller = ap (λ (act : ActState). act.call) (act_at-same s at.0 (record (act_at s at.0) { phase = phase.Running at.1 progress }) there);
+  caller =
+      ap (λ (act : ActState). act.call)
+      (act_at-same s at.0 (record (act_at s at.0) { phase = phase.Running at.1 progress }) there);
   opening = λ inside. refl;
   closings = refl;
   restarted = refl;
@@ -164,26 +174,70 @@ pub record Limits (stops : Bool) (s t : ContextState) : Type 0 where
   pub lanes : length t.allowances.strands ≡ length s.allowances.strands
 
 -- no lane comes or goes
-pub length-lanes : (lane : Lane) (new : Allowance) (allowances : Allowances) → length (with_allowance lane new allowances).strands ≡ length allowances.strands
+pub length-lanes : (lane : Lane) (new : Allowance) (allowances : Allowances) →
+    length (with_allowance lane new allowances).strands ≡ length allowances.strands
 length-lanes (lane.Strand strand) new allowances = length-set allowances.strands strand new
 length-lanes (lane.Own op) new allowances = refl
 length-lanes lane.Reactor new allowances = refl
 
 -- what a stop leaves of the allowances
-pub limits : (script : ScriptModel) (place : Place) (a : ℕ) (stops : Bool) (s : ContextState) → Limits stops s (cond stops (limited script a place s) s)
-limits script None a true s = record { lanes = length-map s.allowances.strands (λ _. allowance.Nothing); acts = refl; opening = refl; stopped = refl; closings = refl; restarted = refl; dropping = refl; events = refl; turn = refl; allowed = λ never. absurd (cc) }
-limits script (Some at) a true s = record { lanes = length-lanes (lane_of script a) allowance.Nothing (record { strands = map at_most_one s.allowances.strands; own = at_most_one s.allowances.own; reactor = at_most_one s.allowances.reactor }) ∙ length-map s.allowances.strands at_most_one; acts = refl; opening = refl; stopped = refl; closings = refl; restarted = refl; dropping = refl; events = refl; turn = refl; allowed = λ never. absurd (cc) }
-limits script place a false s = record { lanes = refl; acts = refl; opening = refl; stopped = refl; closings = refl; restarted = refl; dropping = refl; events = refl; turn = refl; allowed = λ never. refl }
+pub limits : (script : ScriptModel) (place : Place) (a : ℕ) (stops : Bool) (s : ContextState) →
+    Limits stops s (cond stops (limited script a place s) s)
+limits script None a true s = record {
+  lanes = length-map s.allowances.strands (λ _. allowance.Nothing);
+  acts = refl;
+  opening = refl;
+  stopped = refl;
+  closings = refl;
+  restarted = refl;
+  dropping = refl;
+  events = refl;
+  turn = refl;
+  allowed = λ never. absurd (cc);
+}
+limits script (Some at) a true s = record {
+  lanes =
+      length-lanes (lane_of script a) allowance.Nothing (record {
+        strands = map at_most_one s.allowances.strands;
+        own = at_most_one s.allowances.own;
+        reactor = at_most_one s.allowances.reactor;
+      })
+      ∙ length-map s.allowances.strands at_most_one;
+  acts = refl;
+  opening = refl;
+  stopped = refl;
+  closings = refl;
+  restarted = refl;
+  dropping = refl;
+  events = refl;
+  turn = refl;
+  allowed = λ never. absurd (cc);
+}
+limits script place a false s = record {
+  lanes = refl;
+  acts = refl;
+  opening = refl;
+  stopped = refl;
+  closings = refl;
+  restarted = refl;
+  dropping = refl;
+  events = refl;
+  turn = refl;
+  allowed = λ never. refl;
+}
 
 kept-limited : (place : Place) (stops : Bool) (s t : ContextState) → Limits stops s t → IsCallKept place s (counted t)
 kept-limited None stops s t limits = tt
-kept-limited (Some at) stops s t limits = ap (λ (acts : List ActState). (slice_index_or acts at.0 fresh).call) limits.acts
+kept-limited (Some at) stops s t limits =
+    ap (λ (acts : List ActState). (slice_index_or acts at.0 fresh).call) limits.acts
 
 -- at an event
-pub touches-limited : (place : Place) (a : ℕ) (stops : Bool) (s t u : ContextState) → Touches place a s t → Limits stops t u → Touches place a s (counted u)
+pub touches-limited : (place : Place) (a : ℕ) (stops : Bool) (s t u : ContextState) → Touches place a s t →
+    Limits stops t u → Touches place a s (counted u)
 touches-limited place a stops s t u touches limits = record {
   count = ap length limits.acts ∙ touches.count;
-  kept = λ n other away. ap (λ (acts : List ActState). slice_index_or acts n fresh) limits.acts ∙ touches.kept n other away;
+  kept = λ n other away.
+      ap (λ (acts : List ActState). slice_index_or acts n fresh) limits.acts ∙ touches.kept n other away;
   caller = kept-both place s t (counted u) touches.caller (kept-limited place stops t u limits);
   opening = λ inside. limits.opening ∙ touches.opening inside;
   closings = limits.closings ∙ touches.closings;
@@ -193,7 +247,8 @@ touches-limited place a stops s t u touches limits = record {
 }
 
 -- the act of a stop that has stopped the context
-pub touches-stopped : (place : Place) (a : ℕ) (s : ContextState) (new : ActState) → IsBehind place a → Touches place a s (counted (record (with_act s a new) { stopped = true }))
+pub touches-stopped : (place : Place) (a : ℕ) (s : ContextState) (new : ActState) → IsBehind place a →
+    Touches place a s (counted (record (with_act s a new) { stopped = true }))
 touches-stopped place a s new behind = let set = touches-set place a s new behind in record {
   count = set.count;
   kept = set.kept;
@@ -205,7 +260,8 @@ touches-stopped place a s new behind = let set = touches-set place a s new behin
   turn = refl;
 }
 
-pub at-came : (place : Place) (s : ContextState) (progress : Progress) → IsThere s place → IsAt (came_to place progress s) place progress
+pub at-came : (place : Place) (s : ContextState) (progress : Progress) → IsThere s place →
+    IsAt (came_to place progress s) place progress
 at-came None s progress there = refl
 at-came (Some at) s progress there =
     ap (λ (act : ActState). act.phase) (act_at-same s at.0 (record (act_at s at.0) { phase = phase.Running at.1 progress }) there)
@@ -215,15 +271,18 @@ abbrev pub IsSameAt : Place → ContextState → ContextState → Type 0
 IsSameAt None s t = t.opening ≡ s.opening
 IsSameAt (Some at) s t = act_at t at.0 ≡ act_at s at.0
 
-pub at-same : (place : Place) (s t : ContextState) (progress : Progress) → IsSameAt place s t → IsAt s place progress → IsAt t place progress
+pub at-same : (place : Place) (s t : ContextState) (progress : Progress) → IsSameAt place s t → IsAt s place progress →
+    IsAt t place progress
 at-same None s t progress same is = same ∙ is
 at-same (Some at) s t progress same is = ap (λ (act : ActState). act.phase) same ∙ is
 
-pub same-set : (place : Place) (a : ℕ) (s : ContextState) (new : ActState) → IsBehind place a → IsSameAt place s (counted (with_act s a new))
+pub same-set : (place : Place) (a : ℕ) (s : ContextState) (new : ActState) → IsBehind place a →
+    IsSameAt place s (counted (with_act s a new))
 same-set None a s new behind = refl
 same-set (Some at) a s new behind = act_at-other s a new at.0 (λ same. absurd (omega (arith, behind, same)))
 
-pub same-stopped : (place : Place) (a : ℕ) (s : ContextState) (new : ActState) → IsBehind place a → IsSameAt place s (counted (record (with_act s a new) { stopped = true }))
+pub same-stopped : (place : Place) (a : ℕ) (s : ContextState) (new : ActState) → IsBehind place a →
+    IsSameAt place s (counted (record (with_act s a new) { stopped = true }))
 same-stopped None a s new behind = refl
 same-stopped (Some at) a s new behind = act_at-other s a new at.0 (λ same. absurd (omega (arith, behind, same)))
 
@@ -242,7 +301,8 @@ quiet-came None s progress = record { stopped = refl; allowances = refl; events 
 quiet-came (Some at) s progress = record { stopped = refl; allowances = refl; events = refl }
 
 -- the count of events is no matter to a body
-pub at-uncounted : (place : Place) (s : ContextState) (progress : Progress) → IsAt (counted s) place progress → IsAt s place progress
+pub at-uncounted : (place : Place) (s : ContextState) (progress : Progress) → IsAt (counted s) place progress →
+    IsAt s place progress
 at-uncounted None s progress is = is
 at-uncounted (Some at) s progress is = is
 
@@ -250,7 +310,8 @@ kept-from : (place : Place) (s t : ContextState) → IsCallKept place s t → Is
 kept-from None s t kept = tt
 kept-from (Some at) s t kept = kept
 
-pub touches-uncounted : (place : Place) (a : ℕ) (s t : ContextState) → Touches place a s t → Touches place a (counted s) t
+pub touches-uncounted : (place : Place) (a : ℕ) (s t : ContextState) → Touches place a s t →
+    Touches place a (counted s) t
 touches-uncounted place a s t touches = record {
   count = touches.count;
   kept = touches.kept;
@@ -262,11 +323,14 @@ touches-uncounted place a s t touches = record {
   turn = touches.turn;
 }
 
-pub kept-came : (place : Place) (n : ℕ) (s : ContextState) (progress : Progress) → IsElsewhere place n → act_at (came_to place progress s) n ≡ act_at s n
+pub kept-came : (place : Place) (n : ℕ) (s : ContextState) (progress : Progress) → IsElsewhere place n →
+    act_at (came_to place progress s) n ≡ act_at s n
 kept-came None n s progress away = refl
-kept-came (Some at) n s progress away = act_at-other s at.0 (record (act_at s at.0) { phase = phase.Running at.1 progress }) n away
+kept-came (Some at) n s progress away =
+    act_at-other s at.0 (record (act_at s at.0) { phase = phase.Running at.1 progress }) n away
 
-pub there-shut : (place : Place) (a : ℕ) (s : ContextState) (new : ActState) → IsThere s place → IsThere (with_act s a new) place
+pub there-shut : (place : Place) (a : ℕ) (s : ContextState) (new : ActState) → IsThere s place →
+    IsThere (with_act s a new) place
 there-shut None a s new there = tt
 there-shut (Some at) a s new there = omega (arith, there, length-set s.acts a new)
 

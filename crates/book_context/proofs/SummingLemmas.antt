@@ -27,7 +27,8 @@ range_summed f a (suc n) =
 
 pub summed-range : (f : ℕ → ℕ) (n : ℕ) → sum_by f (range_with_len 0 n) ≡ summed f n
 summed-range f n =
-    let all = range_summed f 0 n in let e : 0 + n ≡ n = omega arith in let same = ap (summed f) e in omega (arith, all, same)
+    let all = range_summed f 0 n in
+    let e : 0 + n ≡ n = omega arith in let same = ap (summed f) e in omega (arith, all, same)
 
 pub summed-less : (f g : ℕ → ℕ) (n : ℕ) → ((m : ℕ) → f m ≤ g m) → summed f n ≤ summed g n
 summed-less f g zero less = omega arith
@@ -66,7 +67,8 @@ summed-only a k (suc n) less = elim (cases_eq a n) [
 ]
 
 -- where one number gives so much more
-pub summed-apart : (f g : ℕ → ℕ) (a k n : ℕ) → a < n → f a + k ≤ g a → ((m : ℕ) → m ≢ a → f m ≤ g m) → summed f n + k ≤ summed g n
+pub summed-apart : (f g : ℕ → ℕ) (a k n : ℕ) → a < n → f a + k ≤ g a → ((m : ℕ) → m ≢ a → f m ≤ g m) →
+    summed f n + k ≤ summed g n
 summed-apart f g a k n within here others =
     let one = summed-only a k n within in
     let both = summed-both f (only a k) n in
@@ -90,7 +92,8 @@ summed-apart f g a k n within here others =
 abbrev pub weigh : (ℕ → ℕ) → (ℕ → Bool) → ℕ → ℕ
 weigh weight test n = summed (λ m. cond (test m) (weight m) 0) n
 
-pub weigh-same : (weight : ℕ → ℕ) (one two : ℕ → Bool) (n : ℕ) → ((m : ℕ) → one m ≡ two m) → weigh weight one n ≡ weigh weight two n
+pub weigh-same : (weight : ℕ → ℕ) (one two : ℕ → Bool) (n : ℕ) → ((m : ℕ) → one m ≡ two m) →
+    weigh weight one n ≡ weigh weight two n
 weigh-same weight one two n same =
     summed-same (λ m. cond (one m) (weight m) 0) (λ m. cond (two m) (weight m) 0) n (λ m. ap (λ b. cond b (weight m) 0) (same m))
 
@@ -104,7 +107,8 @@ either_weighs false false k never = omega arith
 pub weigh-either : (weight : ℕ → ℕ) (one two : ℕ → Bool) (n : ℕ) → ((m : ℕ) → one m ≡ true → two m ≡ true → ⊥) →
     weigh weight (λ m. one m || two m) n ≡ weigh weight one n + weigh weight two n
 weigh-either weight one two n never =
-    summed-same (λ m. cond (one m || two m) (weight m) 0) (λ m. cond (one m) (weight m) 0 + cond (two m) (weight m) 0) n (λ m. either_weighs (one m) (two m) (weight m) (never m))
+    summed-same (λ m. cond (one m || two m) (weight m) 0) (λ m. cond (one m) (weight m) 0 + cond (two m) (weight m) 0) n
+    (λ m. either_weighs (one m) (two m) (weight m) (never m))
     ∙ summed-both (λ m. cond (one m) (weight m) 0) (λ m. cond (two m) (weight m) 0) n
 
 more_weighs : (here there : Bool) (k w : ℕ) → (here ≡ true → k ≡ w) → (here ≡ true → there ≡ false) →
@@ -119,6 +123,10 @@ pub weigh-more : (weight : ℕ → ℕ) (a n : ℕ) (others : ℕ → Bool) → 
 weigh-more weight a n others less alone =
     let one = summed-only a (weight a) n less in
     let both = summed-both (only a (weight a)) (λ m. cond (others m) (weight m) 0) n in
-    let split = summed-same (λ m. cond (cond (a == m) true (others m)) (weight m) 0) (λ m. only a (weight a) m + cond (others m) (weight m) 0) n
-    (λ m. more_weighs (a == m) (others m) (weight a) (weight m) (λ same. ap weight (eqb-true a m same)) (λ same. ap others (sym (eqb-true a m same)) ∙ alone)) in
+    let split =
+    summed-same (λ m. cond (cond (a == m) true (others m)) (weight m) 0)
+    (λ m. only a (weight a) m + cond (others m) (weight m) 0) n
+    (λ m.
+    more_weighs (a == m) (others m) (weight a) (weight m) (λ same. ap weight (eqb-true a m same))
+    (λ same. ap others (sym (eqb-true a m same)) ∙ alone)) in
     omega (arith, one, both, split)

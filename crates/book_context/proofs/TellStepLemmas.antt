@@ -71,20 +71,24 @@ module _ (told : Bool) (r : Recording) (op : ℕ) (given : Code) (size : ℕ) (k
 
   requested : phase_at was.context op ≡ phase.Requested
   requested =
-      is_requested_phase (phase_at was.context op) (and_parts (is_requested (phase_at was.context op)) (was_taken was.reactor op) pending).0
+      is_requested_phase (phase_at was.context op)
+      (and_parts (is_requested (phase_at was.context op)) (was_taken was.reactor op) pending).0
 
   is_taken : was_taken was.reactor op ≡ true
   is_taken = (and_parts (is_requested (phase_at was.context op)) (was_taken was.reactor op) pending).1
 
   call_made : call_at was.context op ≢ call.Uncalled
-  call_made isnt = absurd (let wrong : phase.Absent ≡ phase.Requested = sym (knows.kept.orderly.uncalled op isnt) ∙ requested in cc)
+  call_made isnt =
+      absurd (let wrong : phase.Absent ≡ phase.Requested = sym (knows.kept.orderly.uncalled op isnt) ∙ requested in cc)
 
   there : op < length was.context.acts
-  there = is_within was.context op (λ absent. absurd (let wrong : phase.Absent ≡ phase.Requested = sym absent ∙ requested in cc))
+  there =
+      is_within was.context op (λ absent. absurd (let wrong : phase.Absent ≡ phase.Requested = sym absent ∙ requested in cc))
 
   abbrev told_act : ActState
   told_act =
-      record (act_at was.context op) { phase = phase.Ready given size (cause.Completed was.context.events (unwrap_or was.context.turn 0)) }
+      record (act_at was.context op)
+      { phase = phase.Ready given size (cause.Completed was.context.events (unwrap_or was.context.turn 0)) }
 
   told_here : act_at now_told.context op ≡ told_act
   told_here = act_at-same was.context op told_act there
@@ -97,12 +101,15 @@ module _ (told : Bool) (r : Recording) (op : ℕ) (given : Code) (size : ℕ) (k
 
   same_calls : (n : ℕ) → call_at now_told.context n ≡ call_at was.context n
   same_calls n = elim (cases_eq n op) [
-    | inl same ↦ ap (call_at now_told.context) same ∙ (ap (λ (act : ActState). act.call) told_here ∙ ap (call_at was.context) (sym same))
+    | inl same ↦
+        ap (call_at now_told.context) same
+        ∙ (ap (λ (act : ActState). act.call) told_here ∙ ap (call_at was.context) (sym same))
     | inr differ ↦ ap (λ (act : ActState). act.call) (told_other n differ)
   ]
 
   -- what holds of the operation and of the others
-  by_told : (P : ℕ → ActState → Type 0) (n : ℕ) → P op told_act → P n (act_at was.context n) → P n (act_at now_told.context n)
+  by_told : (P : ℕ → ActState → Type 0) (n : ℕ) → P op told_act → P n (act_at was.context n) →
+      P n (act_at now_told.context n)
   by_told P n here others = elim (cases_eq n op) [
     | inl same ↦ subst (λ n. P n (act_at now_told.context n)) (sym same) (subst (P op) (sym told_here) here)
     | inr differ ↦ subst (P n) (sym (told_other n differ)) others
@@ -113,7 +120,9 @@ module _ (told : Bool) (r : Recording) (op : ℕ) (given : Code) (size : ℕ) (k
 
   told_kinds : AreOfKind r.script now_told.context
   told_kinds = record {
-    operations = λ n is made. by_told (λ n act. is_accepted act.phase ≡ true) n refl (knows.kinds.operations n is (sym (ap was_called (same_calls n)) ∙ made));
+    operations = λ n is made.
+        by_told (λ n act. is_accepted act.phase ≡ true) n refl
+        (knows.kinds.operations n is (sym (ap was_called (same_calls n)) ∙ made));
     others = λ n isnt. elim (cases_eq n op) [
       | inl same ↦ absurd (no_kind false refl (knows.kinds.others op (ap (is_op r.script) (sym same) ∙ isnt)))
       | inr differ ↦ ap (λ (act : ActState). is_unspent act.phase) (told_other n differ) ∙ knows.kinds.others n isnt
@@ -133,12 +142,16 @@ module _ (told : Bool) (r : Recording) (op : ℕ) (given : Code) (size : ℕ) (k
             let one = ap one_if (eq-eqb op n (sym same)) in
             let had = ap one_if (ap (is_pending was) same ∙ pending) in
             let none =
-            ap one_if (ap (is_pending now_told) same ∙ ap (λ (act : ActState). is_requested act.phase && was_taken now_told.reactor op) told_here) in
+            ap one_if
+            (ap (is_pending now_told) same
+            ∙ ap (λ (act : ActState). is_requested act.phase && was_taken now_told.reactor op) told_here) in
             omega (arith, less, before, one, had, none)
         | inr differ ↦
             let none = ap one_if (ne_eqb op n (λ same. differ (sym same))) in
             let same =
-            ap one_if (ap (λ (act : ActState). is_requested act.phase && was_taken now_told.reactor n) (told_other n differ) ∙ ap (λ b. is_requested (phase_at was.context n) && b) (still_taken n)) in
+            ap one_if
+            (ap (λ (act : ActState). is_requested act.phase && was_taken now_told.reactor n) (told_other n differ)
+            ∙ ap (λ b. is_requested (phase_at was.context n) && b) (still_taken n)) in
             omega (arith, less, before, none, same)
       ]
 
@@ -151,8 +164,11 @@ module _ (told : Bool) (r : Recording) (op : ℕ) (given : Code) (size : ℕ) (k
       let before : act_left_at was op ≡ act_left (call_at was.context op) (phase_at was.context op) true =
       ap (act_left (call_at was.context op) (phase_at was.context op)) is_taken in
       let here = left_told (call_at was.context op) (phase_at was.context op) told_act.phase call_made requested refl in
-      let acts = acts-apart was now_told op 1 (length-acts was.context op told_act) there (omega (arith, now, before, here))
-      (λ m differ. ap (λ (act : ActState). act_left act.call act.phase (was_taken now_told.reactor m)) (told_other m differ) ∙ ap (act_left (call_at was.context m) (phase_at was.context m)) (still_taken m)) in
+      let acts =
+      acts-apart was now_told op 1 (length-acts was.context op told_act) there (omega (arith, now, before, here))
+      (λ m differ.
+      ap (λ (act : ActState). act_left act.call act.phase (was_taken now_told.reactor m)) (told_other m differ)
+      ∙ ap (act_left (call_at was.context m) (phase_at was.context m)) (still_taken m)) in
       let waits = ap length time.waits in
       let times = ap (λ now. length (times_after now r.script.world.lines)) time.now in
       let last = ap one_unless time.last in
@@ -161,9 +177,12 @@ module _ (told : Bool) (r : Recording) (op : ℕ) (given : Code) (size : ℕ) (k
 
   told_order : IsKept r.script now_told (r.ready ++ (op, given, size) ∷ []) r.requests
   told_order =
-      telling_keeps r.script told was op given size r.ready r.requests requested is_taken (let less = told_left in let had = knows.room in let few = knows.within in omega (arith, less, had, few)) knows.kept
+      telling_keeps r.script told was op given size r.ready r.requests requested is_taken
+      (let less = told_left in let had = knows.room in let few = knows.within in omega (arith, less, had, few))
+      knows.kept
 
-  changes_told : Changes r.script was now_told (r.ready ++ (op, given, size) ∷ []) r.requests r.stopped r.restarted r.closings
+  changes_told : Changes r.script was now_told (r.ready ++ (op, given, size) ∷ []) r.requests r.stopped r.restarted
+      r.closings
   changes_told = record {
     kept = told_order;
     accounted = λ still. account_done r.script told was op given size (knows.accounted works) requested is_taken may;
@@ -179,12 +198,14 @@ module _ (told : Bool) (r : Recording) (op : ℕ) (given : Code) (size : ℕ) (k
     dropping = refl;
     left = told_left;
     events = one_more-most was.context.events;
-    spent = λ n. by_told (λ n act. is_spent act.phase ≡ is_spent (phase_at was.context n)) n (ap is_spent (sym requested)) refl;
+    spent = λ n.
+        by_told (λ n act. is_spent act.phase ≡ is_spent (phase_at was.context n)) n (ap is_spent (sym requested)) refl;
   }
 
   goes_told : EventIsRecorded told r (event.Done op given size) (with_done op given size r)
   goes_told =
-      goes_on told r (event.Done op given size) (r.ready ++ (op, given, size) ∷ []) r.requests r.stopped r.restarted r.closings knows (record { working = works; next = may; turn = λ none. going }) changes_told
+      goes_on told r (event.Done op given size) (r.ready ++ (op, given, size) ∷ []) r.requests r.stopped r.restarted
+      r.closings knows (record { working = works; next = may; turn = λ none. going }) changes_told
 
   pub has_told : CompletionIsRecorded told r op given size
   has_told = record {
@@ -198,5 +219,6 @@ module _ (told : Bool) (r : Recording) (op : ℕ) (given : Code) (size : ℕ) (k
         omega (arith, count, most, both, acts);
     goes = goes_told;
     turn = subst (λ (s : State). IsSome s.context.turn) (sym goes_told.state) going;
-    working = ap (λ (s : State). s.reactor.failed) goes_told.state ∙ ((time-done r.script was.reactor op).failed ∙ works);
+    working =
+        ap (λ (s : State). s.reactor.failed) goes_told.state ∙ ((time-done r.script was.reactor op).failed ∙ works);
   }

@@ -41,7 +41,10 @@ module _ (told : Bool) (r : Recording) (knows : IsRecorded told r) (waiting : Is
   is_idle = record {
     turn = may_turn told r knows waiting.turn;
     runs = ap (λ closings. runs (slice_get r.script.rounds closings)) knows.closings ∙ waiting.runs;
-    quiet = all_quiet r.script idle_state (subst (λ requests. IsKept r.script idle_state [] requests) waiting.none_asked (subst (λ ready. IsKept r.script idle_state ready r.requests) waiting.none_ready knows.kept));
+    quiet =
+        all_quiet r.script idle_state
+        (subst (λ requests. IsKept r.script idle_state [] requests) waiting.none_asked
+        (subst (λ ready. IsKept r.script idle_state ready r.requests) waiting.none_ready knows.kept));
     back = knows.kept.rest.back;
     pending = waiting.pending;
   }
@@ -51,12 +54,19 @@ module _ (told : Bool) (r : Recording) (knows : IsRecorded told r) (waiting : Is
 
   -- a turn that neither takes nor tells anything
   same_order : (t : State) → t.context.acts ≡ idle_state.context.acts → t.reactor.taken ≡ idle_state.reactor.taken →
-      t.context.events ≡ one_more idle_state.context.events → t.context.turn ≡ Some idle_state.context.events → IsSameOrder idle_state t
+      t.context.events ≡ one_more idle_state.context.events → t.context.turn ≡ Some idle_state.context.events →
+      IsSameOrder idle_state t
   same_order t acts taken events turn =
       let later = one_more-from idle_state.context.events knows.kept.rest.counted in
       let most = one_more-bound idle_state.context.events in
       let since = ap (λ turn. unwrap_or turn 0) turn in
-      record { acts = acts; taken = taken; later = omega (arith, events, later); counted = omega (arith, events, most); turn = omega (arith, since, events, later) }
+      record {
+        acts = acts;
+        taken = taken;
+        later = omega (arith, events, later);
+        counted = omega (arith, events, most);
+        turn = omega (arith, since, events, later);
+      }
 
   module _ (time : ℕ) (next : next_time r.script idle_state.reactor ≡ point.Time time) where
     abbrev ticked : State
@@ -68,7 +78,8 @@ module _ (told : Bool) (r : Recording) (knows : IsRecorded told r) (waiting : Is
     tick_left : events_left r.script ticked + 1 ≤ events_left r.script idle_state
     tick_left =
         let clock = runs-tick r.script told idle_state.reactor time in
-        let acts = acts-same idle_state ticked refl (λ n. ap (λ (taken : List Bool). slice_index_or taken n false) tick_taken) in
+        let acts =
+        acts-same idle_state ticked refl (λ n. ap (λ (taken : List Bool). slice_index_or taken n false) tick_taken) in
         let falls = falls-tick r.script told idle_state.reactor time next in
         let times = ap (λ now. length (times_after now r.script.world.lines)) clock.now in
         let last = ap one_unless clock.last in
@@ -77,10 +88,14 @@ module _ (told : Bool) (r : Recording) (knows : IsRecorded told r) (waiting : Is
 
     changes_tick : Changes r.script idle_state ticked r.ready r.requests r.stopped r.restarted r.closings
     changes_tick = record {
-      kept = others_keep r.script idle_state ticked r.ready r.requests (same_order ticked refl tick_taken refl refl) knows.kept;
+      kept =
+          others_keep r.script idle_state ticked r.ready r.requests (same_order ticked refl tick_taken refl refl) knows.kept;
       accounted = λ still. account_tick r.script told idle_state time (knows.accounted works);
       standing = λ still n. stands-tick n r.script told idle_state.reactor time
-          ∙ (knows.standing works n ∙ ap (λ (taken : List Bool). one_if (is_requested (phase_at idle_state.context n) && slice_index_or taken n false)) (sym tick_taken));
+          ∙ (knows.standing works n
+          ∙ ap (λ (taken : List Bool).
+          one_if (is_requested (phase_at idle_state.context n) && slice_index_or taken n false))
+          (sym tick_taken));
       ahead = settled-ahead told (at_time r.script told time idle_state.reactor);
       kinds = kinds_same r.script idle_state ticked (λ n. refl) knows.kinds;
       free = free_turn r.script idle_state.context knows.free;
@@ -98,7 +113,8 @@ module _ (told : Bool) (r : Recording) (knows : IsRecorded told r) (waiting : Is
     pub has_ticked : TurnIsBegun told r (event.Tick time) (with_event (event.Tick time) r)
     has_ticked =
         turned told r (event.Tick time) (with_event (event.Tick time) r)
-        (goes_on told r (event.Tick time) r.ready r.requests r.stopped r.restarted r.closings knows (record { idle = is_idle; next = next }) changes_tick) refl
+        (goes_on told r (event.Tick time) r.ready r.requests r.stopped r.restarted r.closings knows
+        (record { idle = is_idle; next = next }) changes_tick) refl
         (runs-tick r.script told idle_state.reactor time).whole ((runs-tick r.script told idle_state.reactor time).failed ∙ works)
 
   module _ (next : next_time r.script idle_state.reactor ≡ point.Last) where
@@ -110,12 +126,14 @@ module _ (told : Bool) (r : Recording) (knows : IsRecorded told r) (waiting : Is
 
     not_before : idle_state.reactor.last ≡ false
     not_before =
-        false_from_ne_true idle_state.reactor.last (last-once r.script idle_state.reactor knows.ahead waiting.turn.nothing_due waiting.turn.drained waiting.pending next)
+        false_from_ne_true idle_state.reactor.last (last-once r.script idle_state.reactor knows.ahead
+        waiting.turn.nothing_due waiting.turn.drained waiting.pending next)
 
     last_left : events_left r.script passed + 1 ≤ events_left r.script idle_state
     last_left =
         let clock = runs-last told idle_state.reactor in
-        let acts = acts-same idle_state passed refl (λ n. ap (λ (taken : List Bool). slice_index_or taken n false) last_taken) in
+        let acts =
+        acts-same idle_state passed refl (λ n. ap (λ (taken : List Bool). slice_index_or taken n false) last_taken) in
         let waits = clock.waits in
         let times = ap (λ now. length (times_after now r.script.world.lines)) clock.now in
         let before = ap one_unless not_before in
@@ -125,10 +143,14 @@ module _ (told : Bool) (r : Recording) (knows : IsRecorded told r) (waiting : Is
 
     changes_last : Changes r.script idle_state passed r.ready r.requests r.stopped r.restarted r.closings
     changes_last = record {
-      kept = others_keep r.script idle_state passed r.ready r.requests (same_order passed refl last_taken refl refl) knows.kept;
+      kept =
+          others_keep r.script idle_state passed r.ready r.requests (same_order passed refl last_taken refl refl) knows.kept;
       accounted = λ still. account_last r.script told idle_state (knows.accounted works);
       standing = λ still n. stands-last n told idle_state.reactor
-          ∙ (knows.standing works n ∙ ap (λ (taken : List Bool). one_if (is_requested (phase_at idle_state.context n) && slice_index_or taken n false)) (sym last_taken));
+          ∙ (knows.standing works n
+          ∙ ap (λ (taken : List Bool).
+          one_if (is_requested (phase_at idle_state.context n) && slice_index_or taken n false))
+          (sym last_taken));
       ahead = settled-ahead told (at_last told idle_state.reactor);
       kinds = kinds_same r.script idle_state passed (λ n. refl) knows.kinds;
       free = free_turn r.script idle_state.context knows.free;
@@ -146,13 +168,15 @@ module _ (told : Bool) (r : Recording) (knows : IsRecorded told r) (waiting : Is
     pub has_passed : TurnIsBegun told r event.Last (with_event event.Last r)
     has_passed =
         turned told r event.Last (with_event event.Last r)
-        (goes_on told r event.Last r.ready r.requests r.stopped r.restarted r.closings knows (record { idle = is_idle; next = next }) changes_last) refl
+        (goes_on told r event.Last r.ready r.requests r.stopped r.restarted r.closings knows
+        (record { idle = is_idle; next = next }) changes_last) refl
         (settled-clock told (at_last told idle_state.reactor)).whole ((runs-last told idle_state.reactor).failed ∙ works)
 
 none_left : (b : Bool) → 0 ≤ one_unless b
 none_left b = omega arith
 
-module _ (told : Bool) (r : Recording) (knows : IsRecorded told r) (round : IsRoundOpen r) (works : (recorded_half told r).failed ≡ false)
+module _ (told : Bool) (r : Recording) (knows : IsRecorded told r) (round : IsRoundOpen r)
+    (works : (recorded_half told r).failed ≡ false)
     (untouched : ((recorded_half told r).whole_turn ≡ true) ⊎ ((recorded_half told r).due ≡ [])) where
   abbrev up_to : State
   up_to = recorded_state told r
@@ -171,7 +195,14 @@ module _ (told : Bool) (r : Recording) (knows : IsRecorded told r) (round : IsRo
   changes_fault = record {
     kept =
         let later = one_more-from up_to.context.events knows.kept.rest.counted in
-        others_keep r.script up_to broken r.ready r.requests (record { acts = refl; taken = refl; later = later; counted = one_more-bound up_to.context.events; turn = omega arith }) knows.kept;
+        others_keep r.script up_to broken r.ready r.requests
+        (record {
+          acts = refl;
+          taken = refl;
+          later = later;
+          counted = one_more-bound up_to.context.events;
+          turn = omega arith;
+        }) knows.kept;
     accounted = λ still. absurd (cc);
     standing = λ still. absurd (cc);
     ahead = knows.ahead;
@@ -191,5 +222,7 @@ module _ (told : Bool) (r : Recording) (knows : IsRecorded told r) (round : IsRo
   pub has_failed : HasFailed told r
   has_failed =
       let goes =
-      goes_on told r event.Fault r.ready r.requests true r.restarted r.closings knows (record { once = works; when = inr (record { round = round_open told r knows round; untouched = untouched }) }) changes_fault in
+      goes_on told r event.Fault r.ready r.requests true r.restarted r.closings knows
+      (record { once = works; when = inr (record { round = round_open told r knows round; untouched = untouched }) })
+      changes_fault in
       record { goes = goes; failed = ap (λ (s : State). s.reactor.failed) goes.state }

@@ -50,17 +50,20 @@ streams-taken false r = refl
 settled-taken : (told : Bool) (r : ReactorHalf) → (settled told r).taken ≡ r.taken
 settled-taken told r = streams-taken told (record (with_waits_served r) { whole_turn = true; reached = 0 })
 
-pub tick-taken : (script : ScriptModel) (told : Bool) (r : ReactorHalf) (now : ℕ) → (reactor_after_tick script told r now).taken ≡ r.taken
+pub tick-taken : (script : ScriptModel) (told : Bool) (r : ReactorHalf) (now : ℕ) →
+    (reactor_after_tick script told r now).taken ≡ r.taken
 tick-taken script told r now = settled-taken told (at_time script told now r)
 
 pub last-taken : (told : Bool) (r : ReactorHalf) → (reactor_after_last told r).taken ≡ r.taken
 last-taken told r = settled-taken told (at_last told r)
 
 -- a take takes one act
-pub take-taken : (script : ScriptModel) (told : Bool) (r : ReactorHalf) (a : ℕ) → IsWellFormed script → (reactor_after_take script told r a).taken ≡ slice_set r.taken a true
+pub take-taken : (script : ScriptModel) (told : Bool) (r : ReactorHalf) (a : ℕ) → IsWellFormed script →
+    (reactor_after_take script told r a).taken ≡ slice_set r.taken a true
 take-taken script told r a well =
     settled-taken told (performed script a r)
-    ∙ ap (λ (taken : List Bool). slice_set taken a true) (performs-by script a (act_of script a) r (λ it is. act_fits script a well it is)).taken
+    ∙ ap (λ (taken : List Bool). slice_set taken a true)
+    (performs-by script a (act_of script a) r (λ it is. act_fits script a well it is)).taken
 
 -- and a completion none
 gone-taken : (given : Option Act) (r : ReactorHalf) → (gone given r).taken ≡ r.taken
@@ -71,7 +74,8 @@ gone-taken (Some (act.WriteSome a b c d e)) r = refl
 gone-taken (Some (act.WriteAll a b c d e)) r = refl
 gone-taken given r = refl
 
-told_off-taken : (script : ScriptModel) (o : ℕ) (r : ReactorHalf) (due : List Completion) → (told_off script o r due).taken ≡ r.taken
+told_off-taken : (script : ScriptModel) (o : ℕ) (r : ReactorHalf) (due : List Completion) →
+    (told_off script o r due).taken ≡ r.taken
 told_off-taken script o r [] = gone-taken (act_of script o) r
 told_off-taken script o r (head ∷ due) = refl
 
@@ -81,7 +85,8 @@ disconnected-taken o (Some slot) r = refl
 
 pub done-taken : (script : ScriptModel) (r : ReactorHalf) (o : ℕ) → (reactor_after_done script r o).taken ≡ r.taken
 done-taken script r o =
-    disconnected-taken o (slot_in (act_of script o)) (record (told_off script o r r.due) { whole_turn = false }) ∙ told_off-taken script o r r.due
+    disconnected-taken o (slot_in (act_of script o)) (record (told_off script o r r.due) { whole_turn = false })
+    ∙ told_off-taken script o r r.due
 
 -- where each act is the same
 module _ (s t : ContextState) (same : (n : ℕ) → act_at t n ≡ act_at s n) where
@@ -97,34 +102,45 @@ module _ (s t : ContextState) (same : (n : ℕ) → act_at t n ≡ act_at s n) w
     all = λ n is. are.all n (ap is_ready (sym (same_phase n)) ∙ is);
     oldest_first = λ i j d less within.
         let before = are.oldest_first i j d less within in
-        let one : ready_at t (get_or ready i d).0 ≡ ready_at s (get_or ready i d).0 = ap (λ (act : ActState). ready_since act.call act.phase) (same (get_or ready i d).0) in
-        let two : ready_at t (get_or ready j d).0 ≡ ready_at s (get_or ready j d).0 = ap (λ (act : ActState). ready_since act.call act.phase) (same (get_or ready j d).0) in
+        let one : ready_at t (get_or ready i d).0 ≡ ready_at s (get_or ready i d).0 =
+        ap (λ (act : ActState). ready_since act.call act.phase) (same (get_or ready i d).0) in
+        let two : ready_at t (get_or ready j d).0 ≡ ready_at s (get_or ready j d).0 =
+        ap (λ (act : ActState). ready_since act.call act.phase) (same (get_or ready j d).0) in
         omega (arith, before, one, two);
   }
 
   dated_same : s.events ≤ t.events → unwrap_or t.turn 0 ≤ t.events → IsDated s → IsDated t
   dated_same less turn dated = record {
-    calls = λ n. subst (IsCallPast t.events) (sym (same_call n)) (past_later s.events t.events (call_at s n) less (dated.calls n));
-    causes = λ n. subst (IsCausePast t.events) (sym (same_phase n)) (cause_later s.events t.events (phase_at s n) less (dated.causes n));
+    calls = λ n.
+        subst (IsCallPast t.events) (sym (same_call n)) (past_later s.events t.events (call_at s n) less (dated.calls n));
+    causes = λ n.
+        subst (IsCausePast t.events) (sym (same_phase n)) (cause_later s.events t.events (phase_at s n) less (dated.causes n));
     turn = turn;
   }
 
 -- each act is the same, and none was taken before its call
-orderly_same : (script : ScriptModel) (s t : State) → ((n : ℕ) → act_at t.context n ≡ act_at s.context n) → IsDated t.context → ((n : ℕ) → call_at s.context n ≡ call.Uncalled → was_taken t.reactor n ≡ false) →
+orderly_same : (script : ScriptModel) (s t : State) → ((n : ℕ) → act_at t.context n ≡ act_at s.context n) →
+    IsDated t.context → ((n : ℕ) → call_at s.context n ≡ call.Uncalled → was_taken t.reactor n ≡ false) →
     IsOrderly script s → IsOrderly script t
 orderly_same script s t same dated untaken orderly = record {
   dated = dated;
-  uncalled = λ n is. same_phase s.context t.context same n ∙ orderly.uncalled n (sym (same_call s.context t.context same n) ∙ is);
+  uncalled = λ n is.
+      same_phase s.context t.context same n ∙ orderly.uncalled n (sym (same_call s.context t.context same n) ∙ is);
   untaken = λ n is. untaken n (sym (same_call s.context t.context same n) ∙ is);
-  branches = λ n op branch under isnt. same_call s.context t.context same n ∙ orderly.branches n op branch under (ap has_begun (sym (same_phase s.context t.context same op)) ∙ isnt);
+  branches = λ n op branch under isnt.
+      same_call s.context t.context same n
+      ∙ orderly.branches n op branch under (ap has_begun (sym (same_phase s.context t.context same op)) ∙ isnt);
 }
 
 -- what changes neither an act nor what was taken
-pub others_keep : (script : ScriptModel) (s t : State) (ready : List (ℕ × Code × ℕ)) (requests : List ℕ) → IsSameOrder s t → IsKept script s ready requests → IsKept script t ready requests
+pub others_keep : (script : ScriptModel) (s t : State) (ready : List (ℕ × Code × ℕ)) (requests : List ℕ) →
+    IsSameOrder s t → IsKept script s ready requests → IsKept script t ready requests
 others_keep script s t ready requests order kept =
     let same = λ (n : ℕ). ap (λ (acts : List ActState). slice_index_or acts n fresh) order.acts in
     let taken = λ (n : ℕ). ap (λ (taken : List Bool). slice_index_or taken n false) order.taken in
-    let untaken = λ (n : ℕ). ap (λ (act : ActState). is_request act.phase && not (was_taken t.reactor n)) (same n) ∙ ap (λ b. is_request (phase_at s.context n) && not b) (taken n) in
+    let untaken = λ (n : ℕ).
+    ap (λ (act : ActState). is_request act.phase && not (was_taken t.reactor n)) (same n)
+    ∙ ap (λ b. is_request (phase_at s.context n) && not b) (taken n) in
     record {
       rest = record {
         acts = ap length order.acts ∙ kept.rest.acts;
@@ -133,41 +149,51 @@ others_keep script s t ready requests order kept =
         back = subst (All (λ act. is_open act.call ≡ false)) (sym order.acts) kept.rest.back;
         counted = order.counted;
       };
-      orderly = orderly_same script s t same (dated_same s.context t.context same order.later order.turn kept.orderly.dated) (λ n is. taken n ∙ kept.orderly.untaken n is) kept.orderly;
+      orderly =
+          orderly_same script s t same (dated_same s.context t.context same order.later order.turn kept.orderly.dated)
+          (λ n is. taken n ∙ kept.orderly.untaken n is) kept.orderly;
       are_ready = ready_same s.context t.context same ready kept.are_ready;
       are_untaken = record {
         each = λ k d within. untaken (get_or requests k d) ∙ kept.are_untaken.each k d within;
         all = λ n is. kept.are_untaken.all n (sym (untaken n) ∙ is);
         oldest_first = λ i j d less within.
             let before = kept.are_untaken.oldest_first i j d less within in
-            let one : asked_at t.context (get_or requests i d) ≡ asked_at s.context (get_or requests i d) = ap (λ (act : ActState). called_at act.call) (same (get_or requests i d)) in
-            let two : asked_at t.context (get_or requests j d) ≡ asked_at s.context (get_or requests j d) = ap (λ (act : ActState). called_at act.call) (same (get_or requests j d)) in
+            let one : asked_at t.context (get_or requests i d) ≡ asked_at s.context (get_or requests i d) =
+            ap (λ (act : ActState). called_at act.call) (same (get_or requests i d)) in
+            let two : asked_at t.context (get_or requests j d) ≡ asked_at s.context (get_or requests j d) =
+            ap (λ (act : ActState). called_at act.call) (same (get_or requests j d)) in
             omega (arith, before, one, two);
       };
     }
 
 -- a request that still waits isn't the one that was taken
-still_listed : (s t : State) (a : ℕ) (newer : List ℕ) (n : ℕ) → (n ≡ a → was_taken t.reactor n ≡ true) → (n ≢ a → was_taken t.reactor n ≡ was_taken s.reactor n) → AreUntaken s (a ∷ newer) →
+still_listed : (s t : State) (a : ℕ) (newer : List ℕ) (n : ℕ) → (n ≡ a → was_taken t.reactor n ≡ true) →
+    (n ≢ a → was_taken t.reactor n ≡ was_taken s.reactor n) → AreUntaken s (a ∷ newer) →
     (is_request (phase_at s.context n) && not (was_taken t.reactor n)) ≡ true → Any (λ request. request ≡ n) newer
 still_listed s t a newer n gone other were is = elim (cases_eq n a) [
   | inl same ↦
-      let kept : not (was_taken t.reactor n) ≡ true = (and_parts (is_request (phase_at s.context n)) (not (was_taken t.reactor n)) is).1 in
+      let kept : not (was_taken t.reactor n) ≡ true =
+      (and_parts (is_request (phase_at s.context n)) (not (was_taken t.reactor n)) is).1 in
       absurd (let wrong : false ≡ true = sym (ap not (gone same)) ∙ kept in cc)
-  | inr differ ↦ elim (any_either (λ request. request ≡ n) a newer (were.all n (ap (λ b. is_request (phase_at s.context n) && not b) (sym (other differ)) ∙ is))) [
-    | inl head ↦ absurd (differ (sym head))
-    | inr rest ↦ rest
-  ]
+  | inr differ ↦
+      elim (any_either (λ request. request ≡ n) a newer
+      (were.all n (ap (λ b. is_request (phase_at s.context n) && not b) (sym (other differ)) ∙ is)))
+      [ inl head ↦ absurd (differ (sym head)) | inr rest ↦ rest ]
 ]
 
 -- the oldest request is taken
-pub taking_keeps : (script : ScriptModel) (told : Bool) (s : State) (a : ℕ) (ready : List (ℕ × Code × ℕ)) (newer : List ℕ) → IsWellFormed script → length s.reactor.taken ≡ length script.acts →
-    s.context.events + 1 < most_faults → IsKept script s ready (a ∷ newer) → IsKept script (after_event script told s (event.Take a)) ready newer
+pub taking_keeps : (script : ScriptModel) (told : Bool) (s : State) (a : ℕ) (ready : List (ℕ × Code × ℕ))
+    (newer : List ℕ) → IsWellFormed script → length s.reactor.taken ≡ length script.acts →
+    s.context.events + 1 < most_faults → IsKept script s ready (a ∷ newer) →
+    IsKept script (after_event script told s (event.Take a)) ready newer
 taking_keeps script told s a ready newer well size room kept =
     let t : State = after_event script told s (event.Take a) in
     let counted : t.context.events ≡ s.context.events + 1 = one_more-is s.context.events (omega (arith, room)) in
     let here : is_untaken s a ≡ true = All-head (λ n. is_untaken s n ≡ true) a newer kept.are_untaken.each in
-    let asks : is_request (phase_at s.context a) ≡ true = (and_parts (is_request (phase_at s.context a)) (not (was_taken s.reactor a)) here).0 in
-    let there : phase_at s.context a ≢ phase.Absent = λ absent. absurd (let wrong : false ≡ true = sym (ap is_request absent) ∙ asks in cc) in
+    let asks : is_request (phase_at s.context a) ≡ true =
+    (and_parts (is_request (phase_at s.context a)) (not (was_taken s.reactor a)) here).0 in
+    let there : phase_at s.context a ≢ phase.Absent = λ absent.
+    absurd (let wrong : false ≡ true = sym (ap is_request absent) ∙ asks in cc) in
     let within : a < length s.reactor.taken = omega (arith, size, kept.rest.acts, is_within s.context a there) in
     let taken : t.reactor.taken ≡ slice_set s.reactor.taken a true = take-taken script told s.reactor a well in
     let now = λ (n : ℕ). ap (λ (taken : List Bool). slice_index_or taken n false) taken in
@@ -177,13 +203,30 @@ taking_keeps script told s a ready newer well size room kept =
     let e = ap (asked_at s.context) same in
     absurd (omega (arith, before, e)) in
     record {
-      rest = record { acts = kept.rest.acts; quiet = kept.rest.quiet; entered = kept.rest.entered; back = kept.rest.back; counted = omega (arith, counted, room) };
-      orderly = orderly_same script s t (λ n. refl) (dated_same s.context t.context (λ n. refl) (omega (arith, counted)) (omega (arith, counted)) kept.orderly.dated)
-          (λ n is. other n (λ same. absurd (there (ap (phase_at s.context) (sym same) ∙ kept.orderly.uncalled n is))) ∙ kept.orderly.untaken n is) kept.orderly;
+      rest =
+          record {
+            acts = kept.rest.acts;
+            quiet = kept.rest.quiet;
+            entered = kept.rest.entered;
+            back = kept.rest.back;
+            counted = omega (arith, counted, room);
+          };
+      orderly =
+          orderly_same script s t (λ n. refl) (dated_same s.context t.context (λ n. refl) (omega (arith, counted))
+          (omega (arith, counted)) kept.orderly.dated)
+          (λ n is.
+          other n (λ same. absurd (there (ap (phase_at s.context) (sym same) ∙ kept.orderly.uncalled n is)))
+          ∙ kept.orderly.untaken n is) kept.orderly;
       are_ready = ready_same s.context t.context (λ n. refl) ready kept.are_ready;
       are_untaken = record {
-        each = λ k d below. ap (λ b. is_request (phase_at s.context (get_or newer k d)) && not b) (other (get_or newer k d) (later k d below)) ∙ All-tail (λ n. is_untaken s n ≡ true) a newer kept.are_untaken.each k d below;
-        all = λ n is. still_listed s t a newer n (λ same. ap (was_taken t.reactor) same ∙ (now a ∙ get_or-set_same s.reactor.taken a true false within)) (other n) kept.are_untaken is;
-        oldest_first = λ i j d less below. kept.are_untaken.oldest_first (suc i) (suc j) d (omega (arith, less)) (omega (arith, below));
+        each = λ k d below.
+            ap (λ b. is_request (phase_at s.context (get_or newer k d)) && not b) (other (get_or newer k d) (later k d below))
+            ∙ All-tail (λ n. is_untaken s n ≡ true) a newer kept.are_untaken.each k d below;
+        all = λ n is.
+            still_listed s t a newer n
+            (λ same. ap (was_taken t.reactor) same ∙ (now a ∙ get_or-set_same s.reactor.taken a true false within))
+            (other n) kept.are_untaken is;
+        oldest_first = λ i j d less below.
+            kept.are_untaken.oldest_first (suc i) (suc j) d (omega (arith, less)) (omega (arith, below));
       };
     }

@@ -56,10 +56,12 @@ one_more-most n = min-le_left (n + 1) most_faults
 reactor_free : (script : ScriptModel) (s : State) → IsFreeUnlessStopped script s.context → s.context.stopped ≡ false →
     MayStart s.context lane.Reactor
 reactor_free script s free going none =
-    let is : allowance_of s.context.allowances lane.Reactor ≡ allowance.Free = ap (λ (a : Allowances). a.reactor) (free.free going) in
+    let is : allowance_of s.context.allowances lane.Reactor ≡ allowance.Free =
+    ap (λ (a : Allowances). a.reactor) (free.free going) in
     absurd (let wrong : allowance.Free ≡ allowance.Nothing = sym is ∙ none in cc)
 
-pub may_turn : (told : Bool) (r : Recording) → IsRecorded told r → CanTurnNow told r → MayTurn r.script (recorded_state told r)
+pub may_turn : (told : Bool) (r : Recording) → IsRecorded told r → CanTurnNow told r →
+    MayTurn r.script (recorded_state told r)
 may_turn told r knows turn = record {
   round = round_open told r knows turn.round;
   working = turn.working;
@@ -69,8 +71,8 @@ may_turn told r knows turn = record {
 }
 
 -- acts that are as they were are of their kinds
-pub kinds_same : (script : ScriptModel) (s t : State) → ((n : ℕ) → act_at t.context n ≡ act_at s.context n) → AreOfKind script s.context →
-    AreOfKind script t.context
+pub kinds_same : (script : ScriptModel) (s t : State) → ((n : ℕ) → act_at t.context n ≡ act_at s.context n) →
+    AreOfKind script s.context → AreOfKind script t.context
 kinds_same script s t same kinds = record {
   operations = λ n is was. ap (λ (act : ActState). is_accepted act.phase) (same n)
       ∙ kinds.operations n is (sym (ap (λ (act : ActState). was_called act.call) (same n)) ∙ was);
@@ -81,7 +83,8 @@ kinds_same script s t same kinds = record {
 -- a turn that began is told of as its state is
 pub turned : (told : Bool) (r : Recording) (event : Event) (t : Recording) → EventIsRecorded told r event t →
     IsSome (after_event r.script told (recorded_state told r) event).context.turn →
-    (after_event r.script told (recorded_state told r) event).reactor.whole_turn ≡ true → (after_event r.script told (recorded_state told r) event).reactor.failed ≡ false → TurnIsBegun told r event t
+    (after_event r.script told (recorded_state told r) event).reactor.whole_turn ≡ true →
+    (after_event r.script told (recorded_state told r) event).reactor.failed ≡ false → TurnIsBegun told r event t
 turned told r event t goes turn whole works = record {
   goes = goes;
   turn = subst (λ (s : State). IsSome s.context.turn) (sym goes.state) turn;
@@ -110,7 +113,8 @@ module _ (told : Bool) (r : Recording) (a : ℕ) (newer : List ℕ) (knows : IsR
   asks = (and_parts (is_request (phase_at s.context a)) (not (was_taken s.reactor a)) here).0
 
   was : was_taken s.reactor a ≡ false
-  was = not-true (was_taken s.reactor a) (and_parts (is_request (phase_at s.context a)) (not (was_taken s.reactor a)) here).1
+  was =
+      not-true (was_taken s.reactor a) (and_parts (is_request (phase_at s.context a)) (not (was_taken s.reactor a)) here).1
 
   made : call_at s.context a ≢ call.Uncalled
   made isnt = absurd (let wrong : false ≡ true = sym (ap is_request (knows.kept.orderly.uncalled a isnt)) ∙ asks in cc)
@@ -130,10 +134,13 @@ module _ (told : Bool) (r : Recording) (a : ℕ) (newer : List ℕ) (knows : IsR
   now : was_taken t.reactor a ≡ true
   now =
       ap (λ (taken : List Bool). slice_index_or taken a false) taken
-      ∙ get_or-set_same s.reactor.taken a true false (let inside = within in let acts = knows.kept.rest.acts in let marks = account.marks in omega (arith, inside, acts, marks))
+      ∙ get_or-set_same s.reactor.taken a true false (let inside = within in
+      let acts = knows.kept.rest.acts in let marks = account.marks in omega (arith, inside, acts, marks))
 
   other : (n : ℕ) → n ≢ a → was_taken t.reactor n ≡ was_taken s.reactor n
-  other n differ = ap (λ (taken : List Bool). slice_index_or taken n false) taken ∙ get_or-set_other s.reactor.taken a n true false differ
+  other n differ =
+      ap (λ (taken : List Bool). slice_index_or taken n false) taken
+      ∙ get_or-set_other s.reactor.taken a n true false differ
 
   is_awaiting : one_if (is_awaited kind.0) ≡ one_if (is_requested (phase_at s.context a))
   is_awaiting = ap one_if (kind.2 ∙ ap is_requested (sym accepts))
@@ -144,7 +151,8 @@ module _ (told : Bool) (r : Recording) (a : ℕ) (newer : List ℕ) (knows : IsR
       let at_a : act_left_at t a + (1 + one_if (is_requested (phase_at s.context a))) ≤ act_left_at s a =
       by_taken (was_taken t.reactor a) (was_taken s.reactor a) now was in
       let acts =
-      acts-apart s t a (1 + one_if (is_requested (phase_at s.context a))) refl within at_a (λ m differ. ap (act_left (call_at s.context m) (phase_at s.context m)) (other m differ)) in
+      acts-apart s t a (1 + one_if (is_requested (phase_at s.context a))) refl within at_a
+      (λ m differ. ap (act_left (call_at s.context m) (phase_at s.context m)) (other m differ)) in
       let more = clock.waits in
       let awaits = is_awaiting in
       let times = ap (λ now. length (times_after now r.script.world.lines)) clock.now in
@@ -153,17 +161,22 @@ module _ (told : Bool) (r : Recording) (a : ℕ) (newer : List ℕ) (knows : IsR
       left-falls r.script s t 1 (omega (arith, acts, more, awaits, times, last, failed))
     where
       by_taken : (after before : Bool) → after ≡ true → before ≡ false →
-          act_left (call_at s.context a) (phase_at s.context a) after + (1 + one_if (is_requested (phase_at s.context a))) ≤ act_left (call_at s.context a) (phase_at s.context a) before
+          act_left (call_at s.context a) (phase_at s.context a) after
+          + (1 + one_if (is_requested (phase_at s.context a)))
+          ≤ act_left (call_at s.context a) (phase_at s.context a) before
       by_taken true false is isnt = left_taken (call_at s.context a) (phase_at s.context a) made asks
       by_taken true true is isnt = absurd (cc)
       by_taken false before is isnt = absurd (cc)
 
   none_before : is_pending s a ≡ false
-  none_before = ap (λ b. is_requested (phase_at s.context a) && b) was ∙ and_right (is_requested (phase_at s.context a)) false refl
+  none_before =
+      ap (λ b. is_requested (phase_at s.context a) && b) was
+      ∙ and_right (is_requested (phase_at s.context a)) false refl
 
   stands_now : (n : ℕ) → stands n t.reactor ≡ one_if (is_pending t n)
   stands_now n =
-      let more = stands-take n r.script told s.reactor a kind.0 kind.1 (act_fits r.script a knows.script kind.0 kind.1) account.streams in
+      let more =
+      stands-take n r.script told s.reactor a kind.0 kind.1 (act_fits r.script a knows.script kind.0 kind.1) account.streams in
       let before : stands n s.reactor ≡ one_if (is_pending s n) = knows.standing turn.working n in
       elim (cases_eq n a) [
         | inl same ↦
@@ -194,7 +207,10 @@ module _ (told : Bool) (r : Recording) (a : ℕ) (newer : List ℕ) (knows : IsR
 
   changes_take : Changes r.script s t r.ready newer r.stopped r.restarted r.closings
   changes_take = record {
-    kept = taking_keeps r.script told s a r.ready newer knows.script account.marks (let less = left_take in let had = knows.room in let few = knows.within in omega (arith, less, had, few)) waits;
+    kept =
+        taking_keeps r.script told s a r.ready newer knows.script account.marks
+        (let less = left_take in let had = knows.room in let few = knows.within in omega (arith, less, had, few))
+        waits;
     accounted = λ works. account_take r.script told s a knows.script knows.kept.rest account here;
     standing = λ works n. stands_now n;
     ahead = settled-ahead told (performed r.script a s.reactor);
@@ -218,6 +234,8 @@ module _ (told : Bool) (r : Recording) (a : ℕ) (newer : List ℕ) (knows : IsR
         within = let inside = within in let acts = knows.kept.rest.acts in omega (arith, inside, acts);
         untaken = was;
         turned =
-            turned told r (event.Take a) (taken_recording r a newer) (goes_on told r (event.Take a) r.ready newer r.stopped r.restarted r.closings knows may changes_take) refl
-            (settled-clock told (performed r.script a s.reactor)).whole ((runs-take r.script told s.reactor a kind.0 kind.1).failed ∙ turn.working);
+            turned told r (event.Take a) (taken_recording r a newer)
+            (goes_on told r (event.Take a) r.ready newer r.stopped r.restarted r.closings knows may changes_take) refl
+            (settled-clock told (performed r.script a s.reactor)).whole
+            ((runs-take r.script told s.reactor a kind.0 kind.1).failed ∙ turn.working);
       }

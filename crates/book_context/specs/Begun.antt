@@ -10,12 +10,17 @@ use Rattle.strand_core.specs.Hands.{Held, held_at}
 use Rattle.book_context.specs.Book.{unless_spent}
 
 -- the handler of each operation is held, with the marks that are named, and no other is
-pub record HoldsAll {H : Type 0} (marks : H → Marks) (run drop : ℕ → ℕ) (script : ScriptModel) (hands : Held H) : Type 0 where
+pub record HoldsAll {H : Type 0} (marks : H → Marks) (run drop : ℕ → ℕ) (script : ScriptModel)
+    (hands : Held H) : Type 0 where
   pub same_script : hands.script ≡ script
-  pub each : (n : ℕ) → option_map marks (held_at hands n) ≡ unless_spent (not (is_op script n)) (record { run = run n; drop = drop n })
+  pub each : (n : ℕ) →
+      option_map marks (held_at hands n)
+      ≡ unless_spent (not (is_op script n)) (record { run = run n; drop = drop n })
 
 -- a proactor before anything was taken
-pub record IsStarted {X : Type 0} (state : X → ReactorState) (told : X → Option Outside) (faults : X → ℕ) (tells_bytes : Bool) (named : ℕ) (script : ScriptModel) (view : ProactorView X) : Type 0 where
+pub record IsStarted {X : Type 0} (state : X → ReactorState) (told : X → Option Outside)
+    (faults : X → ℕ) (tells_bytes : Bool) (named : ℕ) (script : ScriptModel) (view : ProactorView X)
+    : Type 0 where
   pub same_script : view.script ≡ script
   pub sound : IsSound state told view
   pub follows : Follows told view (first_reactor script tells_bytes)

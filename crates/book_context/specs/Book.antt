@@ -38,7 +38,8 @@ abbrev pub has_fault : List Event → Bool
 has_fault events = list_any is_fault events
 
 -- the history is of the session that is named, and shows the marks that are named
-pub record KeepsHistory (script : ScriptModel) (told : Bool) (run drop : ℕ → ℕ) (outside : Bool) (r : Recording) : Type 0 where
+pub record KeepsHistory (script : ScriptModel) (told : Bool) (run drop : ℕ → ℕ) (outside : Bool)
+    (r : Recording) : Type 0 where
   pub recorded : IsRecorded told r
   pub is_script : r.script ≡ script
   pub marked : HasMarks run drop r.events
@@ -51,35 +52,48 @@ abbrev pub unless_spent : Bool → Marks → Option Marks
 unless_spent true marks = None
 unless_spent false marks = Some marks
 
--- of each operation whose handler wasn't spent the handler is held, with the marks that are named, and no other is
-pub record HoldsUnspent {H : Type 0} (marks : H → Marks) (told : Bool) (run drop : ℕ → ℕ) (r : Recording) (hands : Held H) : Type 0 where
+-- of each operation whose handler wasn't spent the handler is held, with the marks that are named,
+-- and no other is
+pub record HoldsUnspent {H : Type 0} (marks : H → Marks) (told : Bool) (run drop : ℕ → ℕ)
+    (r : Recording) (hands : Held H) : Type 0 where
   pub script : hands.script ≡ r.script
-  pub each : (n : ℕ) → option_map marks (held_at hands n) ≡ unless_spent (not (is_op r.script n) || is_spent_at told r n) (record { run = run n; drop = drop n })
+  pub each : (n : ℕ) →
+      option_map marks (held_at hands n)
+      ≡ unless_spent (not (is_op r.script n) || is_spent_at told r n)
+      (record { run = run n; drop = drop n })
 
 -- the reactor is set up, goes on telling what it told, and its time is that of the history
-pub record ReactorKeepsTime (told : Bool) (half : ReactorHalf) (state : ReactorState) (outside : Option Outside) : Type 0 where
+pub record ReactorKeepsTime (told : Bool) (half : ReactorHalf) (state : ReactorState)
+    (outside : Option Outside) : Type 0 where
   pub tells : tells outside ≡ told
   pub up : IsTrue state.up
   pub now : state.now ≡ half.now
 
--- the proactor works, and is at this half of a history's state; of its turn something may be left to tell
-pub record IsTelling {X : Type 0} (state : X → ReactorState) (told : X → Option Outside) (half : ReactorHalf) (view : ProactorView X) : Type 0 where
+-- the proactor works, and is at this half of a history's state; of its turn something may be left
+-- to tell
+pub record IsTelling {X : Type 0} (state : X → ReactorState) (told : X → Option Outside)
+    (half : ReactorHalf) (view : ProactorView X) : Type 0 where
   pub working : view.tables.failed ≡ false
   pub works : half.failed ≡ false
   pub sound : IsSound state told view
   pub follows : Follows told view half
 
 -- nothing is left to tell
-pub record IsTurned {X : Type 0} (state : X → ReactorState) (told : X → Option Outside) (half : ReactorHalf) (view : ProactorView X) : Type 0 where
+pub record IsTurned {X : Type 0} (state : X → ReactorState) (told : X → Option Outside)
+    (half : ReactorHalf) (view : ProactorView X) : Type 0 where
   pub telling : IsTelling state told half view
   pub told_all : view.tables.due.coming ≡ []
   pub none_due : half.due ≡ []
   pub drained : IsDrained half
 
--- a proactor between its turns; the reactor's count of faults is at least the one that is named, and above it where it has failed
-pub record KeepsReactor {X : Type 0} (state : X → ReactorState) (told : X → Option Outside) (faults : X → ℕ) (tells_bytes : Bool) (named : ℕ) (r : Recording) (view : ProactorView X) : Type 0 where
+-- a proactor between its turns; the reactor's count of faults is at least the one that is named,
+-- and above it where it has failed
+pub record KeepsReactor {X : Type 0} (state : X → ReactorState) (told : X → Option Outside)
+    (faults : X → ℕ) (tells_bytes : Bool) (named : ℕ) (r : Recording) (view : ProactorView X)
+    : Type 0 where
   pub script : view.script ≡ r.script
-  pub in_step : ReactorKeepsTime tells_bytes (recorded_half tells_bytes r) (state view.reactor) (told view.reactor)
+  pub in_step : ReactorKeepsTime tells_bytes (recorded_half tells_bytes r) (state view.reactor)
+      (told view.reactor)
   pub turned : view.tables.failed ≡ false → IsTurned state told (recorded_half tells_bytes r) view
   pub failed : (recorded_half tells_bytes r).failed ≡ view.tables.failed
   pub faulted : has_fault r.events ≡ view.tables.failed
@@ -88,7 +102,9 @@ pub record KeepsReactor {X : Type 0} (state : X → ReactorState) (told : X → 
   pub rose : view.tables.failed ≡ true → Rose named (faults view.reactor)
 
 -- what a book keeps while its lock is free
-pub record IsBook {H X : Type 0} (script : ScriptModel) (told : Bool) (run drop : ℕ → ℕ) (named : ℕ) (outside : Bool) (marks : H → Marks) (state : X → ReactorState) (tells_of : X → Option Outside) (faults : X → ℕ) (r : Recording) (hands : Held H) (view : ProactorView X) : Type 0 where
+pub record IsBook {H X : Type 0} (script : ScriptModel) (told : Bool) (run drop : ℕ → ℕ) (named : ℕ)
+    (outside : Bool) (marks : H → Marks) (state : X → ReactorState) (tells_of : X → Option Outside)
+    (faults : X → ℕ) (r : Recording) (hands : Held H) (view : ProactorView X) : Type 0 where
   pub history : KeepsHistory script told run drop outside r
   pub holds : HoldsUnspent marks told run drop r hands
   pub reactor : KeepsReactor state tells_of faults told named r view

@@ -69,7 +69,8 @@ pub record IsTurnOf (events : List Event) : Type 0 where
   pub completes : All IsDone told
 
 -- the oldest ready operation was executed as a whole, with the marks that are named
-pub record IsExecutionOf (script : ScriptModel) (run : ℕ → ℕ) (ready : List (ℕ × Code × ℕ)) (events : List Event) : Type 0 where
+pub record IsExecutionOf (script : ScriptModel) (run : ℕ → ℕ) (ready : List (ℕ × Code × ℕ))
+    (events : List Event) : Type 0 where
   pub op : ℕ
   pub code : Code
   pub size : ℕ
@@ -104,17 +105,23 @@ pub record IsIdleRound (script : ScriptModel) (s : State) : Type 0 where
   pub no_tick : runs (this_round script s.context) ≡ true → pending_count s.reactor ≡ 0
 
 -- what a turn did, by what it answered
-abbrev pub TurnAnswers : {X : Type 0} → (X → ℕ) → ScriptModel → Bool → (ℕ → ℕ) → BookTurn → BookView X → BookView X → Type 0
+abbrev pub TurnAnswers : {X : Type 0} → (X → ℕ) → ScriptModel → Bool → (ℕ → ℕ) → BookTurn →
+    BookView X → BookView X → Type 0
 TurnAnswers faults script told run turn.Did old new =
-    IsGoing script (recorded_state told old.recording) × HasGoneOn script run old.recording new.recording × (faults new.reactor ≡ faults old.reactor)
+    IsGoing script (recorded_state told old.recording)
+    × HasGoneOn script run old.recording new.recording × (faults new.reactor ≡ faults old.reactor)
 TurnAnswers faults script told run turn.Fault old new =
-    IsGoing script (recorded_state told old.recording) × HasFaulted old.recording new.recording × Rose (faults old.reactor) (faults new.reactor)
-TurnAnswers faults script told run turn.Stopped old new = (new ≡ old) × ((recorded_state told old.recording).context.stopped ≡ true)
+    IsGoing script (recorded_state told old.recording) × HasFaulted old.recording new.recording
+    × Rose (faults old.reactor) (faults new.reactor)
+TurnAnswers faults script told run turn.Stopped old new =
+    (new ≡ old) × ((recorded_state told old.recording).context.stopped ≡ true)
 TurnAnswers faults script told run turn.Ended old new =
-    (new ≡ old) × IsGoing script (recorded_state told old.recording) × (outstanding_work (recorded_state told old.recording) ≡ 0)
+    (new ≡ old) × IsGoing script (recorded_state told old.recording)
+    × (outstanding_work (recorded_state told old.recording) ≡ 0)
 TurnAnswers faults script told run turn.Idle old new =
     (new ≡ old) × ((recorded_state told old.recording).context.stopped ≡ false)
-    × (IsGoing script (recorded_state told old.recording) → IsIdleRound script (recorded_state told old.recording))
+    × (IsGoing script (recorded_state told old.recording) →
+    IsIdleRound script (recorded_state told old.recording))
 
 -- all rounds are closed, or the reactor has failed
 abbrev pub IsBookOver : ScriptModel → Recording → Type 0
@@ -136,4 +143,6 @@ pub record HasClosed (script : ScriptModel) (told : Bool) (old new : Recording) 
 
 -- no closing event may come
 abbrev pub CannotClose : ScriptModel → Bool → Recording → Type 0
-CannotClose script told r = (closing : Event) → IsClosing closing → MayHappen script told (recorded_state told r) closing → ⊥
+CannotClose script told r =
+    (closing : Event) → IsClosing closing → MayHappen script told (recorded_state told r) closing →
+    ⊥

@@ -13,9 +13,11 @@ most_events script = 4 * length script.acts + 2
 abbrev pub ExecutionsAreBounded : Type 0
 ExecutionsAreBounded =
     (script : ScriptModel) (op : ℕ) (code : Code) (size : ℕ) (calls : List Posted) →
-    IsWellFormed script → IsWholeExecution script AnyMark op code size calls → length (events_of script calls) ≤ most_events script
+    IsWellFormed script → IsWholeExecution script AnyMark op code size calls →
+    length (events_of script calls) ≤ most_events script
 
 abbrev pub OpeningsAreBounded : Type 0
 OpeningsAreBounded =
     (script : ScriptModel) (calls : List Posted) →
-    IsWellFormed script → AreCalls script AnyMark (opening_of script) calls → length (events_of script calls) ≤ most_events script
+    IsWellFormed script → AreCalls script AnyMark (opening_of script) calls →
+    length (events_of script calls) ≤ most_events script

@@ -22,7 +22,8 @@ is_called n (posted.End op ran ∷ calls) = is_called n calls
 abbrev pub are_stopping : ScriptModel → List Posted → Bool
 are_stopping script [] = false
 are_stopping script (posted.Begin op code size begun ∷ calls) = are_stopping script calls
-are_stopping script (posted.Call act ∷ calls) = if stops script act then true else are_stopping script calls
+are_stopping script (posted.Call act ∷ calls) =
+    if stops script act then true else are_stopping script calls
 are_stopping script (posted.Back act ∷ calls) = are_stopping script calls
 are_stopping script (posted.End op ran ∷ calls) = are_stopping script calls
 
@@ -31,11 +32,13 @@ abbrev pub called_as : (ActPhase → Bool) → ScriptModel → List Posted → L
 called_as test script [] = []
 called_as test script (posted.Begin op code size begun ∷ calls) = called_as test script calls
 called_as test script (posted.Call act ∷ calls) =
-    if test (accepted script act) then act ∷ called_as test script calls else called_as test script calls
+    if test (accepted script act) then act ∷ called_as test script calls
+    else called_as test script calls
 called_as test script (posted.Back act ∷ calls) = called_as test script calls
 called_as test script (posted.End op ran ∷ calls) = called_as test script calls
 
--- what an act is once its call is back: a dispatch inside its call has ended, and anything else is as its call accepted it
+-- what an act is once its call is back: a dispatch inside its call has ended, and anything else is
+-- as its call accepted it
 abbrev pub settled_phase : ScriptModel → ℕ → ActPhase
 settled_phase script n = if is_inline script n then phase.Ended else accepted script n
 

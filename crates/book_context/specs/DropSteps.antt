@@ -21,17 +21,21 @@ unspent_count s = count_by (λ n. is_unspent (phase_at s n)) (range_with_len 0 (
 abbrev pub UnspentAreCalled : Type 0
 UnspentAreCalled =
     (told : Bool) (r : Recording) (n : ℕ) → IsRecorded told r →
-    is_unspent_at told r n ≡ (is_op r.script n && (slice_index_or r.called n false && not (is_spent_at told r n)))
+    is_unspent_at told r n
+    ≡ (is_op r.script n && (slice_index_or r.called n false && not (is_spent_at told r n)))
 
 -- what executes inside its call isn't unspent at rest
 abbrev pub InlineAreSpent : Type 0
-InlineAreSpent = (told : Bool) (r : Recording) (n : ℕ) → IsRecorded told r → is_inline r.script n ≡ true → is_unspent_at told r n ≡ false
+InlineAreSpent =
+    (told : Bool) (r : Recording) (n : ℕ) → IsRecorded told r → is_inline r.script n ≡ true →
+    is_unspent_at told r n ≡ false
 
 -- no round is left: all are closed, or the reactor has failed
 abbrev pub IsDoneWith : Bool → Recording → Type 0
 IsDoneWith told r = (r.closings ≡ length r.script.rounds) ⊎ ((recorded_half told r).failed ≡ true)
 
--- of what was recorded at the end the unspent handlers below this number are destroyed by now, and no others; in this state
+-- of what was recorded at the end the unspent handlers below this number are destroyed by now, and
+-- no others; in this state
 pub record DropsTo (told : Bool) (r : Recording) (n : ℕ) (t : Recording) (s : State) : Type 0 where
   pub script : t.script ≡ r.script
   pub legal : IsLegalSoFar t.script told t.events
@@ -47,7 +51,8 @@ abbrev pub IsDropping : Bool → Recording → ℕ → Recording → Type 0
 IsDropping told r n t = DropsTo told r n t (recorded_state told t)
 
 abbrev pub DroppingBegins : Type 0
-DroppingBegins = (told : Bool) (r : Recording) → IsRecorded told r → IsDoneWith told r → IsDropping told r 0 r
+DroppingBegins =
+    (told : Bool) (r : Recording) → IsRecorded told r → IsDoneWith told r → IsDropping told r 0 r
 
 -- one more handler is destroyed
 pub record HasDropped (told : Bool) (r : Recording) (n mark : ℕ) (t : Recording) : Type 0 where
@@ -69,4 +74,5 @@ SpentArePassed =
 -- after the last act the history is whole
 abbrev pub DroppedAreLegal : Type 0
 DroppedAreLegal =
-    (told : Bool) (r : Recording) (t : Recording) → IsDropping told r (length r.script.acts) t → IsLegal r.script told t.events
+    (told : Bool) (r : Recording) (t : Recording) → IsDropping told r (length r.script.acts) t →
+    IsLegal r.script told t.events

@@ -16,32 +16,39 @@ use Rattle.book_context.specs.Called.{IsBackSince, are_stopping, is_called}
 use Rattle.book_context.specs.Rest.{IsAtRest}
 
 -- what the calls of an operation's whole execution leave of a context
-pub record IsExecuted (script : ScriptModel) (op : ℕ) (calls : List Posted) (s t : ContextState) : Type 0 where
+pub record IsExecuted (script : ScriptModel) (op : ℕ) (calls : List Posted) (s t : ContextState)
+    : Type 0 where
   pub rest : IsAtRest script t
   pub ended : act_at t op ≡ record (act_at s op) { phase = phase.Ended }
   pub called : (n : ℕ) → is_called n calls ≡ true → IsBackSince script s.events n (act_at t n)
   pub others : (n : ℕ) → is_called n calls ≡ false → n ≢ op → act_at t n ≡ act_at s n
   pub opening : t.opening ≡ s.opening
   pub stopped : t.stopped ≡ (s.stopped || are_stopping script calls)
-  pub allowed : are_stopping script calls ≡ false → t.allowances ≡ (spend (lane_of script op) s).allowances
+  pub allowed : are_stopping script calls ≡ false →
+      t.allowances ≡ (spend (lane_of script op) s).allowances
   pub lanes : length t.allowances.strands ≡ length s.allowances.strands
   pub closings : t.closings ≡ s.closings
   pub restarted : t.restarted ≡ s.restarted
   pub dropping : t.dropping ≡ s.dropping
   pub turn : t.turn ≡ s.turn
-  pub events : s.events + length (events_of script calls) ≤ most_faults → t.events ≡ s.events + length (events_of script calls)
+  pub events : s.events + length (events_of script calls) ≤ most_faults →
+      t.events ≡ s.events + length (events_of script calls)
 
 -- the events of these calls are legal from a state on, and leave the reactor as it is
-pub record IsLegalExecution (script : ScriptModel) (told : Bool) (s : State) (op : ℕ) (calls : List Posted) : Type 0 where
+pub record IsLegalExecution (script : ScriptModel) (told : Bool) (s : State) (op : ℕ)
+    (calls : List Posted) : Type 0 where
   pub legal : IsLegalFrom script told s (events_of script calls)
   pub after : ContextState
-  pub is : state_from script told s (events_of script calls) ≡ record { context = after; reactor = s.reactor }
+  pub is : state_from script told s (events_of script calls)
+      ≡ record { context = after; reactor = s.reactor }
   pub executed : IsExecuted script op calls s.context after
 
 -- an operation that may begin outside a call executes legally, whatever the marks of its ends
 abbrev pub ExecutionsAreLegal : Type 0
 ExecutionsAreLegal =
-    (script : ScriptModel) (told : Bool) (s : State) (op : ℕ) (code : Code) (size : ℕ) (calls : List Posted) →
+    (script : ScriptModel) (told : Bool) (s : State) (op : ℕ) (code : Code) (size : ℕ)
+    (calls : List Posted) →
     IsWellFormed script → IsAtRest script s.context → is_inline script op ≡ false →
-    MayBeginOutside script s.context op code size → IsWholeExecution script AnyMark op code size calls →
+    MayBeginOutside script s.context op code size →
+    IsWholeExecution script AnyMark op code size calls →
     IsLegalExecution script told s op calls

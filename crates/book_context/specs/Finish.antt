@@ -9,9 +9,10 @@ use Rattle.book_context.specs.DropSteps.{IsDropping}
 use Rattle.book_context.specs.Recorded.{IsRecorded}
 use Rattle.book_context.specs.Recording.{Recording}
 
--- of a session that was over, the unspent handlers below a number are destroyed by now, and the others are held as then
-pub record IsEnding {H : Type 0} (marks : H → Marks) (told : Bool) (run drop : ℕ → ℕ) (outside : Bool) (n : ℕ)
-    (t : Recording) (left : Held H) : Type 0 where
+-- of a session that was over, the unspent handlers below a number are destroyed by now, and the
+-- others are held as then
+pub record IsEnding {H : Type 0} (marks : H → Marks) (told : Bool) (run drop : ℕ → ℕ)
+    (outside : Bool) (n : ℕ) (t : Recording) (left : Held H) : Type 0 where
   -- what was recorded and held when it was over
   pub last : Recording
   pub held : Held H

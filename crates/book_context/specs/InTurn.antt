@@ -20,9 +20,11 @@ use Rattle.book_context.specs.Recording.{Recording}
 use Rattle.book_context.specs.Steps.{IsRoundOpen}
 
 -- a turn is under way: of what completes in it something may be left to tell
-pub record IsInTurn {X : Type 0} (state : X → ReactorState) (told : X → Option Outside) (tells_bytes : Bool) (r : Recording) (view : ProactorView X) : Type 0 where
+pub record IsInTurn {X : Type 0} (state : X → ReactorState) (told : X → Option Outside)
+    (tells_bytes : Bool) (r : Recording) (view : ProactorView X) : Type 0 where
   pub script : view.script ≡ r.script
-  pub in_step : ReactorKeepsTime tells_bytes (recorded_half tells_bytes r) (state view.reactor) (told view.reactor)
+  pub in_step : ReactorKeepsTime tells_bytes (recorded_half tells_bytes r) (state view.reactor)
+      (told view.reactor)
   pub telling : IsTelling state told (recorded_half tells_bytes r) view
   pub turn : IsSome (recorded_state tells_bytes r).context.turn
 
@@ -72,7 +74,8 @@ pub record HasBrokenOff (told : Bool) (old new : Recording) (moved : Option Poin
   pub stopped : new.stopped ≡ true
   pub failed : (recorded_half told new).failed ≡ true
   pub faulted : has_fault new.events ≡ true
-  pub now : (recorded_half told new).now ≡ (moved_half old.script told moved (recorded_half told old)).now
+  pub now : (recorded_half told new).now
+      ≡ (moved_half old.script told moved (recorded_half told old)).now
   pub spent : (n : ℕ) → is_spent_at told new n ≡ is_spent_at told old n
 
 -- one whole turn of the reactor came behind the history
@@ -88,13 +91,18 @@ TurnsReactor turn.Fault old new before after = HasFaulted old new × Rose before
 TurnsReactor _ old new before after = ⊥
 
 -- and where there may be none
-abbrev pub Waits : {X : Type 0} → (X → ℕ) → Bool → BookTurn → Recording → Recording → ProactorView X → ProactorView X → Type 0
-Waits faults told turn.Ended old new view left = (new ≡ old) × (left ≡ view) × (outstanding_work (recorded_state told old) ≡ 0)
-Waits faults told turn.Idle old new view left = (new ≡ old) × (left ≡ view) × IsIdleRound old.script (recorded_state told old)
-Waits faults told answer old new view left = TurnsReactor answer old new (faults view.reactor) (faults left.reactor)
+abbrev pub Waits : {X : Type 0} → (X → ℕ) → Bool → BookTurn → Recording → Recording →
+    ProactorView X → ProactorView X → Type 0
+Waits faults told turn.Ended old new view left =
+    (new ≡ old) × (left ≡ view) × (outstanding_work (recorded_state told old) ≡ 0)
+Waits faults told turn.Idle old new view left =
+    (new ≡ old) × (left ≡ view) × IsIdleRound old.script (recorded_state told old)
+Waits faults told answer old new view left =
+    TurnsReactor answer old new (faults view.reactor) (faults left.reactor)
 
 -- the oldest ready operation was executed
-pub record HasExecutedNext {H : Type 0} (marks : H → Marks) (script : ScriptModel) (told : Bool) (run drop : ℕ → ℕ) (outside : Bool) (old new : Recording) (hands : Held H) : Type 0 where
+pub record HasExecutedNext {H : Type 0} (marks : H → Marks) (script : ScriptModel) (told : Bool)
+    (run drop : ℕ → ℕ) (outside : Bool) (old new : Recording) (hands : Held H) : Type 0 where
   pub history : KeepsHistory script told run drop outside new
   pub holds : HoldsUnspent marks told run drop new hands
   pub same_script : new.script ≡ old.script
@@ -103,7 +111,10 @@ pub record HasExecutedNext {H : Type 0} (marks : H → Marks) (script : ScriptMo
   pub gone : HasGoneOn script run old new
 
 -- the reactor took the oldest request
-pub record HasTakenNext {X : Type 0} (state : X → ReactorState) (told : X → Option Outside) (faults : X → ℕ) (script : ScriptModel) (tells_bytes : Bool) (run drop : ℕ → ℕ) (named : ℕ) (outside : Bool) (answer : BookTurn) (old new : Recording) (view left : ProactorView X) : Type 0 where
+pub record HasTakenNext {X : Type 0} (state : X → ReactorState) (told : X → Option Outside)
+    (faults : X → ℕ) (script : ScriptModel) (tells_bytes : Bool) (run drop : ℕ → ℕ) (named : ℕ)
+    (outside : Bool) (answer : BookTurn) (old new : Recording) (view left : ProactorView X)
+    : Type 0 where
   pub history : KeepsHistory script tells_bytes run drop outside new
   pub reactor : KeepsReactor state told faults tells_bytes named new left
   pub same_script : new.script ≡ old.script

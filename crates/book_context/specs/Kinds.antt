@@ -25,8 +25,10 @@ is_accepted phase.Absent = false
 is_accepted phase.Asked = false
 is_accepted _ = true
 
--- an operation that was called was accepted; what has no handler, and what executes inside its call, keeps none unspent
+-- an operation that was called was accepted; what has no handler, and what executes inside its
+-- call, keeps none unspent
 pub record AreOfKind (script : ScriptModel) (s : ContextState) : Type 0 where
-  pub operations : (n : ℕ) → is_op script n ≡ true → was_called (call_at s n) ≡ true → is_accepted (phase_at s n) ≡ true
+  pub operations : (n : ℕ) → is_op script n ≡ true → was_called (call_at s n) ≡ true →
+      is_accepted (phase_at s n) ≡ true
   pub others : (n : ℕ) → is_op script n ≡ false → is_unspent (phase_at s n) ≡ false
   pub inline : (n : ℕ) → is_inline script n ≡ true → is_unspent (phase_at s n) ≡ false

@@ -19,7 +19,8 @@ pub record IsFreeUnlessStopped (script : ScriptModel) (s : ContextState) : Type 
 
 abbrev pub OpeningsLeaveLanesFree : Type 0
 OpeningsLeaveLanesFree =
-    (script : ScriptModel) (calls : List Posted) (t : ContextState) → IsOpened script calls t → IsFreeUnlessStopped script t
+    (script : ScriptModel) (calls : List Posted) (t : ContextState) → IsOpened script calls t →
+    IsFreeUnlessStopped script t
 
 abbrev pub ExecutionsLeaveLanesFree : Type 0
 ExecutionsLeaveLanesFree =
@@ -28,14 +29,17 @@ ExecutionsLeaveLanesFree =
 
 abbrev pub TurnsLeaveLanesFree : Type 0
 TurnsLeaveLanesFree =
-    (script : ScriptModel) (s : ContextState) → IsFreeUnlessStopped script s → IsFreeUnlessStopped script (turn_begun s)
+    (script : ScriptModel) (s : ContextState) → IsFreeUnlessStopped script s →
+    IsFreeUnlessStopped script (turn_begun s)
 
 abbrev pub RestartsFreeLanes : Type 0
 RestartsFreeLanes =
-    (script : ScriptModel) (s : ContextState) → length s.allowances.strands ≡ script.strands → IsFreeUnlessStopped script (after_restart s)
+    (script : ScriptModel) (s : ContextState) → length s.allowances.strands ≡ script.strands →
+    IsFreeUnlessStopped script (after_restart s)
 
 -- a lane of the script that is free may begin something
 abbrev pub FreeLanesMayStart : Type 0
 FreeLanesMayStart =
     (script : ScriptModel) (s : ContextState) (n : ℕ) →
-    IsWellFormed script → IsFreeUnlessStopped script s → s.stopped ≡ false → MayStart s (lane_of script n)
+    IsWellFormed script → IsFreeUnlessStopped script s → s.stopped ≡ false →
+    MayStart s (lane_of script n)

@@ -1,4 +1,5 @@
--- How many more events a session may have: what each act may still show, and time points, rounds and a failure of the reactor.
+-- How many more events a session may have: what each act may still show, and time points, rounds
+-- and a failure of the reactor.
 use Rattle.std.specs.Prelude.{◌≤◌, ℕ, ◌+◌, ◌*◌, ◌-◌, Bool, length, sum_by, if◌then◌else◌}
 use Rattle.std.specs.List.{range_with_len}
 use Rattle.session_script.specs.Script.{ScriptModel}
@@ -10,8 +11,8 @@ use Rattle.history_book.specs.declared.phase.CallPhase.TheVariants as call
 use Rattle.history_book.specs.Order.{was_taken}
 use Rattle.history_book.specs.State.{State, call_at, first_state, phase_at}
 
--- an operation that is ready begins and ends; one that was taken is told before, and a request is taken before that. That
--- a wait's expiry may take a tick is counted with the waits
+-- an operation that is ready begins and ends; one that was taken is told before, and a request is
+-- taken before that. That a wait's expiry may take a tick is counted with the waits
 abbrev pub phase_left : ActPhase → Bool → ℕ
 phase_left phase.Absent taken = 0
 phase_left phase.Inside taken = 2
@@ -33,11 +34,13 @@ act_left_at s n = act_left (call_at s.context n) (phase_at s.context n) (was_tak
 abbrev pub one_unless : Bool → ℕ
 one_unless happened = if happened then 0 else 1
 
--- a round is closed once, and restarted at most once; a restart lets the context be stopped from outside once more
+-- a round is closed once, and restarted at most once; a restart lets the context be stopped from
+-- outside once more
 abbrev pub rounds_left : ℕ → Bool → ℕ
 rounds_left rounds restarted = rounds + 2 * (if restarted then rounds - 1 else rounds)
 
--- each event of an act, of a time point and of a round, a failure, and a stop from outside, which comes where the context isn't stopped
+-- each event of an act, of a time point and of a round, a failure, and a stop from outside, which
+-- comes where the context isn't stopped
 abbrev pub events_left : ScriptModel → State → ℕ
 events_left script s =
     sum_by (act_left_at s) (range_with_len 0 (length s.context.acts))
@@ -55,4 +58,6 @@ most_history script =
 
 -- that many are left before the first event
 abbrev pub SessionsAreBounded : Type 0
-SessionsAreBounded = (script : ScriptModel) (told : Bool) → events_left script (first_state script told) ≤ most_history script
+SessionsAreBounded =
+    (script : ScriptModel) (told : Bool) →
+    events_left script (first_state script told) ≤ most_history script

@@ -13,8 +13,10 @@ use Rattle.book_context.specs.Order.{IsKept}
 -- in an open round the oldest ready operation may begin, if its lane may
 abbrev pub OldestMayBegin : Type 0
 OldestMayBegin =
-    (script : ScriptModel) (s : State) (op : ℕ) (code : Code) (size : ℕ) (newer : List (ℕ × Code × ℕ)) (requests : List ℕ) →
-    IsKept script s ((op, code, size) ∷ newer) requests → RoundIsOpen script s.context → MayStart s.context (lane_of script op) →
+    (script : ScriptModel) (s : State) (op : ℕ) (code : Code) (size : ℕ)
+    (newer : List (ℕ × Code × ℕ)) (requests : List ℕ) →
+    IsKept script s ((op, code, size) ∷ newer) requests → RoundIsOpen script s.context →
+    MayStart s.context (lane_of script op) →
     MayBeginOutside script s.context op code size
 
 -- where a turn of the reactor may begin it may take the oldest request

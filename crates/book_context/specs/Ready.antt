@@ -16,7 +16,8 @@ abbrev pub is_ready : ActPhase → Bool
 is_ready (phase.Ready code size why) = true
 is_ready _ = false
 
--- where an operation became ready: a posting where it was called, any other where its completion was told
+-- where an operation became ready: a posting where it was called, any other where its completion
+-- was told
 abbrev pub ready_since : CallPhase → ActPhase → ℕ
 ready_since made (phase.Ready code size cause.Posted) = called_at made
 ready_since made (phase.Ready code size (cause.Completed done turn)) = done
@@ -39,7 +40,8 @@ pub record AreReady (s : ContextState) (ready : List (ℕ × Code × ℕ)) : Typ
 pub record AreUntaken (s : State) (requests : List ℕ) : Type 0 where
   pub each : All (λ n. is_untaken s n ≡ true) requests
   pub all : (n : ℕ) → is_untaken s n ≡ true → Any (λ request. request ≡ n) requests
-  pub oldest_first : AllPairs (λ older newer. asked_at s.context older < asked_at s.context newer) requests
+  pub oldest_first : AllPairs (λ older newer. asked_at s.context older < asked_at s.context newer)
+      requests
 
 -- the places of a call are behind us, the return after the call
 abbrev pub IsCallPast : ℕ → CallPhase → Type 0
@@ -62,10 +64,12 @@ pub record IsDated (s : ContextState) : Type 0 where
 -- the oldest ready operation is the first of its lane
 abbrev pub OldestIsFirstOfLane : Type 0
 OldestIsFirstOfLane =
-    (script : ScriptModel) (s : ContextState) (op : ℕ) (code : Code) (size : ℕ) (newer : List (ℕ × Code × ℕ)) →
+    (script : ScriptModel) (s : ContextState) (op : ℕ) (code : Code) (size : ℕ)
+    (newer : List (ℕ × Code × ℕ)) →
     IsDated s → AreReady s ((op, code, size) ∷ newer) → IsFirstOfLane script s op
 
 -- the oldest untaken request is the first
 abbrev pub OldestIsFirstRequest : Type 0
 OldestIsFirstRequest =
-    (s : State) (a : ℕ) (newer : List ℕ) → IsDated s.context → AreUntaken s (a ∷ newer) → IsFirstRequest s a
+    (s : State) (a : ℕ) (newer : List ℕ) → IsDated s.context → AreUntaken s (a ∷ newer) →
+    IsFirstRequest s a

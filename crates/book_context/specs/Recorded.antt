@@ -1,4 +1,5 @@
--- That what a context has recorded is a legal history so far, with the state of which it knows what it needs.
+-- That what a context has recorded is a legal history so far, with the state of which it knows what
+-- it needs.
 use Rattle.std.specs.Prelude.{◌≡◌, ◌<◌, ◌≤◌, ℕ, ◌+◌, Bool, false, length}
 use Rattle.std.specs.List.{slice_index_or}
 use Rattle.asio_types.specs.Faults.{most_faults}
@@ -37,7 +38,8 @@ pub record Knows (told : Bool) (r : Recording) (s : State) : Type 0 where
   pub ahead : AllAhead s.reactor
   pub kinds : AreOfKind r.script s.context
   pub free : IsFreeUnlessStopped r.script s.context
-  pub opened : s.context.opening ≡ record { made = length (opening_of r.script); back = length (opening_of r.script) }
+  pub opened : s.context.opening
+      ≡ record { made = length (opening_of r.script); back = length (opening_of r.script) }
   pub called : (n : ℕ) → slice_index_or r.called n false ≡ was_called (call_at s.context n)
   pub called_size : length r.called ≡ length r.script.acts
   pub stopped : s.context.stopped ≡ r.stopped
@@ -48,6 +50,7 @@ pub record Knows (told : Bool) (r : Recording) (s : State) : Type 0 where
   -- events are counted within 64 bits
   pub within : s.context.events + r.spare < most_faults
 
--- what holds of a context whenever its lock is free, until handlers are destroyed; told says whether bytes are told
+-- what holds of a context whenever its lock is free, until handlers are destroyed; told says
+-- whether bytes are told
 abbrev pub IsRecorded : Bool → Recording → Type 0
 IsRecorded told r = Knows told r (recorded_state told r)

@@ -1,5 +1,5 @@
--- What a context has recorded while its lock is free, and what each of its steps makes of that. A running context keeps this and
--- no state of a history.
+-- What a context has recorded while its lock is free, and what each of its steps makes of that. A
+-- running context keeps this and no state of a history.
 use Rattle.std.specs.Prelude.{◌≡◌, ℕ, ◌+◌, ◌-◌, ◌≤◌, Bool, true, false, ◌||◌, List, [], ◌∷◌, ◌++◌, None, length, replicate, slice_set}
 use Rattle.asio_types.specs.declared.code.Code.{Code}
 use Rattle.asio_types.specs.declared.event.Event.{Event}
@@ -55,7 +55,8 @@ marked (posted.Call act ∷ calls) called = marked calls (slice_set called act t
 marked (posted.Back act ∷ calls) called = marked calls called
 marked (posted.End op ran ∷ calls) called = marked calls called
 
--- the calls of an execution, or of `open`, were made: what they called is behind the others, and a stop among them stops the context
+-- the calls of an execution, or of `open`, were made: what they called is behind the others, and a
+-- stop among them stops the context
 abbrev pub with_calls : List Posted → Recording → Recording
 with_calls calls r = record r {
   events = r.events ++ events_of r.script calls;
@@ -68,7 +69,8 @@ with_calls calls r = record r {
 
 -- an operation completed: it is ready behind the others
 abbrev pub with_done : ℕ → Code → ℕ → Recording → Recording
-with_done op code size r = record (with_event (event.Done op code size) r) { ready = r.ready ++ (op, code, size) ∷ [] }
+with_done op code size r =
+    record (with_event (event.Done op code size) r) { ready = r.ready ++ (op, code, size) ∷ [] }
 
 -- the reactor has failed, which stops the context
 abbrev pub with_fault : Recording → Recording
@@ -81,7 +83,8 @@ with_outside_stop r = record (with_event (event.Stop None) r) { stopped = true }
 -- the round is closed; only after polling it goes on
 abbrev pub with_closing : Event → Bool → Recording → Recording
 with_closing closing stopped r =
-    record (with_event closing r) { stopped = stopped; restarted = false; closings = r.closings + 1 }
+    record (with_event closing r)
+    { stopped = stopped; restarted = false; closings = r.closings + 1 }
 
 -- io_context::restart
 abbrev pub with_restart : Recording → Recording
@@ -104,8 +107,10 @@ pub record HasCalledOpening (old new : Recording) : Type 0 where
   pub are : AreCalls old.script AnyMark (opening_of old.script) calls
   pub is : new ≡ with_calls calls old
 
--- one whole execution was made with the handlers that were held, and those that began in it are spent
-pub record HasRecorded {H : Type 0} (marks : H → Marks) (op : ℕ) (code : Code) (size : ℕ) (old new : Recording) (held left : Held H) : Type 0 where
+-- one whole execution was made with the handlers that were held, and those that began in it are
+-- spent
+pub record HasRecorded {H : Type 0} (marks : H → Marks) (op : ℕ) (code : Code) (size : ℕ)
+    (old new : Recording) (held left : Held H) : Type 0 where
   pub calls : List Posted
   pub whole : IsWholeExecution old.script (HasRunMark marks held) op code size calls
   pub script : left.script ≡ held.script

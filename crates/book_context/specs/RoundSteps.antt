@@ -12,13 +12,16 @@ use Rattle.book_context.specs.TurnSteps.{CanTurnNow}
 abbrev pub WorkIsKnown : Type 0
 WorkIsKnown =
     (told : Bool) (r : Recording) → IsRecorded told r → (recorded_half told r).failed ≡ false →
-    outstanding_work (recorded_state told r) ≡ length r.ready + length r.requests + pending_count (recorded_half told r) + count_by is_held (recorded_half told r).guards
+    outstanding_work (recorded_state told r)
+    ≡ length r.ready + length r.requests + pending_count (recorded_half told r)
+    + count_by is_held (recorded_half told r).guards
 
 -- the context ran out of work
 abbrev pub EndsAreRecorded : Type 0
 EndsAreRecorded =
     (told : Bool) (r : Recording) →
-    IsRecorded told r → IsRoundOpen r → r.stopped ≡ false → outstanding_work (recorded_state told r) ≡ 0 →
+    IsRecorded told r → IsRoundOpen r → r.stopped ≡ false →
+    outstanding_work (recorded_state told r) ≡ 0 →
     EventIsRecorded told r event.Ended (with_closing event.Ended true r)
 
 -- the context was stopped, and its reactor has nothing left to tell
@@ -31,7 +34,8 @@ pub record IsHalted (told : Bool) (r : Recording) : Type 0 where
 
 abbrev pub StopsAreRecorded : Type 0
 StopsAreRecorded =
-    (told : Bool) (r : Recording) → IsRecorded told r → IsHalted told r → EventIsRecorded told r event.Stopped (with_closing event.Stopped true r)
+    (told : Bool) (r : Recording) → IsRecorded told r → IsHalted told r →
+    EventIsRecorded told r event.Stopped (with_closing event.Stopped true r)
 
 -- polling has done all that it can without waiting
 pub record IsPolled (told : Bool) (r : Recording) : Type 0 where
@@ -43,7 +47,8 @@ pub record IsPolled (told : Bool) (r : Recording) : Type 0 where
 
 abbrev pub PollsAreRecorded : Type 0
 PollsAreRecorded =
-    (told : Bool) (r : Recording) → IsRecorded told r → IsPolled told r → EventIsRecorded told r event.Polled (with_closing event.Polled false r)
+    (told : Bool) (r : Recording) → IsRecorded told r → IsPolled told r →
+    EventIsRecorded told r event.Polled (with_closing event.Polled false r)
 
 -- the round wants a restart, which hasn't come
 pub record WantsRestart (told : Bool) (r : Recording) : Type 0 where
@@ -54,10 +59,12 @@ pub record WantsRestart (told : Bool) (r : Recording) : Type 0 where
 
 abbrev pub RestartsAreRecorded : Type 0
 RestartsAreRecorded =
-    (told : Bool) (r : Recording) → IsRecorded told r → WantsRestart told r → EventIsRecorded told r event.Restart (with_restart r)
+    (told : Bool) (r : Recording) → IsRecorded told r → WantsRestart told r →
+    EventIsRecorded told r event.Restart (with_restart r)
 
 -- somebody outside stops a context that isn't stopped; room for that is reserved
 abbrev pub OutsideStopsAreRecorded : Type 0
 OutsideStopsAreRecorded =
     (told : Bool) (r : Recording) →
-    IsRecorded told r → IsRoundOpen r → r.stopped ≡ false → EventIsRecorded told r (event.Stop None) (with_outside_stop r)
+    IsRecorded told r → IsRoundOpen r → r.stopped ≡ false →
+    EventIsRecorded told r (event.Stop None) (with_outside_stop r)

@@ -23,25 +23,34 @@ is_of_call (event.End o mark) = true
 is_of_call _ = false
 
 abbrev pub CallsShowTheirEvents : Type 0
-CallsShowTheirEvents = (script : ScriptModel) (calls : List Posted) → All (λ event. is_of_call event ≡ true) (events_of script calls)
+CallsShowTheirEvents =
+    (script : ScriptModel) (calls : List Posted) →
+    All (λ event. is_of_call event ≡ true) (events_of script calls)
 
 -- an execution whose handlers have these marks is one with any marks
 abbrev pub AnyMarkServes : Type 0
 AnyMarkServes =
     (script : ScriptModel) (run : ℕ → ℕ) (op : ℕ) (code : Code) (size : ℕ) (calls : List Posted) →
-    IsWholeExecution script (IsRunMark run) op code size calls → IsWholeExecution script AnyMark op code size calls
+    IsWholeExecution script (IsRunMark run) op code size calls →
+    IsWholeExecution script AnyMark op code size calls
 
 -- an execution shows the marks of its handlers
 abbrev pub ExecutionsShowMarks : Type 0
 ExecutionsShowMarks =
-    (script : ScriptModel) (run drop : ℕ → ℕ) (op : ℕ) (code : Code) (size : ℕ) (calls : List Posted) →
-    IsWholeExecution script (IsRunMark run) op code size calls → HasMarks run drop (events_of script calls)
+    (script : ScriptModel) (run drop : ℕ → ℕ) (op : ℕ) (code : Code) (size : ℕ)
+    (calls : List Posted) →
+    IsWholeExecution script (IsRunMark run) op code size calls →
+    HasMarks run drop (events_of script calls)
 
 -- in the calls of `open` no handler executes
 abbrev pub OpeningsShowNoMarks : Type 0
 OpeningsShowNoMarks =
     (script : ScriptModel) (run drop : ℕ → ℕ) (calls : List Posted) →
-    IsWellFormed script → AreCalls script AnyMark (opening_of script) calls → HasMarks run drop (events_of script calls)
+    IsWellFormed script → AreCalls script AnyMark (opening_of script) calls →
+    HasMarks run drop (events_of script calls)
 
 abbrev pub MarksGoOn : Type 0
-MarksGoOn = (run drop : ℕ → ℕ) (first rest : List Event) → HasMarks run drop first → HasMarks run drop rest → HasMarks run drop (first ++ rest)
+MarksGoOn =
+    (run drop : ℕ → ℕ) (first rest : List Event) → HasMarks run drop first →
+    HasMarks run drop rest →
+    HasMarks run drop (first ++ rest)

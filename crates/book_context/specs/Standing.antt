@@ -13,7 +13,9 @@ queued_of n queues = count_by (is_of n) queues.reads + count_by (is_of n) queues
 
 -- how often an operation stands among the waits, in the queues of streams, and among what is due
 abbrev pub stands : ℕ → ReactorHalf → ℕ
-stands n r = count_by (is_wait_for n) r.waits + sum_by (queued_of n) r.queues + count_by (is_completion_of n) r.due
+stands n r =
+    count_by (is_wait_for n) r.waits + sum_by (queued_of n) r.queues
+    + count_by (is_completion_of n) r.due
 
 -- once, where it is pending
 abbrev pub IsStanding : State → Type 0

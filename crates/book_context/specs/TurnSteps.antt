@@ -44,7 +44,8 @@ TakesAreRecorded =
     IsRecorded told r → CanTurnNow told r → r.requests ≡ a ∷ newer → HasTaken told r a newer
 
 -- what may be told is pending, and then ready behind the others
-pub record CompletionIsRecorded (told : Bool) (r : Recording) (op : ℕ) (code : Code) (size : ℕ) : Type 0 where
+pub record CompletionIsRecorded (told : Bool) (r : Recording) (op : ℕ) (code : Code) (size : ℕ)
+    : Type 0 where
   pub requested : phase_at (recorded_state told r).context op ≡ phase.Requested
   pub taken : was_taken (recorded_half told r) op ≡ true
   pub place : length r.ready < length r.script.acts
@@ -55,8 +56,10 @@ pub record CompletionIsRecorded (told : Bool) (r : Recording) (op : ℕ) (code :
 abbrev pub CompletionsAreRecorded : Type 0
 CompletionsAreRecorded =
     (told : Bool) (r : Recording) (op : ℕ) (code : Code) (size : ℕ) →
-    IsRecorded told r → (recorded_half told r).failed ≡ false → IsSome (recorded_state told r).context.turn →
-    MayTell r.script told (recorded_half told r) op code size → CompletionIsRecorded told r op code size
+    IsRecorded told r → (recorded_half told r).failed ≡ false →
+    IsSome (recorded_state told r).context.turn →
+    MayTell r.script told (recorded_half told r) op code size →
+    CompletionIsRecorded told r op code size
 
 -- nothing is left to do but to wait for the outside
 pub record IsWaiting (told : Bool) (r : Recording) : Type 0 where
@@ -69,7 +72,8 @@ pub record IsWaiting (told : Bool) (r : Recording) : Type 0 where
 abbrev pub TicksAreRecorded : Type 0
 TicksAreRecorded =
     (told : Bool) (r : Recording) (now : ℕ) →
-    IsRecorded told r → IsWaiting told r → next_time r.script (recorded_half told r) ≡ point.Time now →
+    IsRecorded told r → IsWaiting told r →
+    next_time r.script (recorded_half told r) ≡ point.Time now →
     TurnIsBegun told r (event.Tick now) (with_event (event.Tick now) r)
 
 abbrev pub LastIsRecorded : Type 0
@@ -88,4 +92,5 @@ abbrev pub FaultsAreRecorded : Type 0
 FaultsAreRecorded =
     (told : Bool) (r : Recording) →
     IsRecorded told r → IsRoundOpen r → (recorded_half told r).failed ≡ false →
-    ((recorded_half told r).whole_turn ≡ true) ⊎ ((recorded_half told r).due ≡ []) → HasFailed told r
+    ((recorded_half told r).whole_turn ≡ true) ⊎ ((recorded_half told r).due ≡ []) →
+    HasFailed told r

@@ -15,16 +15,23 @@ use Rattle.book_context.specs.Order.{IsKept}
 -- when the oldest request is taken, the others wait as before
 abbrev pub TakingKeepsOrder : Type 0
 TakingKeepsOrder =
-    (script : ScriptModel) (told : Bool) (s : State) (a : ℕ) (ready : List (ℕ × Code × ℕ)) (newer : List ℕ) →
-    IsWellFormed script → length s.reactor.taken ≡ length script.acts → s.context.events + 1 < most_faults →
-    IsKept script s ready (a ∷ newer) → IsKept script (after_event script told s (event.Take a)) ready newer
+    (script : ScriptModel) (told : Bool) (s : State) (a : ℕ) (ready : List (ℕ × Code × ℕ))
+    (newer : List ℕ) →
+    IsWellFormed script → length s.reactor.taken ≡ length script.acts →
+    s.context.events + 1 < most_faults →
+    IsKept script s ready (a ∷ newer) →
+    IsKept script (after_event script told s (event.Take a)) ready newer
 
 -- when an operation that was taken completes, it is ready behind all others
 abbrev pub TellingKeepsOrder : Type 0
 TellingKeepsOrder =
-    (script : ScriptModel) (told : Bool) (s : State) (op : ℕ) (code : Code) (size : ℕ) (ready : List (ℕ × Code × ℕ)) (requests : List ℕ) →
-    phase_at s.context op ≡ phase.Requested → was_taken s.reactor op ≡ true → s.context.events + 1 < most_faults →
-    IsKept script s ready requests → IsKept script (after_event script told s (event.Done op code size)) (ready ++ (op, code, size) ∷ []) requests
+    (script : ScriptModel) (told : Bool) (s : State) (op : ℕ) (code : Code) (size : ℕ)
+    (ready : List (ℕ × Code × ℕ)) (requests : List ℕ) →
+    phase_at s.context op ≡ phase.Requested → was_taken s.reactor op ≡ true →
+    s.context.events + 1 < most_faults →
+    IsKept script s ready requests →
+    IsKept script (after_event script told s (event.Done op code size))
+    (ready ++ (op, code, size) ∷ []) requests
 
 -- what changes neither an act nor what was taken changes neither list
 pub record IsSameOrder (s t : State) : Type 0 where

@@ -21,8 +21,11 @@ is_pending s n = is_requested (phase_at s.context n) && was_taken s.reactor n
 abbrev pub pending_acts : State → ℕ
 pending_acts s = count_by (is_pending s) (range_with_len 0 (length s.context.acts))
 
--- at rest the outstanding work is what is ready, what waits to be taken, what is pending, and the guards
+-- at rest the outstanding work is what is ready, what waits to be taken, what is pending, and the
+-- guards
 abbrev pub WorkIsListed : Type 0
 WorkIsListed =
-    (script : ScriptModel) (s : State) (ready : List (ℕ × Code × ℕ)) (requests : List ℕ) → IsKept script s ready requests →
-    outstanding_work s ≡ length ready + length requests + pending_acts s + count_by is_held s.reactor.guards
+    (script : ScriptModel) (s : State) (ready : List (ℕ × Code × ℕ)) (requests : List ℕ) →
+    IsKept script s ready requests →
+    outstanding_work s
+    ≡ length ready + length requests + pending_acts s + count_by is_held s.reactor.guards

@@ -29,11 +29,13 @@ use std::alloc::Global;
 use std::marker::{Model, PhantomData};
 use strand_core::Hands;
 
-/// A context on one thread: a script's session under way (Asio reference, io_context). It holds the handlers, what the reactor
-/// has under way, and the history so far. `N` names whether others than its handlers may stop it. It must be finished.
+/// A context on one thread: a script's session under way (Asio reference, io_context). It holds the
+/// handlers, what the reactor has under way, and the history so far. `N` names whether others than
+/// its handlers may stop it. It must be finished.
 ///
-/// It keeps that the history is legal so far and shows the marks that `N` names, that no handler runs, and that the reactor
-/// has nothing left to tell. Contracts see what is recorded, and the reactor.
+/// It keeps that the history is legal so far and shows the marks that `N` names, that no handler
+/// runs, and that the reactor has nothing left to tell. Contracts see what is recorded, and the
+/// reactor.
 pub struct Book<'a, X: Reactor, H: CompletionHandler, N: Session> {
     record: Record<'a>,
     hands: Hands<'a, H>,
@@ -48,12 +50,15 @@ impl<'a, X: Reactor, H: CompletionHandler, N: Session> Model for Book<'a, X, H, 
 
     ghost view = { λ b. record { recording = b.record; reactor = b.proactor.reactor } };
 
-    ghost invariant = { λ b. IsBook N.script N.told N.run N.drop N.faults N.outside H.marks X.state X.told X.faults b.record b.hands b.proactor };
+    ghost invariant = { λ b.
+        IsBook N.script N.told N.run N.drop N.faults N.outside H.marks X.state X.told X.faults
+        b.record b.hands b.proactor };
 }
 
 impl<'a, X: Reactor, H: CompletionHandler, N: Session> Book<'a, X, H, N> {
-    /// Takes the handlers of the script's operations from the rack, sets the reactor up, and makes the calls of `open`. Takes
-    /// all memory that the session needs. After a refusal the rack is as before.
+    /// Takes the handlers of the script's operations from the rack, sets the reactor up, and makes
+    /// the calls of `open`. Takes all memory that the session needs. After a refusal the rack is as
+    /// before.
     pub fn make(
         alloc: Global,
         script: &'a Script,
@@ -64,14 +69,18 @@ impl<'a, X: Reactor, H: CompletionHandler, N: Session> Book<'a, X, H, N> {
         requires told { N.told ≡ tells (X.told reactor) }
         requires faults { N.faults ≡ X.faults reactor }
         requires marks { (n : ℕ) → is_op script.now n ≡ true →
-            option_map H.marks (handler_at rack.old n) ≡ Some (record { run = N.run n; drop = N.drop n }) }
+            option_map H.marks (handler_at rack.old n)
+            ≡ Some (record { run = N.run n; drop = N.drop n }) }
         ensures left { OnOk result ((n : ℕ) →
             handler_at rack.new n ≡ left_at (is_op script.now n) (handler_at rack.old n)) }
-        ensures count { OnOk result (length (handlers_in rack.new) ≡ length (handlers_in rack.old)) }
+        ensures count { OnOk result
+            (length (handlers_in rack.new) ≡ length (handlers_in rack.old)) }
         ensures kept { OnErr result (handlers_in rack.new ≡ handlers_in rack.old) }
         ensures counts { IfErr result (λ back. CountsRefusal back.0 N.faults (X.faults back.1)) }
-        ensures refused { IfErr result (λ back. back.0 ≡ SetupFault.Failed → (X.state back.1).up ≡ false) }
-        ensures still_told { IfErr result (λ back. back.0 ≡ SetupFault.Failed → tells (X.told back.1) ≡ N.told) }
+        ensures refused { IfErr result
+            (λ back. back.0 ≡ SetupFault.Failed → (X.state back.1).up ≡ false) }
+        ensures still_told { IfErr result
+            (λ back. back.0 ≡ SetupFault.Failed → tells (X.told back.1) ≡ N.told) }
     {
         let mut record = match Record::make(alloc, script) {
             Ok(record) => record,

@@ -23,8 +23,8 @@ use std::alloc::Global;
 use std::sync::{Mutex, Wait};
 use std::thread;
 
-/// A context whose calls may come from any thread: one lock round a book. A handler executes inside one hold of the lock. It
-/// must be finished.
+/// A context whose calls may come from any thread: one lock round a book. A handler executes inside
+/// one hold of the lock. It must be finished.
 pub struct BookContext<'a, X: Reactor, H: CompletionHandler, N: Session> {
     book: Mutex<Book<'a, X, H, N>>,
 }
@@ -72,8 +72,9 @@ fn close_rounds<'a, X: Reactor, H: CompletionHandler, N: Session, R: Wait>(
 }
 
 impl<'a, X: Reactor, H: CompletionHandler, N: Session> BookContext<'a, X, H, N> {
-    /// Takes the handlers of the script's operations from the rack, sets the reactor up, and makes the calls of `open`. Takes
-    /// all memory that the session needs. After a refusal the rack is as before.
+    /// Takes the handlers of the script's operations from the rack, sets the reactor up, and makes
+    /// the calls of `open`. Takes all memory that the session needs. After a refusal the rack is as
+    /// before.
     pub fn make(
         alloc: Global,
         script: &'a Script,
@@ -84,14 +85,18 @@ impl<'a, X: Reactor, H: CompletionHandler, N: Session> BookContext<'a, X, H, N> 
         requires told { N.told ≡ tells (X.told reactor) }
         requires faults { N.faults ≡ X.faults reactor }
         requires marks { (n : ℕ) → is_op script.now n ≡ true →
-            option_map H.marks (handler_at rack.old n) ≡ Some (record { run = N.run n; drop = N.drop n }) }
+            option_map H.marks (handler_at rack.old n)
+            ≡ Some (record { run = N.run n; drop = N.drop n }) }
         ensures left { OnOk result ((n : ℕ) →
             handler_at rack.new n ≡ left_at (is_op script.now n) (handler_at rack.old n)) }
-        ensures count { OnOk result (length (handlers_in rack.new) ≡ length (handlers_in rack.old)) }
+        ensures count { OnOk result
+            (length (handlers_in rack.new) ≡ length (handlers_in rack.old)) }
         ensures kept { OnErr result (handlers_in rack.new ≡ handlers_in rack.old) }
         ensures counts { IfErr result (λ back. CountsRefusal back.0 N.faults (X.faults back.1)) }
-        ensures refused { IfErr result (λ back. back.0 ≡ SetupFault.Failed → (X.state back.1).up ≡ false) }
-        ensures still_told { IfErr result (λ back. back.0 ≡ SetupFault.Failed → tells (X.told back.1) ≡ N.told) }
+        ensures refused { IfErr result
+            (λ back. back.0 ≡ SetupFault.Failed → (X.state back.1).up ≡ false) }
+        ensures still_told { IfErr result
+            (λ back. back.0 ≡ SetupFault.Failed → tells (X.told back.1) ≡ N.told) }
     {
         let book = Book::make(alloc, script, rack, reactor)?;
         Ok(BookContext {
@@ -99,8 +104,9 @@ impl<'a, X: Reactor, H: CompletionHandler, N: Session> BookContext<'a, X, H, N> 
         })
     }
 
-    /// Takes turns, each under the lock, until the context ended, was stopped or failed, or nothing is to be done and the round
-    /// doesn't run (Asio reference, io_context::run and ::poll). Any number of threads may call it.
+    /// Takes turns, each under the lock, until the context ended, was stopped or failed, or nothing
+    /// is to be done and the round doesn't run (Asio reference, io_context::run and ::poll). Any
+    /// number of threads may call it.
     pub fn run<R: Wait>(&self, rt: &R) {
         for _ in rt.forever() {
             let (turn, runs) = self.one_turn(rt);
@@ -135,14 +141,16 @@ impl<'a, X: Reactor, H: CompletionHandler, N: Session> BookContext<'a, X, H, N> 
         self.book.get_mut().restart();
     }
 
-    /// A stop from no handler (Asio reference, io_context::stop), where a round is open that isn't stopped.
+    /// A stop from no handler (Asio reference, io_context::stop), where a round is open that isn't
+    /// stopped.
     pub fn stop<R: Wait>(&self, rt: &R)
         requires allowed { N.outside ≡ true }
     {
         self.book.lock(rt).stop();
     }
 
-    /// Closes the rounds that are left, destroys the handlers that never ran, and gives the history and the reactor back.
+    /// Closes the rounds that are left, destroys the handlers that never ran, and gives the history
+    /// and the reactor back.
     pub fn finish<R: Wait>(self, rt: &R) -> (History, X)
         ensures legal { IsLegal N.script N.told result.0.events }
         ensures marked { HasMarks N.run N.drop result.0.events }
@@ -151,11 +159,14 @@ impl<'a, X: Reactor, H: CompletionHandler, N: Session> BookContext<'a, X, H, N> 
         ensures rose { Contains result.0.events event.Fault → Rose N.faults (X.faults result.1) }
         ensures set_up { result.0.events ≡ event.Fault ∷ [] → ⊥ }
         ensures up { IsTrue (X.state result.1).up }
-        ensures now { (X.state result.1).now ≡ (state_of N.script N.told result.0.events).reactor.now }
+        ensures now { (X.state result.1).now
+            ≡ (state_of N.script N.told result.0.events).reactor.now }
         ensures told { tells (X.told result.1) ≡ N.told }
-        ensures sent { (Contains result.0.events event.Fault → ⊥) → IfSome (X.told result.1) (λ outside.
+        ensures sent { (Contains result.0.events event.Fault → ⊥) →
+            IfSome (X.told result.1) (λ outside.
             map (λ stream. stream.sent) outside.streams
-            ≡ map (λ stream. stream.sent) (state_of N.script N.told result.0.events).reactor.streams) }
+            ≡ map (λ stream. stream.sent)
+            (state_of N.script N.told result.0.events).reactor.streams) }
     {
         let BookContext { book } = self;
         let mut book = book.into_inner();

@@ -16,73 +16,76 @@ ghost use Rattle.book_context.specs.TurnSteps.{CompletionsAreRecorded, FaultsAre
 ghost use Rattle.book_context.specs.Turns.{OthersKeepOrder, TakingKeepsOrder, TellingKeepsOrder};
 ghost use Rattle.book_context.specs.Work.{WorkIsListed};
 
-/// Where a ready handler may begin outside a call, the events of its whole execution are legal one after another, with the
-/// executions inside it and whatever its branch calls. They end it, leave each act that was called back and at rest, and
-/// change nothing else but what a stop does.
+/// Where a ready handler may begin outside a call, the events of its whole execution are legal one
+/// after another, with the executions inside it and whatever its branch calls. They end it, leave
+/// each act that was called back and at rest, and change nothing else but what a stop does.
 pub fn executions_are_legal()
     ensures { ExecutionsAreLegal }
 {}
 
-/// The events of the calls of `open` are legal from the first state on. They leave each act that was called back and at
-/// rest, and change nothing else but what a stop does.
+/// The events of the calls of `open` are legal from the first state on. They leave each act that
+/// was called back and at rest, and change nothing else but what a stop does.
 pub fn openings_are_legal()
     ensures { OpeningsAreLegal }
 {}
 
-/// Of the ready operations, listed oldest first, the oldest is the first of its lane; of the requests that wait to be
-/// taken, listed so, the oldest is the first. So a context that takes the oldest keeps every order.
+/// Of the ready operations, listed oldest first, the oldest is the first of its lane; of the
+/// requests that wait to be taken, listed so, the oldest is the first. So a context that takes the
+/// oldest keeps every order.
 pub fn oldest_first_is_legal()
     ensures lanes { OldestIsFirstOfLane }
     ensures requests { OldestIsFirstRequest }
 {}
 
-/// A context that executes the oldest ready operation keeps its lists: the others stay in their order, with the postings
-/// of the execution behind them in order of their calls, and so do the requests. After the calls of `open` the lists are
-/// what these called.
+/// A context that executes the oldest ready operation keeps its lists: the others stay in their
+/// order, with the postings of the execution behind them in order of their calls, and so do the
+/// requests. After the calls of `open` the lists are what these called.
 pub fn executions_keep_order()
     ensures executions { ExecutionsKeepOrder }
     ensures openings { OpeningsBeginOrder }
 {}
 
-/// What a session at rest that keeps both lists may do next: in an open round begin the oldest ready operation, and take the
-/// oldest request where the reactor may turn. Where both lists are empty all is quiet.
+/// What a session at rest that keeps both lists may do next: in an open round begin the oldest
+/// ready operation, and take the oldest request where the reactor may turn. Where both lists are
+/// empty all is quiet.
 pub fn sessions_at_rest_go_on()
     ensures begins { OldestMayBegin }
     ensures takes { OldestMayBeTaken }
     ensures quiet { NothingLeftIsQuiet }
 {}
 
-/// What a turn of the reactor leaves of the lists: a take leaves the other requests, a completion puts its operation behind
-/// the others that are ready, and whatever changes neither an act nor what was taken leaves both lists as they are.
+/// What a turn of the reactor leaves of the lists: a take leaves the other requests, a completion
+/// puts its operation behind the others that are ready, and whatever changes neither an act nor
+/// what was taken leaves both lists as they are.
 pub fn turns_keep_order()
     ensures takes { TakingKeepsOrder }
     ensures completions { TellingKeepsOrder }
     ensures others { OthersKeepOrder }
 {}
 
-/// The events of one whole execution are no more than two and four for each act of the script, and so are those of the
-/// calls of `open`: room for them can be made before.
+/// The events of one whole execution are no more than two and four for each act of the script, and
+/// so are those of the calls of `open`: room for them can be made before.
 pub fn executions_are_bounded()
     ensures executions { ExecutionsAreBounded }
     ensures openings { OpeningsAreBounded }
 {}
 
-/// What is legal as a whole is legal in parts, one after the other; and a legal history goes on by what is legal in its
-/// state, from which its state goes on too.
+/// What is legal as a whole is legal in parts, one after the other; and a legal history goes on by
+/// what is legal in its state, from which its state goes on too.
 pub fn histories_go_on()
     ensures parts { CallsAreLegalInParts }
     ensures histories { HistoriesGoOn }
     ensures states { StatesGoOn }
 {}
 
-/// The outstanding work of a session at rest is as many as are ready, as wait to be taken, as are pending, and as guards
-/// are held.
+/// The outstanding work of a session at rest is as many as are ready, as wait to be taken, as are
+/// pending, and as guards are held.
 pub fn work_is_listed()
     ensures { WorkIsListed }
 {}
 
-/// As many operations are pending as the reactor has to complete: after the calls of `open`, and after an execution, a take,
-/// a completion, a tick and the last time point, if it was so before.
+/// As many operations are pending as the reactor has to complete: after the calls of `open`, and
+/// after an execution, a take, a completion, a tick and the last time point, if it was so before.
 pub fn sessions_stay_accounted()
     ensures executions { ExecutionsStayAccounted }
     ensures openings { OpeningsAreAccounted }
@@ -92,8 +95,9 @@ pub fn sessions_stay_accounted()
     ensures last { LastStaysAccounted }
 {}
 
-/// While the context isn't stopped each lane may begin any number: after the calls of `open` and a restart, and after an
-/// execution and the begin of a turn if it was so before. Then the lane of each act may begin something.
+/// While the context isn't stopped each lane may begin any number: after the calls of `open` and a
+/// restart, and after an execution and the begin of a turn if it was so before. Then the lane of
+/// each act may begin something.
 pub fn lanes_are_free_unless_stopped()
     ensures openings { OpeningsLeaveLanesFree }
     ensures executions { ExecutionsLeaveLanesFree }
@@ -102,29 +106,32 @@ pub fn lanes_are_free_unless_stopped()
     ensures begins { FreeLanesMayStart }
 {}
 
-/// A session has no more events than its script has room for: seven for each act, one for each time of its world, three for
-/// each round, and three more.
+/// A session has no more events than its script has room for: seven for each act, one for each time
+/// of its world, three for each round, and three more.
 pub fn sessions_are_bounded()
     ensures { SessionsAreBounded }
 {}
 
-/// After the calls of `open` what is recorded is a legal history so far. A round is open where the recording says so, and
-/// with a handler that wasn't spent none that executes inside its execution was.
+/// After the calls of `open` what is recorded is a legal history so far. A round is open where the
+/// recording says so, and with a handler that wasn't spent none that executes inside its execution
+/// was.
 pub fn openings_are_recorded()
     ensures openings { OpeningsAreRecorded }
     ensures rounds { OpenRoundsAreKnown }
     ensures inline { UnspentKeepInline }
 {}
 
-/// In an open round of a context that isn't stopped the oldest ready operation may execute, and there is room for all that
-/// it may call. When it has, what is recorded is a legal history so far, and the handlers of what began are spent.
+/// In an open round of a context that isn't stopped the oldest ready operation may execute, and
+/// there is room for all that it may call. When it has, what is recorded is a legal history so far,
+/// and the handlers of what began are spent.
 pub fn executions_are_recorded()
     ensures next { OldestMayExecute }
     ensures executions { ExecutionsAreRecorded }
 {}
 
-/// Each step of the reactor that the recording allows is legal, and is recorded: a take of the oldest request, a completion
-/// of what may be told, a tick and the last time point where nothing is left but to wait, and a failure.
+/// Each step of the reactor that the recording allows is legal, and is recorded: a take of the
+/// oldest request, a completion of what may be told, a tick and the last time point where nothing
+/// is left but to wait, and a failure.
 pub fn turns_are_recorded()
     ensures takes { TakesAreRecorded }
     ensures completions { CompletionsAreRecorded }
@@ -133,8 +140,9 @@ pub fn turns_are_recorded()
     ensures faults { FaultsAreRecorded }
 {}
 
-/// The outstanding work is what the recording lists, what the reactor has to complete, and the guards. A round closes where
-/// it is none, where the context was stopped, or where polling is done; restarts and stops from outside are recorded too.
+/// The outstanding work is what the recording lists, what the reactor has to complete, and the
+/// guards. A round closes where it is none, where the context was stopped, or where polling is
+/// done; restarts and stops from outside are recorded too.
 pub fn rounds_are_recorded()
     ensures work { WorkIsKnown }
     ensures ends { EndsAreRecorded }
@@ -144,8 +152,9 @@ pub fn rounds_are_recorded()
     ensures outside { OutsideStopsAreRecorded }
 {}
 
-/// Once no round is left the unspent handlers are destroyed in rising number, which are those of the operations that were
-/// called and not spent. After the last act the history is legal as a whole.
+/// Once no round is left the unspent handlers are destroyed in rising number, which are those of
+/// the operations that were called and not spent. After the last act the history is legal as a
+/// whole.
 pub fn drops_are_recorded()
     ensures unspent { UnspentAreCalled }
     ensures inline { InlineAreSpent }
@@ -155,8 +164,9 @@ pub fn drops_are_recorded()
     ensures ends { DroppedAreLegal }
 {}
 
-/// The events of calls are of calls, stops during them, and executions alone. Those of a whole execution show the marks of
-/// its handlers, and those of the calls of `open` none. An execution of handlers with these marks is one with any marks.
+/// The events of calls are of calls, stops during them, and executions alone. Those of a whole
+/// execution show the marks of its handlers, and those of the calls of `open` none. An execution of
+/// handlers with these marks is one with any marks.
 pub fn executions_show_marks()
     ensures calls { CallsShowTheirEvents }
     ensures any { AnyMarkServes }

@@ -21,10 +21,11 @@ use std::alloc::Global;
 use std::marker::Model;
 use strand_core::{Execution, Hands, Poster, execute};
 
-/// What a context keeps of its history: the events, what is ready and what waits for the reactor, and where the round
-/// stands. All room is made at first, so that no step takes memory.
+/// What a context keeps of its history: the events, what is ready and what waits for the reactor,
+/// and where the round stands. All room is made at first, so that no step takes memory.
 ///
-/// Contracts see a `Recording`, and each step is one equation over it. They say nothing of legality.
+/// Contracts see a `Recording`, and each step is one equation over it. They say nothing of
+/// legality.
 #[derive(Drop)]
 pub(crate) struct Record<'a> {
     script: &'a Script,
@@ -108,8 +109,8 @@ impl<'a> Record<'a> {
         );
     }
 
-    /// Executes an operation that is ready, with what executes inside it. A handler that begins is told the count of
-    /// events before its begin. Takes no memory.
+    /// Executes an operation that is ready, with what executes inside it. A handler that begins is
+    /// told the count of events before its begin. Takes no memory.
     pub(crate) fn execute<H: CompletionHandler>(
         &mut self,
         hands: &mut Hands<'_, H>,
@@ -120,7 +121,8 @@ impl<'a> Record<'a> {
         requires script { hands.old.script ≡ self.old.script }
         requires can { CanExecute hands.old op }
         requires room { (calls : List Posted) →
-            IsWholeExecution self.old.script AnyMark op code size calls → HasRoomForCalls self.old calls }
+            IsWholeExecution self.old.script AnyMark op code size calls →
+            HasRoomForCalls self.old calls }
         ensures { HasRecorded H.marks op code size self.old self.new hands.old hands.new }
     {
         scripts_are_well_formed(self.script);

@@ -4,8 +4,9 @@ ghost use Rattle.book_context.specs.Names.{no_script};
 
 use std::marker::Brand;
 
-/// The names of one session, for contracts alone: a type that is bound by this trait stands for one session, and a caller picks
-/// its members where it passes `Brand`. What a context keeps is said in these names.
+/// The names of one session, for contracts alone: a type that is bound by this trait stands for one
+/// session, and a caller picks its members where it passes `Brand`. What a context keeps is said in
+/// these names.
 pub trait Session {
     /// Its script.
     ghost script: { ScriptModel };

@@ -60,7 +60,8 @@ fn a_slot_holds_the_latest_operation_until_it_completes(rt: HostRuntime) -> Resu
         Step::Emit(2, terminal, Some(6)),
         Step::Emit(0, total, Some(5)),
         Step::Emit(1, Types::all(), None),
-        // the latest operation replaces the one that was there, whose completion leaves the slot alone
+        // the latest operation replaces the one that was there, whose completion leaves the slot
+        // alone
         Step::Connect(0, 7, terminal),
         Step::Emit(0, total, None),
         Step::Clear(0, 5, false),

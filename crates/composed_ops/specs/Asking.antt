@@ -1,5 +1,5 @@
--- What an act asks of its stream (Asio reference: async_read_some, async_read, async_read_until, async_write_some and
--- async_write).
+-- What an act asks of its stream (Asio reference: async_read_some, async_read, async_read_until,
+-- async_write_some and async_write).
 use Rattle.std.specs.Prelude.{ℕ, ◌≤◌, ◌<◌, ◌^◌, ⊤, Option, Some, None, length}
 use Rattle.session_script.specs.declared.act.Act.{Act}
 use Rattle.session_script.specs.declared.act.Act.TheVariants as act

@@ -1,5 +1,6 @@
--- A machine that is fed: asked what it wants and told what a call on its stream answered, until it completes. What it gives
--- is what the rules of streams give on the bytes held for it and those behind them, however they come in pieces.
+-- A machine that is fed: asked what it wants and told what a call on its stream answered, until it
+-- completes. What it gives is what the rules of streams give on the bytes held for it and those
+-- behind them, however they come in pieces.
 use Rattle.std.specs.Prelude.{ℕ, ◌≡◌, ◌+◌, ◌≤◌, ◌⊎◌, min, ⊤, Option, Some, None, List, [], ◌++◌, length, take, drop}
 use Rattle.std.specs.Option.{option_map}
 use Rattle.asio_types.specs.declared.code.Code.{Code}
@@ -18,7 +19,8 @@ use Rattle.composed_ops.specs.Progress.{Progress, IsSearched, IsUnderWay, new_pr
 use Rattle.composed_ops.specs.Step.{outcome_by}
 use Rattle.composed_ops.specs.Want.{wanted as want_of}
 
--- an operation under way, the bytes that were read for it and not consumed, and its stream behind them
+-- an operation under way, the bytes that were read for it and not consumed, and its stream behind
+-- them
 pub record Exchange : Type 0 where
   pub progress : Progress
   pub held : List ℕ
@@ -35,22 +37,29 @@ wanted_in exchange = want_of exchange.progress exchange.held
 
 -- the stream as the rules see it: the held bytes come first
 abbrev pub whole_stream : Exchange → Stream
-whole_stream exchange = record exchange.stream { arrived = exchange.held ++ exchange.stream.arrived }
+whole_stream exchange =
+    record exchange.stream { arrived = exchange.held ++ exchange.stream.arrived }
 
 abbrev pub asking_course : Asking → ℕ → Stream → Course
 asking_course (Reads reading) before stream = served_on reading_side reading before stream None
 asking_course (Writes writing) before stream = served_on writing_side writing before stream None
 
--- what the rules give: the bytes that it moves in all, how it completes, unless it stays, and the stream as it is left
+-- what the rules give: the bytes that it moves in all, how it completes, unless it stays, and the
+-- stream as it is left
 abbrev pub course_of : Exchange → Course
-course_of exchange = asking_course exchange.progress.asks exchange.progress.moved (whole_stream exchange)
+course_of exchange =
+    asking_course exchange.progress.asks exchange.progress.moved (whole_stream exchange)
 
 -- where it stands, with this outcome
 abbrev pub course_at : Exchange → Option Outcome → Course
-course_at exchange outcome = record { moved = exchange.progress.moved; outcome = outcome; stream = whole_stream exchange }
+course_at exchange outcome = record {
+  moved = exchange.progress.moved;
+  outcome = outcome;
+  stream = whole_stream exchange;
+}
 
--- what a call may answer that asks for at most so many, where so many are there: any part of them, or nothing yet; and a
--- mark only where nothing is there
+-- what a call may answer that asks for at most so many, where so many are there: any part of them,
+-- or nothing yet; and a mark only where nothing is there
 abbrev pub IsAnswer : ℕ → Option Code → Code → ℕ → Moved → Type 0
 IsAnswer there mark end most (moved.Took count) = (1 ≤ count) × (count ≤ most) × (count ≤ there)
 IsAnswer there mark end most moved.End = (there ≡ 0) × (mark ≡ Some end)
@@ -112,7 +121,8 @@ stream_after asks (want.Finish code size) count stream = stream
 abbrev pub exchange_answered : Want → Exchange → Moved → Exchange
 exchange_answered wanted exchange answer = record {
   progress = progress_after exchange.progress answer;
-  held = held_after exchange.progress.asks wanted (moved_count answer) exchange.held exchange.stream;
+  held =
+      held_after exchange.progress.asks wanted (moved_count answer) exchange.held exchange.stream;
   stream = stream_after exchange.progress.asks wanted (moved_count answer) exchange.stream;
 }
 
@@ -139,32 +149,38 @@ MachinesBegin =
     (asks : Asking) (held : List ℕ) (stream : Stream) → IsSizedAsking asks →
     MayBeAsked (record { progress = new_progress asks; held = held; stream = stream })
 
--- a step after which it goes on leaves what the rules give as it was, and the machine may be asked again
+-- a step after which it goes on leaves what the rules give as it was, and the machine may be asked
+-- again
 pub record GoesOn (exchange next : Exchange) : Type 0 where
   pub ready : MayBeAsked next
   pub same : course_of next ≡ course_of exchange
 
 abbrev pub MachinesGoOn : Type 0
 MachinesGoOn =
-    (exchange : Exchange) (answer : Moved) → MayBeAsked exchange → MayAnswer exchange answer → outcome_by exchange.progress answer ≡ None →
+    (exchange : Exchange) (answer : Moved) → MayBeAsked exchange → MayAnswer exchange answer →
+    outcome_by exchange.progress answer ≡ None →
     GoesOn exchange (exchange_after exchange answer)
 
 -- a step that completes gives what the rules give
 abbrev pub MachinesComplete : Type 0
 MachinesComplete =
-    (exchange : Exchange) (answer : Moved) (outcome : Outcome) → MayBeAsked exchange → MayAnswer exchange answer →
-    outcome_by exchange.progress answer ≡ Some outcome → course_of exchange ≡ course_at (exchange_after exchange answer) (Some outcome)
+    (exchange : Exchange) (answer : Moved) (outcome : Outcome) → MayBeAsked exchange →
+    MayAnswer exchange answer →
+    outcome_by exchange.progress answer ≡ Some outcome →
+    course_of exchange ≡ course_at (exchange_after exchange answer) (Some outcome)
 
 -- so does one that finishes on the held bytes
 abbrev pub MachinesFinish : Type 0
 MachinesFinish =
-    (exchange : Exchange) (ended : Code) (size : ℕ) → MayBeAsked exchange → wanted_in exchange ≡ want.Finish ended size →
+    (exchange : Exchange) (ended : Code) (size : ℕ) → MayBeAsked exchange →
+    wanted_in exchange ≡ want.Finish ended size →
     course_of exchange ≡ course_at (exchange_finished exchange size) (Some (ended, size))
 
 -- where nothing is there, it stays
 abbrev pub MachinesWait : Type 0
 MachinesWait =
-    (exchange : Exchange) → MayBeAsked exchange → HasNothing exchange.stream (wanted_in exchange) → course_of exchange ≡ course_at exchange None
+    (exchange : Exchange) → MayBeAsked exchange → HasNothing exchange.stream (wanted_in exchange) →
+    course_of exchange ≡ course_at exchange None
 
 -- bytes that arrived are moved behind the held ones
 abbrev pub exchange_holding : Exchange → ℕ → Exchange
@@ -175,26 +191,39 @@ exchange_holding exchange count = record exchange {
 
 -- that changes nothing of what the rules give
 abbrev pub HoldingKeeps : Type 0
-HoldingKeeps = (exchange : Exchange) (count : ℕ) → course_of (exchange_holding exchange count) ≡ course_of exchange
+HoldingKeeps =
+    (exchange : Exchange) (count : ℕ) →
+    course_of (exchange_holding exchange count) ≡ course_of exchange
 
--- A whole run: the pieces are any, and between them nothing may have come yet. It ends as the machine completes, or waits
--- where nothing is there.
+-- A whole run: the pieces are any, and between them nothing may have come yet. It ends as the
+-- machine completes, or waits where nothing is there.
 pub data Runs : Exchange → Course → Type 0 where
-  goes_on : {exchange : Exchange} {course : Course} (answer : Moved) → MayAnswer exchange answer → outcome_by exchange.progress answer ≡ None → Runs (exchange_after exchange answer) course → Runs exchange course
-  completes : {exchange : Exchange} (answer : Moved) (outcome : Outcome) → MayAnswer exchange answer → outcome_by exchange.progress answer ≡ Some outcome → Runs exchange (course_at (exchange_after exchange answer) (Some outcome))
-  finishes : {exchange : Exchange} (ended : Code) (size : ℕ) → wanted_in exchange ≡ want.Finish ended size → Runs exchange (course_at (exchange_finished exchange size) (Some (ended, size)))
-  waits : {exchange : Exchange} → HasNothing exchange.stream (wanted_in exchange) → Runs exchange (course_at exchange None)
+  goes_on : {exchange : Exchange} {course : Course} (answer : Moved) → MayAnswer exchange answer →
+      outcome_by exchange.progress answer ≡ None → Runs (exchange_after exchange answer) course →
+      Runs exchange course
+  completes : {exchange : Exchange} (answer : Moved) (outcome : Outcome) →
+      MayAnswer exchange answer → outcome_by exchange.progress answer ≡ Some outcome →
+      Runs exchange (course_at (exchange_after exchange answer) (Some outcome))
+  finishes : {exchange : Exchange} (ended : Code) (size : ℕ) →
+      wanted_in exchange ≡ want.Finish ended size →
+      Runs exchange (course_at (exchange_finished exchange size) (Some (ended, size)))
+  waits : {exchange : Exchange} → HasNothing exchange.stream (wanted_in exchange) →
+      Runs exchange (course_at exchange None)
 
 -- the same code, size, bytes moved and stream left as the rules give on all bytes at once
 abbrev pub RunsAreByTheRules : Type 0
-RunsAreByTheRules = (exchange : Exchange) (course : Course) → MayBeAsked exchange → Runs exchange course → course ≡ course_of exchange
+RunsAreByTheRules =
+    (exchange : Exchange) (course : Course) → MayBeAsked exchange → Runs exchange course →
+    course ≡ course_of exchange
 
--- what a reactor that tells its bytes answers to a read may come, and it answers `NotYet` only where nothing is there
+-- what a reactor that tells its bytes answers to a read may come, and it answers `NotYet` only
+-- where nothing is there
 pub record IsToldAnswer (exchange : Exchange) (answer : Moved) : Type 0 where
   pub may : MayAnswer exchange answer
   pub nothing : answer ≡ moved.NotYet → HasNothing exchange.stream (wanted_in exchange)
 
--- a read of some bytes consumes held ones only where they are as many as it asks for, or nothing is there behind them
+-- a read of some bytes consumes held ones only where they are as many as it asks for, or nothing is
+-- there behind them
 abbrev pub IsFilled : Asking → List ℕ → Stream → Type 0
 IsFilled (Reads (Some_bytes size)) held stream = (size ≤ length held) ⊎ (stream.arrived ≡ [])
 IsFilled (Reads (All_bytes size)) held stream = ⊤
@@ -203,12 +232,14 @@ IsFilled (Writes writing) held stream = ⊤
 
 abbrev pub HeldMayBeConsumed : Type 0
 HeldMayBeConsumed =
-    (exchange : Exchange) (count : ℕ) → MayBeAsked exchange → IsFilled exchange.progress.asks exchange.held exchange.stream →
+    (exchange : Exchange) (count : ℕ) → MayBeAsked exchange →
+    IsFilled exchange.progress.asks exchange.held exchange.stream →
     wanted_in exchange ≡ want.Held count → MayAnswer exchange (moved.Took count)
 
 abbrev pub ReadsMayBeAnswered : Type 0
 ReadsMayBeAnswered =
-    (exchange : Exchange) (most : ℕ) → MayBeAsked exchange → wanted_in exchange ≡ want.Read most → IsToldAnswer exchange (read_answer most exchange.stream)
+    (exchange : Exchange) (most : ℕ) → MayBeAsked exchange → wanted_in exchange ≡ want.Read most →
+    IsToldAnswer exchange (read_answer most exchange.stream)
 
 -- the bytes that an operation writes next
 abbrev pub bytes_from : Asking → ℕ → ℕ → List ℕ
@@ -217,5 +248,7 @@ bytes_from (Writes writing) from count = take count (drop from (bytes_of writing
 
 abbrev pub WritesMayBeAnswered : Type 0
 WritesMayBeAnswered =
-    (exchange : Exchange) (from most : ℕ) → MayBeAsked exchange → wanted_in exchange ≡ want.Write from most →
-    IsToldAnswer exchange (write_answer (bytes_from exchange.progress.asks from most) exchange.stream)
+    (exchange : Exchange) (from most : ℕ) → MayBeAsked exchange →
+    wanted_in exchange ≡ want.Write from most →
+    IsToldAnswer exchange
+    (write_answer (bytes_from exchange.progress.asks from most) exchange.stream)

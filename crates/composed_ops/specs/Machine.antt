@@ -7,8 +7,28 @@ use Rattle.composed_ops.specs.Asking.{Reads, Writes}
 use Rattle.composed_ops.specs.Progress.{Progress}
 
 abbrev pub progress_of : Machine → Progress
-progress_of (machine.ReadSome size moved) = record { asks = Reads (Some_bytes size); moved = moved; latest = None }
-progress_of (machine.ReadAll size moved) = record { asks = Reads (All_bytes size); moved = moved; latest = None }
-progress_of (machine.Until delimiter max latest) = record { asks = Reads (Until delimiter.now max); moved = 0; latest = latest }
-progress_of (machine.WriteSome bytes moved) = record { asks = Writes (Some_of bytes.now); moved = moved; latest = None }
-progress_of (machine.WriteAll bytes moved) = record { asks = Writes (All_of bytes.now); moved = moved; latest = None }
+progress_of (machine.ReadSome size moved) = record {
+  asks = Reads (Some_bytes size);
+  moved = moved;
+  latest = None;
+}
+progress_of (machine.ReadAll size moved) = record {
+  asks = Reads (All_bytes size);
+  moved = moved;
+  latest = None;
+}
+progress_of (machine.Until delimiter max latest) = record {
+  asks = Reads (Until delimiter.now max);
+  moved = 0;
+  latest = latest;
+}
+progress_of (machine.WriteSome bytes moved) = record {
+  asks = Writes (Some_of bytes.now);
+  moved = moved;
+  latest = None;
+}
+progress_of (machine.WriteAll bytes moved) = record {
+  asks = Writes (All_of bytes.now);
+  moved = moved;
+  latest = None;
+}

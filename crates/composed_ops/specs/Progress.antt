@@ -1,4 +1,5 @@
--- How far an operation on a stream is (Asio reference, async_read and async_write: composed of calls that move some bytes).
+-- How far an operation on a stream is (Asio reference, async_read and async_write: composed of
+-- calls that move some bytes).
 use Rattle.std.specs.Prelude.{ℕ, ◌≡◌, ◌+◌, ◌-◌, ◌<◌, ◌≤◌, ◌^◌, ⊤, Option, Some, None, List, length, take}
 use Rattle.asio_types.specs.declared.outside.Moved.{Moved}
 use Rattle.asio_types.specs.declared.outside.Moved.TheVariants as moved

@@ -1,4 +1,5 @@
--- How an operation takes what a call on its stream answered: what the rules of streams give on so many bytes.
+-- How an operation takes what a call on its stream answered: what the rules of streams give on so
+-- many bytes.
 use Rattle.std.specs.Prelude.{ℕ, Option, Some, None, length}
 use Rattle.asio_types.specs.declared.code.Code.{Code}
 use Rattle.asio_types.specs.declared.code.Code.TheVariants as code
@@ -18,16 +19,21 @@ told_code end moved.End = Some end
 told_code end moved.NotYet = None
 told_code end moved.Reset = Some code.Reset
 
--- what a read gives on what a call brought; one until a delimiter looks for it when it is asked next
+-- what a read gives on what a call brought; one until a delimiter looks for it when it is asked
+-- next
 abbrev pub reading_outcome : Reading → ℕ → Moved → Option Outcome
-reading_outcome (Some_bytes size) before answer = (some_of size (moved_count answer) (told_code code.Eof answer)).outcome
-reading_outcome (All_bytes size) before answer = (all_of size before (moved_count answer) (told_code code.Eof answer)).outcome
+reading_outcome (Some_bytes size) before answer =
+    (some_of size (moved_count answer) (told_code code.Eof answer)).outcome
+reading_outcome (All_bytes size) before answer =
+    (all_of size before (moved_count answer) (told_code code.Eof answer)).outcome
 reading_outcome (Until delimiter max) before answer = ended_by (told_code code.Eof answer) 0
 
 -- what a write gives on what a call took
 abbrev pub writing_outcome : Writing → ℕ → Moved → Option Outcome
-writing_outcome (Some_of bytes) before answer = (some_of (length bytes) (moved_count answer) (told_code code.Broken answer)).outcome
-writing_outcome (All_of bytes) before answer = (all_of (length bytes) before (moved_count answer) (told_code code.Broken answer)).outcome
+writing_outcome (Some_of bytes) before answer =
+    (some_of (length bytes) (moved_count answer) (told_code code.Broken answer)).outcome
+writing_outcome (All_of bytes) before answer =
+    (all_of (length bytes) before (moved_count answer) (told_code code.Broken answer)).outcome
 
 abbrev pub asking_outcome : Asking → ℕ → Moved → Option Outcome
 asking_outcome (Reads reading) before answer = reading_outcome reading before answer

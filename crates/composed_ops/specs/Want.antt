@@ -46,6 +46,7 @@ AsksWithin progress held = IsWithin (size_of progress.asks - progress.moved) (le
 abbrev pub MayAskAgain : Progress → List ℕ → Want → Type 0
 MayAskAgain progress held (want.Held count) = ⊤
 MayAskAgain progress held (want.Read count) =
-    (piece : List ℕ) → IsSearched (progress_after progress (moved.Took (length piece))) (held ++ piece)
+    (piece : List ℕ) →
+    IsSearched (progress_after progress (moved.Took (length piece))) (held ++ piece)
 MayAskAgain progress held (want.Write from count) = ⊤
 MayAskAgain progress held (want.Finish code size) = ⊤

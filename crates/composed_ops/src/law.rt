@@ -15,8 +15,9 @@ pub fn acts_are_sized(script: &Script)
     acts_fit(script);
 }
 
-/// A machine gives what the rules of streams give, step by step: where it goes on, the rules give the same of what is left;
-/// where it completes, finishes or waits, they give just that. Bytes that are moved behind the held ones change nothing.
+/// A machine gives what the rules of streams give, step by step: where it goes on, the rules give
+/// the same of what is left; where it completes, finishes or waits, they give just that. Bytes that
+/// are moved behind the held ones change nothing.
 pub fn machines_follow_the_rules()
     ensures begin { MachinesBegin }
     ensures go_on { MachinesGoOn }
@@ -26,8 +27,9 @@ pub fn machines_follow_the_rules()
     ensures holding { HoldingKeeps }
 {}
 
-/// What a machine gives on the bytes held for it and on further pieces is what the rules of streams give on all these bytes
-/// at once, however they were cut: the same code and size, the same bytes moved and the same stream left.
+/// What a machine gives on the bytes held for it and on further pieces is what the rules of streams
+/// give on all these bytes at once, however they were cut: the same code and size, the same bytes
+/// moved and the same stream left.
 pub fn machines_are_fed_in_any_pieces()
     ensures { RunsAreByTheRules }
 {}

@@ -1,6 +1,7 @@
-//! The five operations on streams as machines that are asked what they want and told what they got. They promise that what
-//! a machine gives on the bytes held for it and on further pieces is what the rules of streams give on all these bytes,
-//! however they were cut. The proactor stands on them.
+//! The five operations on streams as machines that are asked what they want and told what they got.
+//! They promise that what a machine gives on the bytes held for it and on further pieces is what
+//! the rules of streams give on all these bytes, however they were cut. The proactor stands on
+//! them.
 #![tactic(auto)]
 
 mod law;

@@ -10,8 +10,8 @@ use crate::want::{Want, counted_want, until_want};
 use asio_types::{Code, Moved};
 use session_script::Act;
 
-/// An operation on a stream under way, with what its act asks for and the bytes that it moved so far. It is asked what it
-/// wants, and told what it got. No call takes memory.
+/// An operation on a stream under way, with what its act asks for and the bytes that it moved so
+/// far. It is asked what it wants, and told what it got. No call takes memory.
 #[derive(Clone, Copy, Debug)]
 pub enum Machine<'a> {
     /// `async_read_some`: at most `size` bytes.
@@ -24,8 +24,8 @@ pub enum Machine<'a> {
         size: u32,
         moved: u32,
     },
-    /// `async_read_until`: up to and including the delimiter of its act, within `max` bytes. The latest piece brought so
-    /// many bytes.
+    /// `async_read_until`: up to and including the delimiter of its act, within `max` bytes. The
+    /// latest piece brought so many bytes.
     Until {
         delimiter: &'a [u8],
         max: u32,
@@ -44,10 +44,11 @@ pub enum Machine<'a> {
 }
 
 impl<'a> Machine<'a> {
-    /// The machine of an act, before its first step; none exactly where the act is no operation on a stream. The act of a
-    /// script is sized, by `acts_are_sized`.
+    /// The machine of an act, before its first step; none exactly where the act is no operation on
+    /// a stream. The act of a script is sized, by `acts_are_sized`.
     pub fn of(act: &'a Act) -> Option<Machine<'a>>
-        ensures machine { option_map progress_of result ≡ option_map new_progress (asking_of act.now) }
+        ensures machine { option_map progress_of result
+            ≡ option_map new_progress (asking_of act.now) }
         ensures under_way { IsSizedAct (asking_of act.now) →
             IfSome result (λ machine. IsUnderWay (progress_of machine)) }
     {
@@ -77,9 +78,10 @@ impl<'a> Machine<'a> {
         }
     }
 
-    /// What it asks for next, where these bytes of its stream were read and not consumed. A read until a delimiter looks at
-    /// the bytes of the latest piece, and before them only as far as a delimiter may begin there; before the first piece it
-    /// looks at all bytes held. The others cost nothing that grows.
+    /// What it asks for next, where these bytes of its stream were read and not consumed. A read
+    /// until a delimiter looks at the bytes of the latest piece, and before them only as far as a
+    /// delimiter may begin there; before the first piece it looks at all bytes held. The others
+    /// cost nothing that grows.
     pub fn want(&self, held: &[u8]) -> Want
         requires under_way { IsUnderWay (progress_of self.now) }
         requires searched { IsSearched (progress_of self.now) held.now }
@@ -104,8 +106,9 @@ impl<'a> Machine<'a> {
         }
     }
 
-    /// Takes what a call on its stream answered; consuming n held bytes is answered by `Took(n)`. It completes exactly
-    /// where the rules of streams say so of all that it got, and by `End` and `Reset`. Constant cost.
+    /// Takes what a call on its stream answered; consuming n held bytes is answered by `Took(n)`.
+    /// It completes exactly where the rules of streams say so of all that it got, and by `End` and
+    /// `Reset`. Constant cost.
     pub fn got(&mut self, moved: Moved) -> Step
         requires under_way { IsUnderWay (progress_of self.old) }
         requires fits { FitsMove (progress_of self.old) moved }
@@ -134,7 +137,8 @@ impl<'a> Machine<'a> {
         }
     }
 
-    /// The size that it reports where it is aborted: the bytes so far, and 0 of a read until a delimiter.
+    /// The size that it reports where it is aborted: the bytes so far, and 0 of a read until a
+    /// delimiter.
     pub fn abort(&self) -> u32
         ensures { result ≡ (progress_of self.now).moved }
     {

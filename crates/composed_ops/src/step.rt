@@ -16,11 +16,13 @@ pub enum Step {
     Done { code: Code, size: u32 },
 }
 
-/// A step of an operation that completes with what it gets; `end` is its code where nothing more will come.
+/// A step of an operation that completes with what it gets; `end` is its code where nothing more
+/// will come.
 pub(crate) fn some_step(size: u32, so_far: &mut u32, answer: Moved, end: Code) -> Step
     requires missing { so_far.old < size }
     requires fits { IsCountWithin (size - so_far.old) answer }
-    ensures step { result ≡ step_of (some_of size (moved_count answer) (told_code end answer)).outcome }
+    ensures step { result
+        ≡ step_of (some_of size (moved_count answer) (told_code end answer)).outcome }
     ensures counted { so_far.new ≡ so_far.old + moved_count answer }
     ensures kept { result ≡ Step.Again → so_far.new ≡ so_far.old }
 {
@@ -45,7 +47,8 @@ pub(crate) fn some_step(size: u32, so_far: &mut u32, answer: Moved, end: Code) -
 pub(crate) fn all_step(size: u32, so_far: &mut u32, answer: Moved, end: Code) -> Step
     requires missing { so_far.old < size }
     requires fits { IsCountWithin (size - so_far.old) answer }
-    ensures step { result ≡ step_of (all_of size so_far.old (moved_count answer) (told_code end answer)).outcome }
+    ensures step { result
+        ≡ step_of (all_of size so_far.old (moved_count answer) (told_code end answer)).outcome }
     ensures counted { so_far.new ≡ so_far.old + moved_count answer }
     ensures missing { result ≡ Step.Again → so_far.new < size }
 {

@@ -105,7 +105,8 @@ fn outcome(step: Step) -> Option<(Code, u32)> {
     }
 }
 
-/// How an operation completes to which so many bytes or so much room come, and later so much more and the mark.
+/// How an operation completes to which so many bytes or so much room come, and later so much more
+/// and the mark.
 fn fed(act: &Act, first: u32, second: u32, mark: Option<ReadMark>) -> Option<(Code, u32)>
     requires { IsSizedAct (asking_of act.now) }
 {
@@ -132,8 +133,8 @@ fn fed_alike(act: &Act, there: u32, mark: Option<ReadMark>, wanted: Option<(Code
     true
 }
 
-/// How a read until a delimiter completes whose first bytes are held and whose others come in one piece, and then the mark;
-/// and how many bytes it leaves.
+/// How a read until a delimiter completes whose first bytes are held and whose others come in one
+/// piece, and then the mark; and how many bytes it leaves.
 fn searched(
     alloc: Global,
     act: &Act,

@@ -30,12 +30,14 @@ pub(crate) fn counted_want(missing: u32, held: &[u8]) -> Want
     Want::Held(held.len().min(missing as usize) as u32)
 }
 
-/// Up to and including the delimiter within the first `max` held bytes; further ones where fewer are held.
+/// Up to and including the delimiter within the first `max` held bytes; further ones where fewer
+/// are held.
 pub(crate) fn until_want(delimiter: &[u8], max: u32, latest: Option<u32>, held: &[u8]) -> Want
     requires { first_end delimiter.now (take (before_latest latest (length held.now)) held.now)
         ≡ None }
-    ensures wanted { result ≡
-        until_want (served_read (Until delimiter.now max) 0 held.now None).outcome (max - length held.now) }
+    ensures wanted { result
+        ≡ until_want (served_read (Until delimiter.now max) 0 held.now None).outcome
+        (max - length held.now) }
     ensures within { IsWithin max (length held.now) result }
 {
     let within = &held[..held.len().min(max as usize)];

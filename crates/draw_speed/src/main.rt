@@ -1,6 +1,7 @@
-//! The program that measures draws of the lane clock beside atomic additions. In each round, that many threads make 65,536
-//! steps each on one word: `draws THREADS ROUNDS` draws, `adds THREADS ROUNDS` adds, with 1 to 16 threads and 1 to 100,000
-//! rounds. It prints how many steps there were; `time` tells how long they took. It is proved to be safe. Nothing stands on it.
+//! The program that measures draws of the lane clock beside atomic additions. In each round, that
+//! many threads make 65,536 steps each on one word: `draws THREADS ROUNDS` draws, `adds THREADS
+//! ROUNDS` adds, with 1 to 16 threads and 1 to 100,000 rounds. It prints how many steps there were;
+//! `time` tells how long they took. It is proved to be safe. Nothing stands on it.
 #![tactic(auto)]
 
 ghost use Rattle.std.specs.Prelude.{◌≡◌, ◌≤◌, [], All, IfOk, IfSome};

@@ -55,26 +55,30 @@ module _ (acts : List Entry) (states : List ActState) (o : ℕ) (to : ActPhase) 
       called = λ p c parent. refl;
     });
     calls =
-        let same = called-changed states (phased states o to) o (record (at states o) { phase = to }) (length acts) changes below in
+        let same =
+        called-changed states (phased states o to) o (record (at states o) { phase = to }) (length acts) changes below in
         let zero_more = ap one_if none in
         omega (arith, same, zero_more);
     ends = λ weight.
-        let same = ended-changed weight states (phased states o to) o (record (at states o) { phase = to }) (length acts) changes below in
+        let same =
+        ended-changed weight states (phased states o to) o (record (at states o) { phase = to }) (length acts) changes below in
         let before = ap (λ b. cond b (weight o) 0) going in
         let weighs_so = weighs weight in
         omega (arith, same, before, weighs_so);
   }
 
 -- a handler that begins
-begins : (acts : List Entry) → AreItems 0 acts → (states : List ActState) (o : ℕ) (given : Code) (size : ℕ) (p : ActPhase) →
-    (at states o).phase ≡ p → is_born p ≡ true → has_ended p ≡ false → has_made p ≡ false → ActsFit acts states →
+begins : (acts : List Entry) → AreItems 0 acts →
+    (states : List ActState) (o : ℕ) (given : Code) (size : ℕ) (p : ActPhase) → (at states o).phase ≡ p →
+    is_born p ≡ true → has_ended p ≡ false → has_made p ≡ false → ActsFit acts states →
     fits (nth_act acts o) (is_called (at states o).call) (phase.Running (class_of_code given) no_progress) ≡ true →
     ActStep acts states (phased states o (phase.Running (class_of_code given) no_progress)) (event.Begin o given size)
 begins acts items states o given size p is born going made was fit =
     phase_step acts states o (phase.Running (class_of_code given) no_progress) (event.Begin o given size) was
     (ap is_born is ∙ born) (ap has_ended is ∙ going) fit (λ n c parent. sym (ap has_made is ∙ made)) refl (λ weight. refl)
 
-pub begin_step : (acts : List Entry) → AreItems 0 acts → (states : List ActState) (o : ℕ) (given : Code) (size : ℕ) (why : Cause) →
+pub begin_step : (acts : List Entry) → AreItems 0 acts →
+    (states : List ActState) (o : ℕ) (given : Code) (size : ℕ) (why : Cause) →
     (at states o).phase ≡ phase.Ready given size why → ActsFit acts states →
     ActStep acts states (phased states o (phase.Running (class_of_code given) no_progress)) (event.Begin o given size)
 begin_step acts items states o given size why is was =
@@ -82,8 +86,9 @@ begin_step acts items states o given size why is was =
     (ready_runs (known acts items o) (is_called (at states o).call) given size why
     (ap (fits (nth_act acts o) (is_called (at states o).call)) (sym is) ∙ was.fit o) no_progress)
 
-pub begin_inside_step : (acts : List Entry) → AreItems 0 acts → (states : List ActState) (o : ℕ) (given : Code) (size : ℕ) →
-    (at states o).phase ≡ phase.Inside → given ≡ code.Ok → ActsFit acts states →
+pub begin_inside_step : (acts : List Entry) → AreItems 0 acts →
+    (states : List ActState) (o : ℕ) (given : Code) (size : ℕ) → (at states o).phase ≡ phase.Inside → given ≡ code.Ok →
+    ActsFit acts states →
     ActStep acts states (phased states o (phase.Running (class_of_code given) no_progress)) (event.Begin o given size)
 begin_inside_step acts items states o given size is ok was =
     begins acts items states o given size phase.Inside is refl refl refl was
@@ -98,7 +103,8 @@ pub record HasFinished (acts : List Entry) (o : ℕ) (p : ActPhase) : Type 0 whe
   pub is : p ≡ phase.Running class progress
   pub all : progress.made ≡ length (branch_of (session_of acts) o class)
 
-pub finished : (acts : List Entry) (o : ℕ) (p : ActPhase) → has_finished (session_of acts) o p ≡ true → HasFinished acts o p
+pub finished : (acts : List Entry) (o : ℕ) (p : ActPhase) → has_finished (session_of acts) o p ≡ true →
+    HasFinished acts o p
 finished acts o (phase.Running class progress) is = record {
   class = class;
   progress = progress;
@@ -113,8 +119,9 @@ finished acts o p is = absurd (cc)
 some_made : (n : ℕ) → n ≡ 1 → not (n == 0) ≡ true
 some_made n one = ap (λ m. not (m == 0)) one
 
-pub end_step : (acts : List Entry) → AreItems 0 acts → (states : List ActState) (o mark : ℕ) → HasFinished acts o (at states o).phase →
-    ActsFit acts states → ActStep acts states (phased states o phase.Ended) (event.End o mark)
+pub end_step : (acts : List Entry) → AreItems 0 acts → (states : List ActState) (o mark : ℕ) →
+    HasFinished acts o (at states o).phase → ActsFit acts states →
+    ActStep acts states (phased states o phase.Ended) (event.End o mark)
 end_step acts items states o mark done was =
     let running = ap (fits (nth_act acts o) (is_called (at states o).call)) (sym done.is) ∙ was.fit o in
     phase_step acts states o phase.Ended (event.End o mark) was (ap is_born done.is) (ap has_ended done.is)
@@ -123,15 +130,16 @@ end_step acts items states o mark done was =
     let inside = under acts items n o c parent in
     let ok : done.class ≡ class.Ok =
     posting_runs_ok inside.posts (is_called (at states o).call) done.class done.progress
-    (ap (λ act. fits act (is_called (at states o).call) (phase.Running done.class done.progress)) (sym inside.maker_is) ∙ running) in
+    (ap (λ act. fits act (is_called (at states o).call) (phase.Running done.class done.progress)) (sym inside.maker_is)
+    ∙ running) in
     let one : length (branch_of (session_of acts) o done.class) ≡ 1 =
     ap (λ d. length (branch_of (session_of acts) o d)) (ok ∙ sym inside.branch) ∙ ap length inside.only in
     sym (ap has_made done.is ∙ some_made done.progress.made (done.all ∙ one)))
     refl (λ weight. refl)
 
-pub done_step : (acts : List Entry) → AreItems 0 acts → (states : List ActState) (o : ℕ) (given : Code) (size : ℕ) (why : Cause) →
-    (at states o).phase ≡ phase.Requested → ActsFit acts states →
-    ActStep acts states (phased states o (phase.Ready given size why)) (event.Done o given size)
+pub done_step : (acts : List Entry) → AreItems 0 acts →
+    (states : List ActState) (o : ℕ) (given : Code) (size : ℕ) (why : Cause) → (at states o).phase ≡ phase.Requested →
+    ActsFit acts states → ActStep acts states (phased states o (phase.Ready given size why)) (event.Done o given size)
 done_step acts items states o given size why is was =
     phase_step acts states o (phase.Ready given size why) (event.Done o given size) was (ap is_born is) (ap has_ended is)
     (requested_completes (known acts items o) (is_called (at states o).call) given size why

@@ -42,25 +42,34 @@ pub record IsCaller (acts : List Entry) (p a : ℕ) (c : Class) (at_caller : Act
   pub next : slice_get (branch_of (session_of acts) p c) progress.made ≡ Some a
 
 by_class : (acts : List Entry) (p a : ℕ) (c running : Class) (progress : Progress) (b : Bool) →
-    IsSomeAnd (cond b (Some (let body : Body = record { acts = branch_of (session_of acts) p c; progress = progress } in body)) None)
+    IsSomeAnd (cond b
+    (Some (let body : Body = record { acts = branch_of (session_of acts) p c; progress = progress } in body)) None)
     (IsNextOf a) → IsCaller acts p a c (phase.Running running progress)
-by_class acts p a c running progress true next = record { running = running; progress = progress; is = refl; next = next.next }
+by_class acts p a c running progress true next = record {
+  running = running;
+  progress = progress;
+  is = refl;
+  next = next.next;
+}
 by_class acts p a c running progress false next = absurd next
 
 pub caller_of : (acts : List Entry) (p a : ℕ) (c : Class) (q : ActPhase) →
     IsSomeAnd (running_body (session_of acts) p c q) (IsNextOf a) → IsCaller acts p a c q
-caller_of acts p a c (phase.Running running progress) next = by_class acts p a c running progress (same_class running c) next
+caller_of acts p a c (phase.Running running progress) next =
+    by_class acts p a c running progress (same_class running c) next
 caller_of acts p a c q next = absurd next
 
 -- a call of `open` is the next one of its acts
 pub opening_next : (acts : List Entry) (failed : Bool) (s : ContextState) (a : ℕ) → failed ≡ false →
     IsSomeAnd (body_at (session_of acts) failed s None) (IsNextOf a) →
     IsNextOf a (record { acts = opening_of (session_of acts); progress = s.opening })
-opening_next acts failed s a works may = subst (λ b. IsSomeAnd (body_at (session_of acts) b s None) (IsNextOf a)) works may
+opening_next acts failed s a works may =
+    subst (λ b. IsSomeAnd (body_at (session_of acts) b s None) (IsNextOf a)) works may
 
 -- none comes once all were made
 pub opening_over : (acts : List Entry) (failed : Bool) (s : ContextState) (a : ℕ) → failed ≡ false →
-    s.opening.made ≡ length (opening_of (session_of acts)) → IsSomeAnd (body_at (session_of acts) failed s None) (IsNextOf a) → ⊥
+    s.opening.made ≡ length (opening_of (session_of acts)) →
+    IsSomeAnd (body_at (session_of acts) failed s None) (IsNextOf a) → ⊥
 opening_over acts failed s a works made may =
     let past = slice_get_past (opening_of (session_of acts)) s.opening.made (omega (arith, made)) in
     let wrong : None ≡ Some a = sym past ∙ (opening_next acts failed s a works may).next in cc
@@ -88,13 +97,15 @@ accepted_runs acts a =
     never_ended (is_inline script a) (is_act is_posting script a) (is_act is_operation script a) (is_act is_control script a)
 
 -- a handler of a posting makes its only call
-module _ (acts : List Entry) (items : AreItems 0 acts) (states : List ActState) (a p place : ℕ) (c : Class) (was : ActsFit acts states)
-    (parent : nth_place acts a ≡ Some (p, c)) (caller : IsCaller acts p a c (at states p).phase) where
+module _ (acts : List Entry) (items : AreItems 0 acts) (states : List ActState) (a p place : ℕ) (c : Class)
+    (was : ActsFit acts states) (parent : nth_place acts a ≡ Some (p, c))
+    (caller : IsCaller acts p a c (at states p).phase) where
   inside : IsUnder acts a p c
   inside = under acts items a p c parent
 
   not_made : caller.progress.made ≡ 0
-  not_made = first_alone a caller.progress.made (ap (λ branch. slice_get branch caller.progress.made) (sym inside.only) ∙ caller.next)
+  not_made =
+      first_alone a caller.progress.made (ap (λ branch. slice_get branch caller.progress.made) (sym inside.only) ∙ caller.next)
 
   abbrev above : ActState
   above = record (at states p) { phase = progressed step.Made (at states p).phase }
@@ -112,7 +123,9 @@ module _ (acts : List Entry) (items : AreItems 0 acts) (states : List ActState) 
   p_below = is_there states p (ap is_born caller.is)
 
   a_below : a < length half
-  a_below = let less = inside.within in let size = was.size in let same = length-set states p above in omega (arith, less, size, same)
+  a_below =
+      let less = inside.within in
+      let size = was.size in let same = length-set states p above in omega (arith, less, size, same)
 
   p_apart : p ≢ a
   p_apart same = let next = inside.next in absurd (omega (arith, same, next))
@@ -137,7 +150,8 @@ module _ (acts : List Entry) (items : AreItems 0 acts) (states : List ActState) 
   runs_above : fits (nth_act acts p) (is_called (at states p).call) above.phase ≡ true
   runs_above =
       ap (λ q. fits (nth_act acts p) (is_called (at states p).call) (progressed step.Made q)) caller.is
-      ∙ runs_on (known acts items p) (is_called (at states p).call) caller.running caller.progress (stepped step.Made caller.progress)
+      ∙ runs_on (known acts items p) (is_called (at states p).call) caller.running caller.progress
+      (stepped step.Made caller.progress)
       (ap (fits (nth_act acts p) (is_called (at states p).call)) (sym caller.is) ∙ was.fit p)
 
   fits_below : fits (nth_act acts a) true (accepted (session_of acts) a) ≡ true
@@ -182,7 +196,8 @@ module _ (acts : List Entry) (items : AreItems 0 acts) (states : List ActState) 
         omega (arith, one, two, here, none, running, runs, accepts);
   }
 
-  pub call_turns : (r : ReactorHalf) (from : ℕ) (left : List ℕ) → Turns acts states r from left → Turns acts called_states r from left
+  pub call_turns : (r : ReactorHalf) (from : ℕ) (left : List ℕ) → Turns acts states r from left →
+      Turns acts called_states r from left
   call_turns r from left turns =
       let middle : Turns acts half r from left =
       turns_changed acts states half p above r from left turns first (ap is_request caller.is)
@@ -193,7 +208,8 @@ module _ (acts : List Entry) (items : AreItems 0 acts) (states : List ActState) 
       (ap (λ act. fits act true (accepted (session_of acts) a)) (sym inside.made_is) ∙ fits_below))
 
 -- a call that may return was made, and hasn't stopped anything
-pub made_by_test : (stops inside : Bool) (act : ActState) → stops ≡ false → is_call_done stops inside act ≡ true → is_made act.call ≡ true
+pub made_by_test : (stops inside : Bool) (act : ActState) → stops ≡ false → is_call_done stops inside act ≡ true →
+    is_made act.call ≡ true
 made_by_test true inside act never done = absurd (cc never)
 made_by_test false inside act never done = (and_parts (is_made act.call) (not inside || has_ended act.phase) done).0
 
@@ -207,8 +223,8 @@ returned_called place (call.Open called) = refl
 returned_called place (call.Stopping called) = refl
 returned_called place (call.Back called back) = refl
 
-module _ (acts : List Entry) (items : AreItems 0 acts) (states : List ActState) (a place : ℕ) (was : ActsFit acts states)
-    (made : is_made (at states a).call ≡ true) where
+module _ (acts : List Entry) (items : AreItems 0 acts) (states : List ActState) (a place : ℕ)
+    (was : ActsFit acts states) (made : is_made (at states a).call ≡ true) where
   abbrev back_here : ActState
   back_here = record (at states a) { call = returned place (at states a).call }
 
@@ -225,8 +241,10 @@ module _ (acts : List Entry) (items : AreItems 0 acts) (states : List ActState) 
   back_below : a < length states
   back_below = elim (cases_lt a (length states)) [
     | inl less ↦ less
-    | inr past ↦ absurd (let wrong : false ≡ true = sym (ap (λ (act : ActState). is_called act.call) (get_or_past states a fresh past))
-        ∙ called_now in cc)
+    | inr past ↦
+        absurd (let wrong : false ≡ true =
+        sym (ap (λ (act : ActState). is_called act.call) (get_or_past states a fresh past)) ∙ called_now in
+        cc)
   ]
 
   pub back_changes : Changes states back_states a back_here

@@ -49,13 +49,16 @@ set_either states o to n = elim (cases_eq n o) [
   | inr differ ↦ inr (get_or-set_other states o n to fresh differ)
   | inl same ↦ elim (cases_lt o (length states)) [
     | inl less ↦ inl (ap (at (slice_set states o to)) same ∙ get_or-set_same states o to fresh less)
-    | inr past ↦ inr (get_or_past (slice_set states o to) n fresh (let size = length-set states o to in omega (arith, past, same, size))
+    | inr past ↦
+        inr (get_or_past (slice_set states o to) n fresh
+        (let size = length-set states o to in omega (arith, past, same, size))
         ∙ sym (get_or_past states n fresh (omega (arith, past, same))))
   ]
 ]
 
 spent_either : (states : List ActState) (o : ℕ) (to : ActState) → is_unspent to.phase ≡ false →
-    ((n : ℕ) → is_unspent (at states n).phase ≡ false) → (n : ℕ) → is_unspent (at (slice_set states o to) n).phase ≡ false
+    ((n : ℕ) → is_unspent (at states n).phase ≡ false) → (n : ℕ) →
+    is_unspent (at (slice_set states o to) n).phase ≡ false
 spent_either states o to here all n = elim (set_either states o to n) [
   | inl is ↦ ap (λ (act : ActState). is_unspent act.phase) is ∙ here
   | inr is ↦ ap (λ (act : ActState). is_unspent act.phase) is ∙ all n
@@ -78,7 +81,8 @@ module _ (acts : List Entry) (items : AreItems 0 acts) (told : Bool) (s : State)
   unspent : (n : ℕ) (q : ActPhase) → (at s.context.acts n).phase ≡ q → is_unspent q ≡ true → ⊥
   unspent n q is live = let wrong : false ≡ true = sym (was.spent n) ∙ (ap is_unspent is ∙ live) in cc
 
-  no_call : (a : ℕ) (place : Place) → IsSomeAnd (body_at (session_of acts) s.reactor.failed s.context place) (IsNextOf a) → ⊥
+  no_call : (a : ℕ) (place : Place) →
+      IsSomeAnd (body_at (session_of acts) s.reactor.failed s.context place) (IsNextOf a) → ⊥
   no_call a None may = opening_over acts s.reactor.failed s.context a was.working was.made may
   no_call a (Some place) may =
       let caller = caller_of acts place.0 a place.1 (at s.context.acts place.0).phase may in
@@ -100,14 +104,16 @@ module _ (acts : List Entry) (items : AreItems 0 acts) (told : Bool) (s : State)
   closings_same a None = refl
   closings_same a (Some place) = refl
 
-  spent_after : (a : ℕ) (place : Place) (n : ℕ) → is_unspent (at (with_progress place step.Back (half a)).acts n).phase ≡ false
+  spent_after : (a : ℕ) (place : Place) (n : ℕ) →
+      is_unspent (at (with_progress place step.Back (half a)).acts n).phase ≡ false
   spent_after a None n = half_spent a n
   spent_after a (Some place) n =
       let before : ActState = at (half a).acts place.0 in
       spent_either (half a).acts place.0 (record before { phase = progressed step.Back before.phase })
       (progressed_spent before.phase (half_spent a place.0)) (half_spent a) n
 
-  closed_back : (a : ℕ) → is_act is_stop (session_of acts) a ≡ false → Closed acts (after_event (session_of acts) told s (event.Back a))
+  closed_back : (a : ℕ) → is_act is_stop (session_of acts) a ≡ false →
+      Closed acts (after_event (session_of acts) told s (event.Back a))
   closed_back a never =
       let place : Place = nth_place acts a in
       let x : ContextState = with_progress place step.Back (half a) in
@@ -124,7 +130,8 @@ module _ (acts : List Entry) (items : AreItems 0 acts) (told : Bool) (s : State)
   pub closed_on : (e : Event) → MayHappen (session_of acts) told s e → is_fault e ≡ false → is_outside_stop e ≡ false →
       (is_return e ≡ true) × Closed acts (after_event (session_of acts) told s e)
   closed_on (event.Call a) may works runs_on = absurd (no_call a (nth_place acts a) may)
-  closed_on (event.Back a) may works runs_on = (refl, closed_back a (is_act-in is_stop acts a ∙ never_stops (known acts items a)))
+  closed_on (event.Back a) may works runs_on =
+      (refl, closed_back a (is_act-in is_stop acts a ∙ never_stops (known acts items a)))
   closed_on (event.Stop (Some a)) may works runs_on =
       absurd (let wrong : false ≡ true = sym (is_act-in is_stop acts a ∙ never_stops (known acts items a)) ∙ may.stops in cc)
   closed_on (event.Stop None) may works runs_on = absurd (cc)
@@ -146,7 +153,8 @@ module _ (acts : List Entry) (items : AreItems 0 acts) (told : Bool) (s : State)
   closed_on event.Stopped may works runs_on = absurd (no_round may.round.begun)
   closed_on event.Polled may works runs_on = absurd (no_round may.round.begun)
   closed_on event.Restart may works runs_on = absurd (no_round may.begun)
-  closed_on (event.Dropped o mark) may works runs_on = absurd (let wrong : false ≡ true = sym (was.spent o) ∙ may.next.left in cc)
+  closed_on (event.Dropped o mark) may works runs_on =
+      absurd (let wrong : false ≡ true = sym (was.spent o) ∙ may.next.left in cc)
 
 -- events that a summary doesn't tell
 pub record AreSilent (events : List Event) : Type 0 where
@@ -159,12 +167,18 @@ pub record AreSilent (events : List Event) : Type 0 where
 
 silent_return : (e : Event) (events : List Event) → is_return e ≡ true → AreSilent events → AreSilent (e ∷ events)
 silent_return (event.Back a) events is rest = record {
-  calls = let one = sum_by-cons (λ e. one_if (is_call e)) (event.Back a) events in let more = rest.calls in omega (arith, one, more);
+  calls =
+      let one = sum_by-cons (λ e. one_if (is_call e)) (event.Back a) events in
+      let more = rest.calls in omega (arith, one, more);
   ends =
       λ weight. let one = sum_by-cons (end_weight weight) (event.Back a) events in let more = rest.ends weight in omega
       (arith, one, more);
-  drops = let one = sum_by-cons (λ e. one_if (is_drop e)) (event.Back a) events in let more = rest.drops in omega (arith, one, more);
-  aborts = let one = sum_by-cons (λ e. one_if (is_abort e)) (event.Back a) events in let more = rest.aborts in omega (arith, one, more);
+  drops =
+      let one = sum_by-cons (λ e. one_if (is_drop e)) (event.Back a) events in
+      let more = rest.drops in omega (arith, one, more);
+  aborts =
+      let one = sum_by-cons (λ e. one_if (is_abort e)) (event.Back a) events in
+      let more = rest.aborts in omega (arith, one, more);
   time = rest.time;
   closed = rest.closed;
 }
@@ -175,9 +189,9 @@ or_parts true b none = absurd (cc)
 or_parts false b none = (refl, none)
 
 -- all that comes after the closing is silent
-pub silent_from : (acts : List Entry) (items : AreItems 0 acts) (told : Bool) (events : List Event) (s : State) → Closed acts s →
-    IsLegalFrom (session_of acts) told s events → list_any is_fault events ≡ false → list_any is_outside_stop events ≡ false →
-    AreSilent events
+pub silent_from : (acts : List Entry) (items : AreItems 0 acts) (told : Bool) (events : List Event) (s : State) →
+    Closed acts s → IsLegalFrom (session_of acts) told s events → list_any is_fault events ≡ false →
+    list_any is_outside_stop events ≡ false → AreSilent events
 silent_from acts items told [] s was legal works runs_on = record {
   calls = refl;
   ends = λ weight. refl;

@@ -28,13 +28,15 @@ use Rattle.generated_session.proofs.ItemsLemmas.{AreItems, dispatch, IsPosting, 
 use Rattle.generated_session.proofs.StatesLemmas.{at, called_count, ended_sum, outermost_opened}
 use Rattle.generated_session.proofs.TurnsLemmas.{abort_count, cut_by, head_untaken, op_count, stays_by, to_come, Turns, until, wait_count}
 
-none_of_range : (test : ℕ → Bool) (a n : ℕ) → count_by test (range_with_len a n) ≡ 0 → (m : ℕ) → a ≤ m → m < a + n → test m ≡ false
+none_of_range : (test : ℕ → Bool) (a n : ℕ) → count_by test (range_with_len a n) ≡ 0 → (m : ℕ) → a ≤ m → m < a + n →
+    test m ≡ false
 none_of_range test a zero none m least below = absurd (omega (arith, least, below))
 none_of_range test a (suc n) none m least below =
     let first = sum_by-cons (λ k. one_if (test k)) a (range_with_len (a + 1) n) in
     elim (cases_eq m a) [
       | inl same ↦ ap test same ∙ none_here (test a) (omega (arith, none, first))
-      | inr differ ↦ none_of_range test (a + 1) n (omega (arith, none, first)) m (omega (arith, least, differ)) (omega (arith, below))
+      | inr differ ↦
+          none_of_range test (a + 1) n (omega (arith, none, first)) m (omega (arith, least, differ)) (omega (arith, below))
     ]
   where
     none_here : (b : Bool) → one_if b ≡ 0 → b ≡ false
@@ -73,33 +75,40 @@ asked_by : (b : Bool) (n : ℕ) → 1 ≤ n → n ≡ one_if b → b ≡ true
 asked_by true n some is = refl
 asked_by false n some is = absurd (omega (arith, some, is))
 
-module _ (acts : List Entry) (items : AreItems 0 acts) (s : State) (was : Going acts s) (may : MayEndRound (session_of acts) s) where
+module _ (acts : List Entry) (items : AreItems 0 acts) (s : State) (was : Going acts s)
+    (may : MayEndRound (session_of acts) s) where
   outstanding : (n : ℕ) → is_outstanding (at s.context.acts n).phase (was_taken s.reactor n) ≡ false
   outstanding n = elim (cases_lt n (length s.context.acts)) [
-    | inl less ↦ none_of_range (is_act_outstanding s) 0 (length s.context.acts) (let idle = may.idle in omega (arith, idle)) n
+    | inl less ↦
+        none_of_range (is_act_outstanding s) 0 (length s.context.acts) (let idle = may.idle in omega (arith, idle)) n
         (omega arith) (omega (arith, less))
-    | inr past ↦ ap (λ (act : ActState). is_outstanding act.phase (was_taken s.reactor n)) (get_or_past s.context.acts n fresh past)
+    | inr past ↦
+        ap (λ (act : ActState). is_outstanding act.phase (was_taken s.reactor n)) (get_or_past s.context.acts n fresh past)
   ]
 
   pub spent : (n : ℕ) → is_unspent (at s.context.acts n).phase ≡ false
   spent n = spent_by (at s.context.acts n).phase (was_taken s.reactor n) (outstanding n)
 
   called_outer : (n : ℕ) → n < length acts → nth_place acts n ≡ None → is_called (at s.context.acts n).call ≡ true
-  called_outer n less parent = back_called (at s.context.acts n).call (was.fit.opened n (outermost_opened acts n less parent))
+  called_outer n less parent =
+      back_called (at s.context.acts n).call (was.fit.opened n (outermost_opened acts n less parent))
 
   ended_is : (n : ℕ) → (operates (nth_act acts n) ≡ true → is_called (at s.context.acts n).call ≡ true) →
       has_ended (at s.context.acts n).phase ≡ operates (nth_act acts n)
   ended_is n called =
-      spent_ended (known acts items n) (is_called (at s.context.acts n).call) (at s.context.acts n).phase (was.fit.fit n) called (spent n)
+      spent_ended (known acts items n) (is_called (at s.context.acts n).call) (at s.context.acts n).phase
+      (was.fit.fit n) called (spent n)
 
-  called_by : (n : ℕ) (place : Place) → n < length acts → nth_place acts n ≡ place → is_called (at s.context.acts n).call ≡ true
+  called_by : (n : ℕ) (place : Place) → n < length acts → nth_place acts n ≡ place →
+      is_called (at s.context.acts n).call ≡ true
   called_by n None less parent = called_outer n less parent
   called_by n (Some place) less parent =
       let p : ℕ = place.0 in
       let inside = under acts items n p place.1 parent in
       let below : p < length acts = let next = inside.next in omega (arith, next, less) in
       let over : has_ended (at s.context.acts p).phase ≡ true =
-      ended_is p (λ is. called_outer p below inside.outermost) ∙ (ap operates inside.maker_is ∙ posting_operates inside.posts) in
+      ended_is p (λ is. called_outer p below inside.outermost)
+      ∙ (ap operates inside.maker_is ∙ posting_operates inside.posts) in
       was.fit.nested n p place.1 parent ∙ ended_made (at s.context.acts p).phase over
 
   called_all : (n : ℕ) → n < length acts → is_called (at s.context.acts n).call ≡ true
@@ -107,13 +116,15 @@ module _ (acts : List Entry) (items : AreItems 0 acts) (s : State) (was : Going 
 
   pub all_called : called_count s.context.acts (length acts) ≡ length acts
   all_called =
-      total-same (λ n. one_if (is_called (at s.context.acts n).call)) (λ n. 1) (length acts) (λ n less. ap one_if (called_all n less))
+      total-same (λ n. one_if (is_called (at s.context.acts n).call)) (λ n. 1) (length acts)
+      (λ n less. ap one_if (called_all n less))
       ∙ total-ones (length acts)
 
   pub all_ended : (weight : ℕ → ℕ) → ended_sum weight s.context.acts (length acts) ≡ total
       (λ n. cond (operates (nth_act acts n)) (weight n) 0) (length acts)
   all_ended weight =
-      total-same (λ n. cond (has_ended (at s.context.acts n).phase) (weight n) 0) (λ n. cond (operates (nth_act acts n)) (weight n) 0)
+      total-same (λ n. cond (has_ended (at s.context.acts n).phase) (weight n) 0)
+      (λ n. cond (operates (nth_act acts n)) (weight n) 0)
       (length acts)
       (λ n less. ap (λ b. cond b (weight n) 0) (ended_is n (λ is. called_all n less)))
 
@@ -157,14 +168,16 @@ module _ (acts : List Entry) (items : AreItems 0 acts) (s : State) (was : Going 
 
   pub nothing_to_come : to_come s.reactor (map (nth_act acts) was.left) ≡ 0
   nothing_to_come =
-      let left = ap (λ (l : List ℕ). to_come s.reactor (map (nth_act acts) l)) (no_requests was.from was.left was.turns) in
+      let left =
+      ap (λ (l : List ℕ). to_come s.reactor (map (nth_act acts) l)) (no_requests was.from was.left was.turns) in
       let due = ap abort_count due_none in
       let none = ap (gather plus (cut_by [])) waits_none in
       omega (arith, left, due, none)
 
   pub until_now : until s.reactor (map (nth_act acts) was.left) ≡ s.reactor.now
   until_now =
-      let left = ap (λ (l : List ℕ). until s.reactor (map (nth_act acts) l)) (no_requests was.from was.left was.turns) in
+      let left =
+      ap (λ (l : List ℕ). until s.reactor (map (nth_act acts) l)) (no_requests was.from was.left was.turns) in
       let none = ap (gather most (stays_by s.reactor [])) waits_none in
       omega (arith, left, none)
 

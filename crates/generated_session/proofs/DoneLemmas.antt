@@ -24,7 +24,8 @@ first_of : {X : Type 0} (xs : List X) (x : X) → slice_get xs 0 ≡ Some x → 
 first_of [] x first = absurd (cc first)
 first_of (y ∷ xs) x first = (xs, let same : y ≡ x = cc in ap (λ z. z ∷ xs) same)
 
-never_given : {o : Option Act} → IsKnown o → (r : ReactorHalf) (n : ℕ) (given : Code) (size : ℕ) → MayGiveUntold r n o given size → ⊥
+never_given : {o : Option Act} → IsKnown o → (r : ReactorHalf) (n : ℕ) (given : Code) (size : ℕ) →
+    MayGiveUntold r n o given size → ⊥
 never_given absent r n given size may = may
 never_given (posts s) r n given size may = may
 never_given (dispatches s) r n given size may = may
@@ -46,13 +47,13 @@ pub record IsDue (r : ReactorHalf) (o : ℕ) (given : Code) : Type 0 where
   pub is_op : head.op ≡ o
   pub code : head.outcome.0 ≡ given
 
-told_code : (told : Bool) (act : Option Act) (head : Completion) (given : Code) (size : ℕ) → IsToldAs told act head.outcome given size →
-    head.outcome.0 ≡ given
+told_code : (told : Bool) (act : Option Act) (head : Completion) (given : Code) (size : ℕ) →
+    IsToldAs told act head.outcome given size → head.outcome.0 ≡ given
 told_code true act head given size told = ap (λ pair. pair.0) told
 told_code false act head given size told = told.0
 
-pub what_is_due : (script : ScriptModel) (told : Bool) (r : ReactorHalf) (o : ℕ) (given : Code) (size : ℕ) → IsKnown (act_of script o) →
-    MayTell script told r o given size → IsDue r o given
+pub what_is_due : (script : ScriptModel) (told : Bool) (r : ReactorHalf) (o : ℕ) (given : Code) (size : ℕ) →
+    IsKnown (act_of script o) → MayTell script told r o given size → IsDue r o given
 what_is_due script told r o given size known (inl next) =
     let first = first_of r.due next.head next.due in
     record {
@@ -68,17 +69,19 @@ what_is_due script told r o given size known (inr untold) = absurd (never_given 
 abbrev pub told_on : List Completion → ReactorHalf → ReactorHalf
 told_on rest r = record r { due = rest; whole_turn = false }
 
-pub done_is : (script : ScriptModel) (r : ReactorHalf) (o : ℕ) (head : Completion) (rest : List Completion) → IsKnown (act_of script o) →
-    r.due ≡ head ∷ rest → reactor_after_done script r o ≡ told_on rest r
+pub done_is : (script : ScriptModel) (r : ReactorHalf) (o : ℕ) (head : Completion) (rest : List Completion) →
+    IsKnown (act_of script o) → r.due ≡ head ∷ rest → reactor_after_done script r o ≡ told_on rest r
 done_is script r o head rest known due =
     ap (λ slot. disconnected o slot (record (told_off script o r r.due) { whole_turn = false })) (no_slot known)
-    ∙ ap (λ (list : List Completion). let next : ReactorHalf = record (told_off script o r list) { whole_turn = false } in next) due
+    ∙ ap (λ (list : List Completion).
+    let next : ReactorHalf = record (told_off script o r list) { whole_turn = false } in next) due
 
 abort_is : (given : Code) (o size : ℕ) → is_abort (event.Done o given size) ≡ is_aborted_code given
 abort_is code.Aborted o size = refl
 abort_is given o size = refl
 
-pub told_to_come : (r : ReactorHalf) (o : ℕ) (given : Code) (size : ℕ) (due : IsDue r o given) (later : List (Option Act)) →
+pub told_to_come : (r : ReactorHalf) (o : ℕ) (given : Code) (size : ℕ) (due : IsDue r o given)
+    (later : List (Option Act)) →
     to_come r later ≡ cond (is_abort (event.Done o given size)) 1 0 + to_come (told_on due.rest r) later
 told_to_come r o given size due later =
     let one = ap abort_count due.due in
@@ -124,7 +127,8 @@ module _ (acts : List Entry) (old : List ActState) (r : ReactorHalf) (from o : �
         let differ : n ≢ o = λ same. absurd (omega (arith, same, least, before)) in
         ap (λ (act : ActState). is_request act.phase) (changes.others n differ) ∙ turns.waiting n asks least;
     pending = λ n. elim (cases_eq n o) [
-      | inl same ↦ subst (λ m. op_count m due.rest + wait_count m r.waits ≡ cond (is_requested (at new m).phase && was_taken r m) 1 0)
+      | inl same ↦
+          subst (λ m. op_count m due.rest + wait_count m r.waits ≡ cond (is_requested (at new m).phase && was_taken r m) 1 0)
           (sym same)
           (found.1 ∙ sym (ap (λ (act : ActState). one_if (is_requested act.phase && was_taken r o)) changes.here
           ∙ ap (λ b. one_if (b && was_taken r o)) is))
@@ -132,9 +136,11 @@ module _ (acts : List Entry) (old : List ActState) (r : ReactorHalf) (from o : �
           let one = ap (op_count n) due.due in
           let two = ap one_if (ne_eqb due.head.op n (λ same. differ (sym same ∙ due.is_op))) in
           let three = turns.pending n in
-          let same : op_count n due.rest + wait_count n r.waits ≡ cond (is_requested (at old n).phase && was_taken r n) 1 0 =
+          let same : op_count n due.rest + wait_count n r.waits
+          ≡ cond (is_requested (at old n).phase && was_taken r n) 1 0 =
           omega (arith, one, two, three) in
-          same ∙ ap (λ (act : ActState). one_if (is_requested act.phase && was_taken r n)) (sym (changes.others n differ))
+          same
+          ∙ ap (λ (act : ActState). one_if (is_requested act.phase && was_taken r n)) (sym (changes.others n differ))
     ];
     early = turns.early;
   }

@@ -81,7 +81,8 @@ fits (Some (act.Wait timer strand slot filter)) = fits_wait
 fits _ = fits_none
 
 pub ready_runs : {o : Option Act} → IsKnown o → (b : Bool) (given : Code) (size : ℕ) (why : Cause) →
-    fits o b (phase.Ready given size why) ≡ true → (progress : Progress) → fits o b (phase.Running (class_of_code given) progress) ≡ true
+    fits o b (phase.Ready given size why) ≡ true → (progress : Progress) →
+    fits o b (phase.Running (class_of_code given) progress) ≡ true
 ready_runs (posts s) true code.Ok size why fit progress = refl
 ready_runs (dispatches s) true code.Ok size why fit progress = refl
 ready_runs (waits timer small) true given size why fit progress = refl
@@ -164,7 +165,8 @@ never_requested true phase.Asked fit = absurd (cc)
 never_requested false phase.Asked fit = absurd (cc)
 never_requested b p fit = refl
 
-pub posting_never_requested : {a : Act} → IsPosting a → (b : Bool) (p : ActPhase) → fits (Some a) b p ≡ true → is_request p ≡ false
+pub posting_never_requested : {a : Act} → IsPosting a → (b : Bool) (p : ActPhase) → fits (Some a) b p ≡ true →
+    is_request p ≡ false
 posting_never_requested (post s small) b p fit = never_requested b p fit
 posting_never_requested (dispatch s small) b p fit = never_requested b p fit
 
@@ -181,10 +183,12 @@ abbrev pub operates : Option Act → Bool
 operates None = false
 operates (Some act) = is_operation act
 
-pub request_asks : {o : Option Act} → IsKnown o → (b : Bool) (p : ActPhase) → fits o b p ≡ true → is_request p ≡ true → asks_in o ≡ true
+pub request_asks : {o : Option Act} → IsKnown o → (b : Bool) (p : ActPhase) → fits o b p ≡ true → is_request p ≡ true →
+    asks_in o ≡ true
 request_asks (waits timer small) b p fit asks = refl
 request_asks (expires timer after small) b p fit asks = refl
-request_asks (posts s) b p fit asks = absurd (let never = never_requested b p fit in let wrong : true ≡ false = sym asks ∙ never in cc)
+request_asks (posts s) b p fit asks =
+    absurd (let never = never_requested b p fit in let wrong : true ≡ false = sym asks ∙ never in cc)
 request_asks (dispatches s) b p fit asks =
     absurd (let never = never_requested b p fit in let wrong : true ≡ false = sym asks ∙ never in cc)
 request_asks absent false phase.Requested fit asks = absurd (cc)
@@ -194,8 +198,8 @@ request_asks absent true phase.Asked fit asks = absurd (cc)
 request_asks absent b p fit asks = absurd (cc)
 
 -- what was called and is spent has ended, where it has a handler
-pub spent_ended : {o : Option Act} → IsKnown o → (b : Bool) (p : ActPhase) → fits o b p ≡ true → (operates o ≡ true → b ≡ true) →
-    is_unspent p ≡ false → has_ended p ≡ operates o
+pub spent_ended : {o : Option Act} → IsKnown o → (b : Bool) (p : ActPhase) → fits o b p ≡ true →
+    (operates o ≡ true → b ≡ true) → is_unspent p ≡ false → has_ended p ≡ operates o
 spent_ended (posts s) true phase.Ended fit called spent = refl
 spent_ended (posts s) true (phase.Ready code.Ok size why) fit called spent = absurd (cc)
 spent_ended (posts s) true (phase.Running class.Ok progress) fit called spent = absurd (cc)
@@ -227,7 +231,8 @@ is_act_by : (test : Act → Bool) (acts : List Entry) (n : ℕ) (e : Option Entr
 is_act_by test acts n None there = rw there refl
 is_act_by test acts n (Some e) there = rw there refl
 
-pub is_act-in : (test : Act → Bool) (acts : List Entry) (n : ℕ) → is_act test (session_of acts) n ≡ test_in test (nth_act acts n)
+pub is_act-in : (test : Act → Bool) (acts : List Entry) (n : ℕ) →
+    is_act test (session_of acts) n ≡ test_in test (nth_act acts n)
 is_act-in test acts n = is_act_by test acts n (slice_get acts n) refl
 
 pub never_stops : {o : Option Act} → IsKnown o → test_in is_stop o ≡ false
@@ -253,8 +258,8 @@ posting_by (waits timer small) inline operation control is = absurd (cc)
 posting_by (expires timer after small) inline operation control is = absurd (cc)
 
 -- a posting is ready, or inside its call
-pub posting_accepted : (acts : List Entry) (n : ℕ) → IsKnown (nth_act acts n) → test_in is_posting (nth_act acts n) ≡ true →
-    fits (nth_act acts n) true (accepted (session_of acts) n) ≡ true
+pub posting_accepted : (acts : List Entry) (n : ℕ) → IsKnown (nth_act acts n) →
+    test_in is_posting (nth_act acts n) ≡ true → fits (nth_act acts n) true (accepted (session_of acts) n) ≡ true
 posting_accepted acts n known is =
     let script = session_of acts in
     let here : is_act is_posting script n ≡ true = is_act-in is_posting acts n ∙ is in
@@ -283,21 +288,24 @@ inline_by acts n (Some e) there place = rw (there, place) refl
 
 -- an act of `open` isn't executed inside its call
 pub opened_is : (acts : List Entry) (n : ℕ) → nth_place acts n ≡ None →
-    accepted (session_of acts) n ≡ accepted_by false (test_in is_posting (nth_act acts n)) (test_in is_operation (nth_act acts n))
+    accepted (session_of acts) n
+    ≡ accepted_by false (test_in is_posting (nth_act acts n)) (test_in is_operation (nth_act acts n))
     (test_in is_control (nth_act acts n))
 opened_is acts n place =
     let script = session_of acts in
     ap (λ b. accepted_by b (is_act is_posting script n) (is_act is_operation script n) (is_act is_control script n))
     (inline_by acts n (slice_get acts n) refl place)
     ∙ ap (λ b. accepted_by false b (is_act is_operation script n) (is_act is_control script n)) (is_act-in is_posting acts n)
-    ∙ ap (λ b. accepted_by false (test_in is_posting (act_of script n)) b (is_act is_control script n)) (is_act-in is_operation acts n)
+    ∙ ap (λ b. accepted_by false (test_in is_posting (act_of script n)) b (is_act is_control script n))
+    (is_act-in is_operation acts n)
     ∙ ap (λ b. accepted_by false (test_in is_posting (act_of script n)) (test_in is_operation (act_of script n)) b)
     (is_act-in is_control acts n)
 
 -- it is accepted as what it is
-pub opened_accepted : (acts : List Entry) (n : ℕ) → IsKnown (nth_act acts n) → nth_place acts n ≡ None → nth_act acts n ≢ None →
-    (fits (nth_act acts n) true (accepted (session_of acts) n) ≡ true) ×
-    (is_request (accepted (session_of acts) n) ≡ asks_in (nth_act acts n))
+pub opened_accepted : (acts : List Entry) (n : ℕ) → IsKnown (nth_act acts n) → nth_place acts n ≡ None →
+    nth_act acts n ≢ None →
+    (fits (nth_act acts n) true (accepted (session_of acts) n) ≡ true)
+    × (is_request (accepted (session_of acts) n) ≡ asks_in (nth_act acts n))
 opened_accepted acts n known place there =
     let same = opened_is acts n place in
     (ap (fits (nth_act acts n) true) same ∙ called_by known there, ap is_request same ∙ accepts_by known)

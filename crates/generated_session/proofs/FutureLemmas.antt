@@ -1,5 +1,5 @@
--- What is still to come of the requests that weren't taken: which waits a later expiry of their timer cancels, and how long the
--- others last.
+-- What is still to come of the requests that weren't taken: which waits a later expiry of their timer cancels, and how
+-- long the others last.
 use Rattle.std.proofs.Common.{◌≡◌, ℕ, ◌+◌, nat_lt, max, zero, suc, Bool, true, false, ◌&&◌, ◌||◌, cond, List, [], ◌∷◌, length, map, Option, Some, None, refl, ap, sym, ◌∙◌, arith}
 use Rattle.std.specs.List.{list_any, slice_get, slice_index_or, slice_set}
 use Rattle.std.proofs.Math.ListN.{length-set}
@@ -47,8 +47,9 @@ abbrev pub asked_acts : List Entry → List (Option Act)
 asked_acts [] = []
 asked_acts (e ∷ es) = cond (asks_entry e) (Some e.act ∷ asked_acts es) (asked_acts es)
 
-asked_by : (b : Bool) (acts : List Entry) (n : ℕ) (a : Act) (xs : List ℕ) (ys : List (Option Act)) → nth_act acts n ≡ Some a →
-    map (nth_act acts) xs ≡ ys → map (nth_act acts) (cond b (n ∷ xs) xs) ≡ cond b (Some a ∷ ys) ys
+asked_by : (b : Bool) (acts : List Entry) (n : ℕ) (a : Act) (xs : List ℕ) (ys : List (Option Act)) →
+    nth_act acts n ≡ Some a → map (nth_act acts) xs ≡ ys →
+    map (nth_act acts) (cond b (n ∷ xs) xs) ≡ cond b (Some a ∷ ys) ys
 asked_by true acts n a xs ys here rest = ap (λ o. o ∷ map (nth_act acts) xs) here ∙ ap (λ zs. Some a ∷ zs) rest
 asked_by false acts n a xs ys here rest = rest
 
@@ -80,7 +81,8 @@ lasts_none : {a : Act} → IsPosting a → (later : List Entry) → lasting_by a
 lasts_none (post strand small) later = refl
 lasts_none (dispatch strand small) later = refl
 
-renewed_later : {n : ℕ} {es : List Entry} → AreItems n es → (timer : ℕ) → is_renewed timer (asked_acts es) ≡ is_set_again timer es
+renewed_later : {n : ℕ} {es : List Entry} → AreItems n es → (timer : ℕ) →
+    is_renewed timer (asked_acts es) ≡ is_set_again timer es
 renewed_later nothing timer = refl
 renewed_later (posting a rest is items) timer = rw (asks_none is, sets_none is timer) (renewed_later items timer)
 renewed_later (nested a b rest is also items) timer =

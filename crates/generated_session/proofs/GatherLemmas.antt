@@ -17,7 +17,8 @@ all_by P Q xs each all = λ k d within. each (get_or xs k d) (all k d within)
 pub all_any : {X : Type 0} (P : X → Type 0) (xs : List X) → ((x : X) → P x) → All P xs
 all_any P xs each = λ k d within. each (get_or xs k d)
 
-pub all_both : {X : Type 0} (P Q R : X → Type 0) (xs : List X) → ((x : X) → P x → Q x → R x) → All P xs → All Q xs → All R xs
+pub all_both : {X : Type 0} (P Q R : X → Type 0) (xs : List X) → ((x : X) → P x → Q x → R x) → All P xs → All Q xs →
+    All R xs
 all_both P Q R xs each one two = λ k d within. each (get_or xs k d) (one k d within) (two k d within)
 
 pub record Gathers (op : ℕ → ℕ → ℕ) : Type 0 where
@@ -76,8 +77,9 @@ pub gather-map : {X Y : Type 0} (op : ℕ → ℕ → ℕ) (f : Y → ℕ) (h : 
 gather-map op f h [] = refl
 gather-map op f h (x ∷ xs) = ap (op (f (h x))) (gather-map op f h xs)
 
-kept_by : {X : Type 0} (op : ℕ → ℕ → ℕ) → Gathers op → (g : X → ℕ) (b : Bool) (n : ℕ) (x : X) (rest : ℕ) (kept : List X) →
-    n ≡ cond b (g x) 0 → rest ≡ gather op g kept → op n rest ≡ gather op g (cond b (x ∷ kept) kept)
+kept_by : {X : Type 0} (op : ℕ → ℕ → ℕ) → Gathers op →
+    (g : X → ℕ) (b : Bool) (n : ℕ) (x : X) (rest : ℕ) (kept : List X) → n ≡ cond b (g x) 0 → rest ≡ gather op g kept →
+    op n rest ≡ gather op g (cond b (x ∷ kept) kept)
 kept_by op is g true n x rest kept here there = ap (λ m. op m rest) here ∙ ap (op (g x)) there
 kept_by op is g false n x rest kept here there = ap (λ m. op m rest) here ∙ is.unit rest ∙ there
 
@@ -89,7 +91,8 @@ gather-kept op is f g p (x ∷ xs) all =
     kept_by op is g (p x) (f x) x (gather op f xs) (filter p xs) (All-head (λ y. f y ≡ cond (p y) (g y) 0) x xs all)
     (gather-kept op is f g p xs (All-tail (λ y. f y ≡ cond (p y) (g y) 0) x xs all))
 
-pub gather-same : {X : Type 0} (op : ℕ → ℕ → ℕ) (f g : X → ℕ) (xs : List X) → All (λ x. f x ≡ g x) xs → gather op f xs ≡ gather op g xs
+pub gather-same : {X : Type 0} (op : ℕ → ℕ → ℕ) (f g : X → ℕ) (xs : List X) → All (λ x. f x ≡ g x) xs →
+    gather op f xs ≡ gather op g xs
 gather-same op f g [] all = refl
 gather-same op f g (x ∷ xs) all =
     ap (λ n. op n (gather op f xs)) (All-head (λ y. f y ≡ g y) x xs all)
@@ -107,7 +110,8 @@ most-kept f p now [] less = refl
 most-kept f p now (x ∷ xs) less =
     most_of f (p x) x now 0 (gather most f xs) (filter p xs) (less x) (most-kept f p now xs less)
 
-pub most-each : {X : Type 0} (f : X → ℕ) (xs : List X) (k : ℕ) (d : X) → k < length xs → f (get_or xs k d) ≤ gather most f xs
+pub most-each : {X : Type 0} (f : X → ℕ) (xs : List X) (k : ℕ) (d : X) → k < length xs →
+    f (get_or xs k d) ≤ gather most f xs
 most-each f [] k d within = absurd (omega arith)
 most-each f (x ∷ xs) zero d within = omega arith
 most-each f (x ∷ xs) (suc k) d within = let rest = most-each f xs k d (omega arith) in omega (arith, rest)

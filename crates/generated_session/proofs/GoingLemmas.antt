@@ -1,5 +1,5 @@
--- What holds in a session that a number makes from the last call of `open` to the closing of its round, and what one event
--- leaves of what its summary says in the end.
+-- What holds in a session that a number makes from the last call of `open` to the closing of its round, and what one
+-- event leaves of what its summary says in the end.
 use Rattle.std.proofs.Common.{◌≡◌, ℕ, ◌+◌, false, cond, List, length, map, refl, ap, sym, ◌∙◌, subst}
 use Rattle.asio_types.specs.declared.event.Event.{Event}
 use Rattle.asio_types.specs.declared.event.Event.TheVariants as event
@@ -32,7 +32,8 @@ end_weight weight _ = 0
 pub record ActStep (acts : List Entry) (old new : List ActState) (e : Event) : Type 0 where
   pub fit : ActsFit acts new
   pub calls : cond (is_call e) 1 0 + called_count old (length acts) ≡ called_count new (length acts)
-  pub ends : (weight : ℕ → ℕ) → end_weight weight e + ended_sum weight old (length acts) ≡ ended_sum weight new (length acts)
+  pub ends : (weight : ℕ → ℕ) →
+      end_weight weight e + ended_sum weight old (length acts) ≡ ended_sum weight new (length acts)
 
 -- what it does to the reactor
 pub record TurnStep (acts : List Entry) (new : List ActState) (r : ReactorHalf) (left : List ℕ) (e : Event)
@@ -47,9 +48,11 @@ pub record TurnStep (acts : List Entry) (new : List ActState) (r : ReactorHalf) 
 
 pub record Step (acts : List Entry) (s : State) (was : Going acts s) (e : Event) (next : State) : Type 0 where
   pub going : Going acts next
-  pub calls : cond (is_call e) 1 0 + called_count s.context.acts (length acts) ≡ called_count next.context.acts (length acts)
-  pub ends : (weight : ℕ → ℕ) → end_weight weight e + ended_sum weight s.context.acts (length acts) ≡ ended_sum weight next.context.acts
-      (length acts)
+  pub calls : cond (is_call e) 1 0 + called_count s.context.acts (length acts)
+      ≡ called_count next.context.acts (length acts)
+  pub ends : (weight : ℕ → ℕ) →
+      end_weight weight e + ended_sum weight s.context.acts (length acts)
+      ≡ ended_sum weight next.context.acts (length acts)
   pub drops : is_drop e ≡ false
   pub aborts : to_come s.reactor (map (nth_act acts) was.left) ≡ cond (is_abort e) 1 0 + to_come next.reactor
       (map (nth_act acts) going.left)
@@ -57,7 +60,8 @@ pub record Step (acts : List Entry) (s : State) (was : Going acts s) (e : Event)
   pub time : next.reactor.now ≡ time_after s.reactor.now e
 
 pub step_of : (acts : List Entry) (s : State) (was : Going acts s) (e : Event) (next : State) (new : List ActState) →
-    next.context.acts ≡ new → next.context.opening.made ≡ s.context.opening.made → next.context.stopped ≡ s.context.stopped →
+    next.context.acts ≡ new → next.context.opening.made ≡ s.context.opening.made →
+    next.context.stopped ≡ s.context.stopped →
     next.context.closings ≡ s.context.closings → is_drop e ≡ false → ActStep acts s.context.acts new e →
     TurnStep acts new s.reactor was.left e next.reactor → Step acts s was e next
 step_of acts s was e next new acts_are made stopped closings drops act turn = record {
@@ -68,11 +72,13 @@ step_of acts s was e next new acts_are made stopped closings drops act turn = re
     closings = closings ∙ was.closings;
     from = turn.from;
     left = turn.rest;
-    turns = subst (λ (states : List ActState). Turns acts states next.reactor turn.from turn.rest) (sym acts_are) turn.turns;
+    turns =
+        subst (λ (states : List ActState). Turns acts states next.reactor turn.from turn.rest) (sym acts_are) turn.turns;
     ahead = turn.ahead;
   };
   calls = act.calls ∙ ap (λ (states : List ActState). called_count states (length acts)) (sym acts_are);
-  ends = λ weight. act.ends weight ∙ ap (λ (states : List ActState). ended_sum weight states (length acts)) (sym acts_are);
+  ends = λ weight.
+      act.ends weight ∙ ap (λ (states : List ActState). ended_sum weight states (length acts)) (sym acts_are);
   drops = drops;
   aborts = turn.aborts;
   lasts = turn.lasts;
@@ -81,13 +87,16 @@ step_of acts s was e next new acts_are made stopped closings drops act turn = re
 
 -- the reactor does nothing
 pub still_turns : (acts : List Entry) (new : List ActState) (r : ReactorHalf) (from : ℕ) (left : List ℕ) (e : Event) →
-    is_abort e ≡ false → time_after r.now e ≡ r.now → Turns acts new r from left → AreAhead r → TurnStep acts new r left e r
+    is_abort e ≡ false → time_after r.now e ≡ r.now → Turns acts new r from left → AreAhead r →
+    TurnStep acts new r left e r
 still_turns acts new r from left e aborts time turns ahead = record {
   from = from;
   rest = left;
   turns = turns;
   ahead = ahead;
-  aborts = none_more (to_come r (map (nth_act acts) left)) ∙ ap (λ b. cond b 1 0 + to_come r (map (nth_act acts) left)) (sym aborts);
+  aborts =
+      none_more (to_come r (map (nth_act acts) left))
+      ∙ ap (λ b. cond b 1 0 + to_come r (map (nth_act acts) left)) (sym aborts);
   lasts = refl;
   time = sym time;
 }
@@ -97,7 +106,9 @@ pub still_acts : (acts : List Entry) (states : List ActState) (e : Event) → Ac
     ((weight : ℕ → ℕ) → end_weight weight e ≡ 0) → ActStep acts states states e
 still_acts acts states e fit calls ends = record {
   fit = fit;
-  calls = ap (λ b. cond b 1 0 + called_count states (length acts)) calls ∙ sym (none_more (called_count states (length acts)));
+  calls =
+      ap (λ b. cond b 1 0 + called_count states (length acts)) calls
+      ∙ sym (none_more (called_count states (length acts)));
   ends =
       λ weight. ap (λ n. n + ended_sum weight states (length acts)) (ends weight)
       ∙ sym (none_more (ended_sum weight states (length acts)));

@@ -34,18 +34,20 @@ lone_posts true third lane small = post (Some lane) small
 lone_posts false true lane small = dispatch lane small
 lone_posts false false lane small = post None tt
 
-item_is : (first second third : Bool) (n lane time : ℕ) (one two : List Entry) → lane < 4 → time < 1000 → AreItems (n + 1) one →
-    AreItems (n + 1 + 1) two → AreItems n (
-    cond first (opened (act.Post None) ∷ []) (cond second (opened (act.Post (Some lane)) ∷ made_by n (act.Post None) ∷ [])
-    (cond third (opened (act.Dispatch (Some lane)) ∷ made_by n (act.Dispatch (Some lane)) ∷ [])
-    (opened (act.Expires lane time) ∷ opened (act.Wait lane (Some lane) None 7) ∷ [])))
-    ++ cond first one two)
-item_is true second third n lane time one two small short after_one after_two = posting (act.Post None) one (post None tt) after_one
+item_is : (first second third : Bool) (n lane time : ℕ) (one two : List Entry) → lane < 4 → time < 1000 →
+    AreItems (n + 1) one → AreItems (n + 1 + 1) two →
+    AreItems n (cond first (opened (act.Post None) ∷ []) (cond second
+    (opened (act.Post (Some lane)) ∷ made_by n (act.Post None) ∷ []) (cond third
+    (opened (act.Dispatch (Some lane)) ∷ made_by n (act.Dispatch (Some lane)) ∷ [])
+    (opened (act.Expires lane time) ∷ opened (act.Wait lane (Some lane) None 7) ∷ []))) ++ cond first one two)
+item_is true second third n lane time one two small short after_one after_two =
+    posting (act.Post None) one (post None tt) after_one
 item_is false true third n lane time one two small short after_one after_two =
     nested (act.Post (Some lane)) (act.Post None) two (post (Some lane) small) (post None tt) after_two
 item_is false false true n lane time one two small short after_one after_two =
     nested (act.Dispatch (Some lane)) (act.Dispatch (Some lane)) two (dispatch lane small) (dispatch lane small) after_two
-item_is false false false n lane time one two small short after_one after_two = waiting lane time two small short after_two
+item_is false false false n lane time one two small short after_one after_two =
+    waiting lane time two small short after_two
 
 pub are_items : (left n x : ℕ) → AreItems n (acts_from left n x)
 are_items zero n x = nothing
@@ -55,7 +57,8 @@ are_items (suc zero) n x =
 are_items (suc (suc left)) n x =
     let item = item_after x in
     let two : n + 1 + 1 ≡ n + 2 = omega arith in
-    let two_is : AreItems (n + 1 + 1) (acts_from left (n + 2) (after_item x)) = rw two (are_items left (n + 2) (after_item x)) in
+    let two_is : AreItems (n + 1 + 1) (acts_from left (n + 2) (after_item x)) =
+    rw two (are_items left (n + 2) (after_item x)) in
     item_is (nat_eq item.kind 0) (nat_eq item.kind 1) (nat_eq item.kind 2) n item.lane item.time _ _ (omega arith) (omega arith)
     (are_items (suc left) (n + 1) (after_item x)) two_is
 
@@ -134,7 +137,8 @@ pub record IsInside (n : ℕ) (acts : List Entry) (i p : ℕ) (c : Class) : Type
   pub also : IsPosting made
   pub only : numbers_in (Some (p, c)) n acts ≡ (n + i) ∷ []
 
-none_under : {n : ℕ} {acts : List Entry} → AreItems n acts → (p : ℕ) (c : Class) → p < n → numbers_in (Some (p, c)) n acts ≡ []
+none_under : {n : ℕ} {acts : List Entry} → AreItems n acts → (p : ℕ) (c : Class) → p < n →
+    numbers_in (Some (p, c)) n acts ≡ []
 none_under nothing p c below = refl
 none_under (posting a rest is items) p c below = none_under items p c (omega arith)
 none_under {n} (nested a b rest is also items) p c below =
@@ -143,7 +147,8 @@ none_under {n} (nested a b rest is also items) p c below =
 none_under (waiting timer after rest small short items) p c below = none_under items p c (omega arith)
 
 same_place_of : (p q : ℕ) (c d : Class) → ◌≡◌ {A = Place} (Some (p, c)) (Some (q, d)) → (p ≡ q) × (c ≡ d)
-same_place_of p q c d same = let both = same_pair (p, c) (q, d) same in (ap (λ pair. pair.0) both, ap (λ pair. pair.1) both)
+same_place_of p q c d same =
+    let both = same_pair (p, c) (q, d) same in (ap (λ pair. pair.0) both, ap (λ pair. pair.1) both)
   where
     same_pair : (x y : ℕ × Class) → Some x ≡ Some y → x ≡ y
     same_pair x y same = cc
@@ -168,11 +173,12 @@ one_later n acts first i p c skips inside =
       only = skips ∙ inside.only ∙ ap (λ k. k ∷ []) number_is;
     }
 
-under_in : {n : ℕ} {acts : List Entry} → AreItems n acts → (i p : ℕ) (c : Class) → place_in (slice_get acts i) ≡ Some (p, c) →
-    IsInside n acts i p c
+under_in : {n : ℕ} {acts : List Entry} → AreItems n acts → (i p : ℕ) (c : Class) →
+    place_in (slice_get acts i) ≡ Some (p, c) → IsInside n acts i p c
 under_in nothing i p c parent = absurd (cc parent)
 under_in (posting a rest is items) zero p c parent = absurd (cc parent)
-under_in {n} (posting a rest is items) (suc i) p c parent = one_later n rest (opened a) i p c refl (under_in items i p c parent)
+under_in {n} (posting a rest is items) (suc i) p c parent =
+    one_later n rest (opened a) i p c refl (under_in items i p c parent)
 under_in (nested a b rest is also items) zero p c parent = absurd (cc parent)
 under_in {n} (nested a b rest is also items) (suc zero) p c parent =
     let same = same_place_of n p class.Ok c parent in
@@ -218,7 +224,8 @@ pub record IsUnder (acts : List Entry) (n p : ℕ) (c : Class) : Type 0 where
   pub only : branch_of (session_of acts) p c ≡ n ∷ []
   pub within : n < length acts
 
-pub under : (acts : List Entry) → AreItems 0 acts → (n p : ℕ) (c : Class) → nth_place acts n ≡ Some (p, c) → IsUnder acts n p c
+pub under : (acts : List Entry) → AreItems 0 acts → (n p : ℕ) (c : Class) → nth_place acts n ≡ Some (p, c) →
+    IsUnder acts n p c
 under acts items n p c parent =
     let inside = under_in items n p c (sym (parent_of-in acts n (slice_get acts n) refl) ∙ parent) in
     let at : 0 + inside.before ≡ inside.before = omega arith in

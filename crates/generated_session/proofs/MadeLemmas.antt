@@ -23,7 +23,8 @@ pub data IsDrawn : Act → Type 0 where
 pub data IsMade : ℕ → List Entry → Type 0 where
   nothing : {n : ℕ} → IsMade n []
   alone : {n : ℕ} (a : Act) (rest : List Entry) → IsDrawn a → IsMade (n + 1) rest → IsMade n (opened a ∷ rest)
-  both : {n : ℕ} (a b : Act) (rest : List Entry) → IsDrawn a → has_branch (bodies_of a) class.Ok ≡ true → IsDrawn b → IsMade (n + 1 + 1) rest → IsMade n (opened a ∷ made_by n b ∷ rest)
+  both : {n : ℕ} (a b : Act) (rest : List Entry) → IsDrawn a → has_branch (bodies_of a) class.Ok ≡ true → IsDrawn b →
+      IsMade (n + 1 + 1) rest → IsMade n (opened a ∷ made_by n b ∷ rest)
 
 posting_is_drawn : {a : Act} → IsPosting a → IsDrawn a
 posting_is_drawn (items.post None small) = post
@@ -46,9 +47,12 @@ items_are_made (items.waiting timer after rest small short more) =
 pub acts_are_made : (left n x : ℕ) → IsMade n (acts_from left n x)
 acts_are_made left n x = items_are_made (are_items left n x)
 
-length_of_made : (first second third : Bool) (n lane time left : ℕ) (one two : List Entry) → length one ≡ suc left → length two ≡ left → length (
-    cond first (opened (act.Post None) ∷ []) (cond second (opened (act.Post (Some lane)) ∷ made_by n (act.Post None) ∷ [])
-    (cond third (opened (act.Dispatch (Some lane)) ∷ made_by n (act.Dispatch (Some lane)) ∷ []) (opened (act.Expires lane time) ∷ opened (act.Wait lane (Some lane) None 7) ∷ [])))
+length_of_made : (first second third : Bool) (n lane time left : ℕ) (one two : List Entry) → length one ≡ suc left →
+    length two ≡ left →
+    length (cond first (opened (act.Post None) ∷ []) (cond second
+    (opened (act.Post (Some lane)) ∷ made_by n (act.Post None) ∷ []) (cond third
+    (opened (act.Dispatch (Some lane)) ∷ made_by n (act.Dispatch (Some lane)) ∷ [])
+    (opened (act.Expires lane time) ∷ opened (act.Wait lane (Some lane) None 7) ∷ [])))
     ++ cond first one two) ≡ suc (suc left)
 length_of_made true second third n lane time left one two of_one of_two = ap suc of_one
 length_of_made false true third n lane time left one two of_one of_two = ap (λ k. suc (suc k)) of_two
@@ -61,7 +65,8 @@ length-acts_from zero n x = refl
 length-acts_from (suc zero) n x = refl
 length-acts_from (suc (suc left)) n x =
     let item = item_after x in
-    length_of_made (nat_eq item.kind 0) (nat_eq item.kind 1) (nat_eq item.kind 2) n item.lane item.time left _ _ (length-acts_from (suc left) (n + 1) (after_item x)) (length-acts_from left (n + 2) (after_item x))
+    length_of_made (nat_eq item.kind 0) (nat_eq item.kind 1) (nat_eq item.kind 2) n item.lane item.time left _ _
+    (length-acts_from (suc left) (n + 1) (after_item x)) (length-acts_from left (n + 2) (after_item x))
 
 -- where an act stands: in `open`, or under the posting before it
 pub record IsUnder (n : ℕ) (acts : List Entry) (i : ℕ) (e : Entry) : Type 0 where
@@ -79,7 +84,8 @@ pub record IsSet (n : ℕ) (acts : List Entry) (i : ℕ) (e : Entry) : Type 0 wh
 same_entry : {x y : Entry} → Some x ≡ Some y → x ≡ y
 same_entry same = cc
 
-later : (n : ℕ) (acts : List Entry) (first : Entry) (i : ℕ) (e : Entry) → IsSet (n + 1) acts i e → IsSet n (first ∷ acts) (suc i) e
+later : (n : ℕ) (acts : List Entry) (first : Entry) (i : ℕ) (e : Entry) → IsSet (n + 1) acts i e →
+    IsSet n (first ∷ acts) (suc i) e
 later n acts first i e set = record {
   drawn = set.drawn;
   place = elim set.place as (λ p. (e.parent ≡ None) ⊎ IsUnder n (first ∷ acts) (suc i) e) [
@@ -87,7 +93,9 @@ later n acts first i e set = record {
     | inr under ↦ inr (record {
       before = suc under.before;
       next = ap suc under.next;
-      parent = let same : n + 1 + under.before ≡ n + suc under.before = omega arith in under.parent ∙ ap (λ op. Some (op, class.Ok)) same;
+      parent =
+          let same : n + 1 + under.before ≡ n + suc under.before = omega arith in
+          under.parent ∙ ap (λ op. Some (op, class.Ok)) same;
       maker = under.maker;
       there = under.there;
       branch = under.branch;
@@ -95,11 +103,13 @@ later n acts first i e set = record {
   ];
 }
 
-pub each_is_set : (n : ℕ) (acts : List Entry) → IsMade n acts → (i : ℕ) (e : Entry) → slice_get acts i ≡ Some e → IsSet n acts i e
+pub each_is_set : (n : ℕ) (acts : List Entry) → IsMade n acts → (i : ℕ) (e : Entry) → slice_get acts i ≡ Some e →
+    IsSet n acts i e
 each_is_set n acts nothing i e there = absurd (cc there)
 each_is_set n acts (alone a rest drawn made) zero e there =
     subst (λ x. IsSet n (opened a ∷ rest) zero x) (same_entry there) (record { drawn = drawn; place = inl refl })
-each_is_set n acts (alone a rest drawn made) (suc i) e there = later n rest (opened a) i e (each_is_set (n + 1) rest made i e there)
+each_is_set n acts (alone a rest drawn made) (suc i) e there =
+    later n rest (opened a) i e (each_is_set (n + 1) rest made i e there)
 each_is_set n acts (both a b rest drawn branch drawn_too made) zero e there =
     subst (λ x. IsSet n (opened a ∷ made_by n b ∷ rest) zero x) (same_entry there) (record { drawn = drawn; place = inl refl })
 each_is_set n acts (both a b rest drawn branch drawn_too made) (suc zero) e there =
@@ -115,4 +125,5 @@ each_is_set n acts (both a b rest drawn branch drawn_too made) (suc zero) e ther
       });
     })
 each_is_set n acts (both a b rest drawn branch drawn_too made) (suc (suc i)) e there =
-    later n (made_by n b ∷ rest) (opened a) (suc i) e (later (n + 1) rest (made_by n b) i e (each_is_set (n + 1 + 1) rest made i e there))
+    later n (made_by n b ∷ rest) (opened a) (suc i) e
+    (later (n + 1) rest (made_by n b) i e (each_is_set (n + 1 + 1) rest made i e there))

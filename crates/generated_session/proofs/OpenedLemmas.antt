@@ -28,7 +28,8 @@ use Rattle.generated_session.proofs.PlainLemmas.{IsPlain, plain_before, plain_fr
 use Rattle.generated_session.proofs.StatesLemmas.{ActsFit, asks_opened, at, is_opened, opened_place, outermost_opened}
 use Rattle.generated_session.proofs.TurnsLemmas.{AreAhead, Turns, is_asking}
 
-listed-same : (f g : ℕ → Bool) (from : ℕ) (xs : List ℕ) → ((n : ℕ) → g n ≡ f n) → IsListed f from xs → IsListed g from xs
+listed-same : (f g : ℕ → Bool) (from : ℕ) (xs : List ℕ) → ((n : ℕ) → g n ≡ f n) → IsListed f from xs →
+    IsListed g from xs
 listed-same f g from [] same listed = λ n least. same n ∙ listed n least
 listed-same f g from (x ∷ xs) same listed = (
   listed.0,
@@ -61,7 +62,8 @@ no_and : (b c : Bool) → c ≡ false → (b && c) ≡ false
 no_and true c none = none
 no_and false c none = refl
 
-module _ (acts : List Entry) (items : AreItems 0 acts) (told : Bool) (s : State) (from : ℕ) (was : Opening acts told s from []) where
+module _ (acts : List Entry) (items : AreItems 0 acts) (told : Bool) (s : State) (from : ℕ)
+    (was : Opening acts told s from []) where
   called_now : (n : ℕ) → is_opened acts n ≡ true → IsBackAt acts s.context.acts s.context.events n
   called_now n is = elim (cases_lt n from) [
     | inl before ↦ was.called n is before
@@ -73,7 +75,8 @@ module _ (acts : List Entry) (items : AreItems 0 acts) (told : Bool) (s : State)
     where
       by_entry : (e : Option Entry) → slice_get acts n ≡ e → passes opens e ≡ true → nth_act acts n ≢ None
       by_entry None there is none = absurd (cc is)
-      by_entry (Some e) there is none = absurd (let wrong : Some e.act ≡ None = sym (act_of-in acts n (Some e) there) ∙ none in cc)
+      by_entry (Some e) there is none =
+          absurd (let wrong : Some e.act ≡ None = sym (act_of-in acts n (Some e) there) ∙ none in cc)
 
   accepted_so : (n : ℕ) → is_opened acts n ≡ true → (fits (nth_act acts n) true (accepted (session_of acts) n) ≡ true) ×
       (is_request (accepted (session_of acts) n) ≡ asks_in (nth_act acts n))
@@ -95,7 +98,8 @@ module _ (acts : List Entry) (items : AreItems 0 acts) (told : Bool) (s : State)
   nested_so n p c parent =
       let inside = under acts items n p c parent in
       let outer : is_opened acts p ≡ true =
-      outermost_opened acts p (let next = inside.next in let less = inside.within in omega (arith, next, less)) inside.outermost in
+      outermost_opened acts p (let next = inside.next in let less = inside.within in omega (arith, next, less))
+      inside.outermost in
       let not_opened : is_opened acts n ≡ false = elim (cases_Bool (is_opened acts n)) [
         | inr outside ↦ outside
         | inl is ↦ absurd (let wrong : None ≡ Some (p, c) = sym (opened_place acts n is) ∙ parent in cc)
@@ -133,8 +137,9 @@ module _ (acts : List Entry) (items : AreItems 0 acts) (told : Bool) (s : State)
         let is = asks_opened acts items n asks in
         ap is_request (called_now n is).phase ∙ (accepted_so n is).1 ∙ asks;
     pending =
-        λ n. sym (ap one_if (no_and (is_requested (at s.context.acts n).phase) (was_taken (first_reactor (session_of acts) told) n)
-        (untaken n)));
+        λ n.
+        sym (ap one_if (no_and (is_requested (at s.context.acts n).phase)
+        (was_taken (first_reactor (session_of acts) told) n) (untaken n)));
     early = inl refl;
   }
 
@@ -146,18 +151,21 @@ module _ (acts : List Entry) (items : AreItems 0 acts) (told : Bool) (s : State)
     closings = was.closings;
     from = 0;
     left = numbered asks_entry 0 acts;
-    turns = subst (λ (r : ReactorHalf). Turns acts s.context.acts r 0 (numbered asks_entry 0 acts)) (sym was.reactor) first_turns;
+    turns =
+        subst (λ (r : ReactorHalf). Turns acts s.context.acts r 0 (numbered asks_entry 0 acts)) (sym was.reactor) first_turns;
     ahead = subst (λ (r : ReactorHalf). AreAhead r) (sym was.reactor) (λ k d within. absurd (omega (arith, within)));
   }
 
 abbrev Tells_all : List Entry → Bool → List ℕ → Type 0
 Tells_all acts told left =
-    (from : ℕ) (s : State) (events : List Event) → Opening acts told s from left → IsLegalFrom (session_of acts) told s events →
+    (from : ℕ) (s : State) (events : List Event) → Opening acts told s from left →
+    IsLegalFrom (session_of acts) told s events →
     IsWhole (session_of acts) (state_from (session_of acts) told s events) → list_any is_fault events ≡ false →
     list_any is_outside_stop events ≡ false →
     IsPlain acts s.context.acts s.reactor (numbered asks_entry 0 acts) events
 
-not_whole : (acts : List Entry) (s : State) → IsWhole (session_of acts) s → s.context.closings ≡ 0 → s.reactor.failed ≡ false → ⊥
+not_whole : (acts : List Entry) (s : State) → IsWhole (session_of acts) s → s.context.closings ≡ 0 →
+    s.reactor.failed ≡ false → ⊥
 not_whole acts s whole closings works = elim whole.over [
   | inl closed ↦ absurd (omega (arith, closed, closings))
   | inr failed ↦ (let wrong : false ≡ true = sym works ∙ failed in cc)
@@ -176,7 +184,8 @@ module _ (acts : List Entry) (items : AreItems 0 acts) (told : Bool) (few : leng
 
   after_return : (events : List Event) → MayHappen (session_of acts) told half (event.Back h) →
       IsLegalFrom (session_of acts) told whole_call events →
-      IsWhole (session_of acts) (state_from (session_of acts) told whole_call events) → list_any is_fault events ≡ false →
+      IsWhole (session_of acts) (state_from (session_of acts) told whole_call events) →
+      list_any is_fault events ≡ false →
       list_any is_outside_stop events ≡ false →
       IsPlain acts half.context.acts half.reactor (numbered asks_entry 0 acts) (event.Back h ∷ events)
   after_return events may legal whole fine goes =
@@ -206,7 +215,8 @@ module _ (acts : List Entry) (items : AreItems 0 acts) (told : Bool) (few : leng
       list_any is_outside_stop events ≡ false →
       IsPlain acts s.context.acts s.reactor (numbered asks_entry 0 acts) (event.Call h ∷ events)
   after_call events legal whole fine goes =
-      plain_before acts s.context.acts half.context.acts s.reactor half.reactor (numbered asks_entry 0 acts) (numbered asks_entry 0 acts)
+      plain_before acts s.context.acts half.context.acts s.reactor half.reactor (numbered asks_entry 0 acts)
+      (numbered asks_entry 0 acts)
       (event.Call h) events
       (call_tells acts items told few s from h rest was (numbered asks_entry 0 acts)) (from_half events legal whole fine goes)
 
@@ -229,7 +239,8 @@ unfolding going_now
 opened_tells acts items told from s events was legal whole fine goes =
     plain_from acts items told events s (going_now acts items told s from was) legal whole fine goes
 
-pub tells_all : (acts : List Entry) → AreItems 0 acts → (told : Bool) → length acts ≤ 1024 → (left : List ℕ) → Tells_all acts told left
+pub tells_all : (acts : List Entry) → AreItems 0 acts → (told : Bool) → length acts ≤ 1024 → (left : List ℕ) →
+    Tells_all acts told left
 tells_all acts items told few [] from s events was legal whole fine goes =
     opened_tells acts items told from s events was legal whole fine goes
 tells_all acts items told few (h ∷ rest) from s events was legal whole fine goes =
@@ -242,7 +253,8 @@ first_opening acts told =
     let new : (n : ℕ) → at (replicate (length acts) fresh) n ≡ fresh = λ n. get_or-replicate fresh (length acts) n in
     record {
       size = length-replicate (length acts) fresh;
-      listed = subst (λ (xs : List ℕ). IsListed (is_opened acts) 0 xs) (sym (opening_numbered 0 acts)) (all_listed opens acts);
+      listed =
+          subst (λ (xs : List ℕ). IsListed (is_opened acts) 0 xs) (sym (opening_numbered 0 acts)) (all_listed opens acts);
       made = omega arith;
       back = refl;
       next = λ k. let same : 0 + k ≡ k = omega arith in ap (slice_get (opening_of (session_of acts))) same;

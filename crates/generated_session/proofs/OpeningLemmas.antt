@@ -1,4 +1,5 @@
--- The calls of `open` in a session that a number makes: they come one after the other, and nothing else before the last is back.
+-- The calls of `open` in a session that a number makes: they come one after the other, and nothing else before the last
+-- is back.
 use Rattle.std.proofs.Common.{◌≡◌, ◌≢◌, ◌⊎◌, ℕ, ◌+◌, ◌<◌, ◌≤◌, inl, inr, Bool, true, false, List, [], ◌∷◌, length, Some, None, refl, ap, sym, ◌∙◌, arith}
 use Rattle.std.specs.Option.{IsSomeAnd}
 use Rattle.std.specs.List.{slice_get}
@@ -62,10 +63,12 @@ still_by false false true = refl
 still_by false false false = refl
 
 -- what `open` called doesn't run
-pub accepted_still : (acts : List Entry) (n : ℕ) → nth_place acts n ≡ None → is_still (accepted (session_of acts) n) ≡ true
+pub accepted_still : (acts : List Entry) (n : ℕ) → nth_place acts n ≡ None →
+    is_still (accepted (session_of acts) n) ≡ true
 accepted_still acts n place =
     let act = nth_act acts n in
-    ap is_still (opened_is acts n place) ∙ still_by (test_in is_posting act) (test_in is_operation act) (test_in is_control act)
+    ap is_still (opened_is acts n place)
+    ∙ still_by (test_in is_posting act) (test_in is_operation act) (test_in is_control act)
 
 abbrev pub is_turn : Event → Bool
 is_turn (event.Call a) = false
@@ -117,13 +120,14 @@ module _ (acts : List Entry) (items : AreItems 0 acts) (told : Bool) (s : State)
   ]
 
   -- a call by a handler
-  no_handler : (a : ℕ) (place : ℕ × Class) → IsSomeAnd (body_at (session_of acts) s.reactor.failed s.context (Some place)) (IsNextOf a) →
-      ⊥
+  no_handler : (a : ℕ) (place : ℕ × Class) →
+      IsSomeAnd (body_at (session_of acts) s.reactor.failed s.context (Some place)) (IsNextOf a) → ⊥
   no_handler a place may =
       let caller = caller_of acts place.0 a place.1 (at s.context.acts place.0).phase may in
       moving place.0 (phase.Running caller.running caller.progress) caller.is refl
 
-  next_by : (a : ℕ) (place : Place) → IsSomeAnd (body_at (session_of acts) s.reactor.failed s.context place) (IsNextOf a) →
+  next_by : (a : ℕ) (place : Place) →
+      IsSomeAnd (body_at (session_of acts) s.reactor.failed s.context place) (IsNextOf a) →
       IsNextOf a (record { acts = opening_of (session_of acts); progress = s.context.opening })
   next_by a None may = opening_next acts s.reactor.failed s.context a works may
   next_by a (Some place) may = absurd (no_handler a place may)
@@ -132,20 +136,21 @@ module _ (acts : List Entry) (items : AreItems 0 acts) (told : Bool) (s : State)
       IsNextOf a (record { acts = opening_of (session_of acts); progress = s.context.opening })
   next_call a may = next_by a (nth_place acts a) may
 
-  pub back_made : (a : ℕ) → MayHappen (session_of acts) told s (event.Back a) → is_made (at s.context.acts a).call ≡ true
+  pub back_made : (a : ℕ) → MayHappen (session_of acts) told s (event.Back a) →
+      is_made (at s.context.acts a).call ≡ true
   back_made a may =
       made_by_test (is_act is_stop (session_of acts) a) (is_inline (session_of acts) a) (at s.context.acts a)
       (is_act-in is_stop acts a ∙ never_stops (known acts items a)) may
 
 -- what the next event is
-pub is_the_call : (e : Event) (h : ℕ) → is_turn e ≡ false → ((a : ℕ) → e ≡ event.Call a → a ≡ h) → ((a : ℕ) → e ≡ event.Back a → ⊥) →
-    e ≡ event.Call h
+pub is_the_call : (e : Event) (h : ℕ) → is_turn e ≡ false → ((a : ℕ) → e ≡ event.Call a → a ≡ h) →
+    ((a : ℕ) → e ≡ event.Back a → ⊥) → e ≡ event.Call h
 is_the_call (event.Call a) h turn calls backs = ap event.Call (calls a refl)
 is_the_call (event.Back a) h turn calls backs = absurd (backs a refl)
 is_the_call e h turn calls backs = absurd (cc turn)
 
-pub is_the_return : (e : Event) (h : ℕ) → is_turn e ≡ false → ((a : ℕ) → e ≡ event.Call a → ⊥) → ((a : ℕ) → e ≡ event.Back a → a ≡ h) →
-    e ≡ event.Back h
+pub is_the_return : (e : Event) (h : ℕ) → is_turn e ≡ false → ((a : ℕ) → e ≡ event.Call a → ⊥) →
+    ((a : ℕ) → e ≡ event.Back a → a ≡ h) → e ≡ event.Back h
 is_the_return (event.Call a) h turn calls backs = absurd (calls a refl)
 is_the_return (event.Back a) h turn calls backs = ap event.Back (backs a refl)
 is_the_return e h turn calls backs = absurd (cc turn)

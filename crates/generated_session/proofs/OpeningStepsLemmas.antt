@@ -43,8 +43,8 @@ opened_within acts n is = by_entry (slice_get acts n) refl is
 same_number : (a h : ℕ) → Some a ≡ Some h → a ≡ h
 same_number a h same = cc
 
-module _ (acts : List Entry) (items : AreItems 0 acts) (told : Bool) (few : length acts ≤ 1024) (s : State) (from h : ℕ) (rest : List ℕ)
-    (was : Opening acts told s from (h ∷ rest)) where
+module _ (acts : List Entry) (items : AreItems 0 acts) (told : Bool) (few : length acts ≤ 1024) (s : State) (from h : ℕ)
+    (rest : List ℕ) (was : Opening acts told s from (h ∷ rest)) where
   script_opening : List ℕ
   script_opening = opening_of (session_of acts)
 
@@ -55,7 +55,8 @@ module _ (acts : List Entry) (items : AreItems 0 acts) (told : Bool) (few : leng
   unopened all = let made = was.made in let back = was.back in absurd (omega (arith, made, back, all))
 
   -- what an act has come to so far
-  by_place : (n : ℕ) → (at s.context.acts n ≡ fresh) ⊎ ((is_opened acts n ≡ true) × IsBackAt acts s.context.acts s.context.events n)
+  by_place : (n : ℕ) →
+      (at s.context.acts n ≡ fresh) ⊎ ((is_opened acts n ≡ true) × IsBackAt acts s.context.acts s.context.events n)
   by_place n = elim (cases_Bool (is_opened acts n)) [
     | inr outside ↦ inl (was.rest n (inl outside))
     | inl inside ↦ elim (cases_lt n from) [
@@ -77,7 +78,8 @@ module _ (acts : List Entry) (items : AreItems 0 acts) (told : Bool) (few : leng
   ]
 
   -- the next event is the call of the next act
-  pub idle_event : (e : Event) → MayHappen (session_of acts) told s e → is_fault e ≡ false → is_outside_stop e ≡ false → e ≡ event.Call h
+  pub idle_event : (e : Event) → MayHappen (session_of acts) told s e → is_fault e ≡ false → is_outside_stop e ≡ false →
+      e ≡ event.Call h
   idle_event e may fine goes = elim (cases_Bool (is_turn e)) [
     | inl turn ↦ absurd (calls_only acts items told s unopened still_now was.reactor was.closings e may fine goes turn)
     | inr call_or_back ↦ is_the_call e h call_or_back
@@ -109,7 +111,8 @@ module _ (acts : List Entry) (items : AreItems 0 acts) (told : Bool) (few : leng
   call_changes =
       let same : called_state.context.acts ≡ slice_set s.context.acts h called_to =
       ap (λ (q : Place). slice_set (with_progress q step.Made s.context).acts h called_to) place_none in
-      subst (λ (states : List ActState). Changes s.context.acts states h called_to) (sym same) (changed s.context.acts h called_to below)
+      subst (λ (states : List ActState). Changes s.context.acts states h called_to) (sym same)
+      (changed s.context.acts h called_to below)
 
   pub called_made : called_state.context.opening.made ≡ s.context.opening.made + 1
   called_made =
@@ -141,8 +144,8 @@ module _ (acts : List Entry) (items : AreItems 0 acts) (told : Bool) (few : leng
   unopened_called all = unopened (sym called_back ∙ all)
 
   -- the next event is its return
-  pub half_event : (e : Event) → MayHappen (session_of acts) told called_state e → is_fault e ≡ false → is_outside_stop e ≡ false →
-      e ≡ event.Back h
+  pub half_event : (e : Event) → MayHappen (session_of acts) told called_state e → is_fault e ≡ false →
+      is_outside_stop e ≡ false → e ≡ event.Back h
   half_event e may fine goes =
       let closings : called_state.context.closings ≡ 0 = called_closings ∙ was.closings in
       elim (cases_Bool (is_turn e)) [
@@ -152,7 +155,8 @@ module _ (acts : List Entry) (items : AreItems 0 acts) (told : Bool) (few : leng
             (λ a is.
             let may_call : MayHappen (session_of acts) told called_state (event.Call a) =
             subst (λ (x : Event). MayHappen (session_of acts) told called_state x) is may in
-            let next = next_call acts items told called_state unopened_called still_called was.reactor closings a may_call in
+            let next =
+            next_call acts items told called_state unopened_called still_called was.reactor closings a may_call in
             let idle = next.idle in
             let made = called_made in
             let back = called_back in
@@ -161,15 +165,20 @@ module _ (acts : List Entry) (items : AreItems 0 acts) (told : Bool) (few : leng
             (λ a is.
             let may_return : MayHappen (session_of acts) told called_state (event.Back a) =
             subst (λ (x : Event). MayHappen (session_of acts) told called_state x) is may in
-            let made = back_made acts items told called_state unopened_called still_called was.reactor closings a may_return in
+            let made =
+            back_made acts items told called_state unopened_called still_called was.reactor closings a may_return in
             elim (cases_eq a h) [
               | inl same ↦ same
-              | inr differ ↦ absurd (none_made a (sym (ap (λ (act : ActState). is_made act.call) (call_changes.others a differ)) ∙ made))
+              | inr differ ↦
+                  absurd (none_made a (sym (ap (λ (act : ActState). is_made act.call) (call_changes.others a differ)) ∙ made))
             ])
       ]
 
   abbrev pub back_to : ActState
-  back_to = record { call = call.Back s.context.events called_state.context.events; phase = accepted (session_of acts) h }
+  back_to = record {
+    call = call.Back s.context.events called_state.context.events;
+    phase = accepted (session_of acts) h;
+  }
 
   abbrev pub back_state : State
   back_state = after_event (session_of acts) told called_state (event.Back h)
@@ -185,7 +194,8 @@ module _ (acts : List Entry) (items : AreItems 0 acts) (told : Bool) (few : leng
 
   -- a return that stops nothing
   back_as : {A : Type 0} (f : ContextState → A) → f
-      (cond (is_act is_stop (session_of acts) h) (limited (session_of acts) h (nth_place acts h) (after_progress (nth_place acts h)))
+      (cond (is_act is_stop (session_of acts) h)
+      (limited (session_of acts) h (nth_place acts h) (after_progress (nth_place acts h)))
       (after_progress (nth_place acts h))) ≡ f (after_progress None)
   back_as f =
       ap (λ b. f (cond b (limited (session_of acts) h (nth_place acts h) (after_progress (nth_place acts h)))
@@ -198,10 +208,13 @@ module _ (acts : List Entry) (items : AreItems 0 acts) (told : Bool) (few : leng
   pub back_changes : Changes called_state.context.acts back_state.context.acts h back_to
   back_changes =
       let to : ActState =
-      record (at called_state.context.acts h) { call = returned called_state.context.events (at called_state.context.acts h).call } in
+      record (at called_state.context.acts h)
+      { call = returned called_state.context.events (at called_state.context.acts h).call } in
       let to_is : to ≡ back_to =
-      ap (λ (x : ActState). let y : ActState = record x { call = returned called_state.context.events x.call } in y) call_changes.here in
-      let same : back_state.context.acts ≡ slice_set called_state.context.acts h to = back_as (λ (c : ContextState). c.acts) in
+      ap (λ (x : ActState). let y : ActState = record x { call = returned called_state.context.events x.call } in y)
+      call_changes.here in
+      let same : back_state.context.acts ≡ slice_set called_state.context.acts h to =
+      back_as (λ (c : ContextState). c.acts) in
       subst (λ (x : ActState). Changes called_state.context.acts back_state.context.acts h x) to_is
       (subst (λ (states : List ActState). Changes called_state.context.acts states h to) (sym same)
       (changed called_state.context.acts h to below_called))
@@ -225,7 +238,8 @@ module _ (acts : List Entry) (items : AreItems 0 acts) (told : Bool) (few : leng
       back_as (λ (c : ContextState). one_more c.events) ∙ ap one_more called_events
       ∙ small_more (s.context.events + 1) (let small = few_made in let events = was.events in omega (arith, small, events))
 
-  before_later : (place more : ℕ) (c : CallPhase) → place ≤ more → is_back_before place c ≡ true → is_back_before more c ≡ true
+  before_later : (place more : ℕ) (c : CallPhase) → place ≤ more → is_back_before place c ≡ true →
+      is_back_before more c ≡ true
   before_later place more (call.Back called back) less is =
       let before = ltb-true back place is in lt-ltb back more (omega (arith, before, less))
   before_later place more c less is = absurd (cc is)
@@ -260,11 +274,13 @@ module _ (acts : List Entry) (items : AreItems 0 acts) (told : Bool) (few : leng
         back = ap is_back (call_after n differ) ∙ called.back;
         before =
             ap (is_back_before back_state.context.events) (call_after n differ)
-            ∙ before_later s.context.events back_state.context.events (at s.context.acts n).call (omega (arith, two)) called.before;
+            ∙ before_later s.context.events back_state.context.events (at s.context.acts n).call (omega (arith, two))
+            called.before;
         phase = ap (λ (act : ActState). act.phase) (after_others n differ) ∙ called.phase;
       }
 
-  called_after : (n : ℕ) → is_opened acts n ≡ true → n < suc h → IsBackAt acts back_state.context.acts back_state.context.events n
+  called_after : (n : ℕ) → is_opened acts n ≡ true → n < suc h →
+      IsBackAt acts back_state.context.acts back_state.context.events n
   called_after n is less = elim (cases_eq n h) [
     | inl same ↦ subst (λ m. IsBackAt acts back_state.context.acts back_state.context.events m) (sym same) back_here
     | inr differ ↦ back_there n differ (was.called n is (called_before n is (omega (arith, less, differ))))
@@ -272,7 +288,8 @@ module _ (acts : List Entry) (items : AreItems 0 acts) (told : Bool) (few : leng
 
   rest_after : (n : ℕ) → (is_opened acts n ≡ false) ⊎ (suc h ≤ n) → at back_state.context.acts n ≡ fresh
   rest_after n (inl outside) =
-      let differ : n ≢ h = λ same. absurd (let wrong : false ≡ true = sym outside ∙ (ap (is_opened acts) same ∙ was.listed.2) in cc) in
+      let differ : n ≢ h = λ same.
+      absurd (let wrong : false ≡ true = sym outside ∙ (ap (is_opened acts) same ∙ was.listed.2) in cc) in
       after_others n differ ∙ was.rest n (inl outside)
   rest_after n (inr after) =
       let least = was.listed.0 in
@@ -322,8 +339,8 @@ module _ (acts : List Entry) (items : AreItems 0 acts) (told : Bool) (few : leng
   new_here : at s.context.acts h ≡ fresh
   new_here = was.rest h (inr was.listed.0)
 
-  pub call_tells : (left : List ℕ) → Tells acts s.context.acts called_state.context.acts s.reactor called_state.reactor left left
-      (event.Call h)
+  pub call_tells : (left : List ℕ) →
+      Tells acts s.context.acts called_state.context.acts s.reactor called_state.reactor left left (event.Call h)
   call_tells left = record {
     calls =
         let one =
@@ -345,7 +362,8 @@ module _ (acts : List Entry) (items : AreItems 0 acts) (told : Bool) (few : leng
   }
 
   pub back_tells : (left : List ℕ) →
-      Tells acts called_state.context.acts back_state.context.acts called_state.reactor back_state.reactor left left (event.Back h)
+      Tells acts called_state.context.acts back_state.context.acts called_state.reactor back_state.reactor left left
+      (event.Back h)
   back_tells left = record {
     calls =
         let one =

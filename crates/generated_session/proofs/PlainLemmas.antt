@@ -25,7 +25,8 @@ use Rattle.generated_session.proofs.StepLemmas.{step_on}
 use Rattle.generated_session.proofs.TurnsLemmas.{to_come, until}
 
 -- with what came before, these events tell what the script does: of its acts, and of its requests that are left
-pub record IsPlain (acts : List Entry) (states : List ActState) (r : ReactorHalf) (left : List ℕ) (events : List Event) : Type 0 where
+pub record IsPlain (acts : List Entry) (states : List ActState) (r : ReactorHalf) (left : List ℕ) (events : List Event)
+    : Type 0 where
   pub calls : count_by is_call events + called_count states (length acts) ≡ length acts
   pub ends : (weight : ℕ → ℕ) → sum_by (end_weight weight) events + ended_sum weight states (length acts) ≡ total
       (λ n. cond (operates (nth_act acts n)) (weight n) 0) (length acts)
@@ -35,9 +36,11 @@ pub record IsPlain (acts : List Entry) (states : List ActState) (r : ReactorHalf
   pub closed : (last : Closing) → closing_from last events ≡ closing.Ended
 
 -- an event before such events
-pub record Tells (acts : List Entry) (old new : List ActState) (r next : ReactorHalf) (left rest : List ℕ) (e : Event) : Type 0 where
+pub record Tells (acts : List Entry) (old new : List ActState) (r next : ReactorHalf) (left rest : List ℕ) (e : Event)
+    : Type 0 where
   pub calls : one_if (is_call e) + called_count old (length acts) ≡ called_count new (length acts)
-  pub ends : (weight : ℕ → ℕ) → end_weight weight e + ended_sum weight old (length acts) ≡ ended_sum weight new (length acts)
+  pub ends : (weight : ℕ → ℕ) →
+      end_weight weight e + ended_sum weight old (length acts) ≡ ended_sum weight new (length acts)
   pub drops : is_drop e ≡ false
   pub aborts : to_come r (map (nth_act acts) left) ≡ one_if (is_abort e) + to_come next (map (nth_act acts) rest)
   pub lasts : until r (map (nth_act acts) left) ≡ until next (map (nth_act acts) rest)
@@ -71,7 +74,8 @@ plain_before acts old new r next left rest e events tells plain = record {
   closed = λ last. plain.closed (closing_after last e);
 }
 
-step_tells : (acts : List Entry) (s : State) (was : Going acts s) (e : Event) (next : State) (step : Step acts s was e next) →
+step_tells : (acts : List Entry) (s : State) (was : Going acts s) (e : Event) (next : State)
+    (step : Step acts s was e next) →
     Tells acts s.context.acts next.context.acts s.reactor next.reactor was.left step.going.left e
 step_tells acts s was e next step = record {
   calls = step.calls;
@@ -83,10 +87,10 @@ step_tells acts s was e next step = record {
 }
 
 -- the round closes
-plain_at_end : (acts : List Entry) (items : AreItems 0 acts) (told : Bool) (events : List Event) (s : State) (was : Going acts s) →
-    MayHappen (session_of acts) told s event.Ended → IsLegalFrom (session_of acts) told
-    (after_event (session_of acts) told s event.Ended) events → list_any is_fault events ≡ false →
-    list_any is_outside_stop events ≡ false →
+plain_at_end : (acts : List Entry) (items : AreItems 0 acts) (told : Bool) (events : List Event) (s : State)
+    (was : Going acts s) → MayHappen (session_of acts) told s event.Ended →
+    IsLegalFrom (session_of acts) told (after_event (session_of acts) told s event.Ended) events →
+    list_any is_fault events ≡ false → list_any is_outside_stop events ≡ false →
     IsPlain acts s.context.acts s.reactor was.left (event.Ended ∷ events)
 plain_at_end acts items told events s was may legal works goes =
     let silent =
@@ -117,10 +121,10 @@ plain_at_end acts items told events s was may legal works goes =
     }
 
 -- from the last call of `open` on
-pub plain_from : (acts : List Entry) (items : AreItems 0 acts) (told : Bool) (events : List Event) (s : State) (was : Going acts s) →
-    IsLegalFrom (session_of acts) told s events → IsWhole (session_of acts) (state_from (session_of acts) told s events) →
-    list_any is_fault events ≡ false → list_any is_outside_stop events ≡ false →
-    IsPlain acts s.context.acts s.reactor was.left events
+pub plain_from : (acts : List Entry) (items : AreItems 0 acts) (told : Bool) (events : List Event) (s : State)
+    (was : Going acts s) → IsLegalFrom (session_of acts) told s events →
+    IsWhole (session_of acts) (state_from (session_of acts) told s events) → list_any is_fault events ≡ false →
+    list_any is_outside_stop events ≡ false → IsPlain acts s.context.acts s.reactor was.left events
 plain_from acts items told [] s was legal whole works goes = elim whole.over [
   | inl closed ↦ absurd (let same = was.closings in omega (arith, closed, same))
   | inr failed ↦ absurd (let wrong : false ≡ true = sym was.turns.working ∙ failed in cc)

@@ -27,9 +27,10 @@ use Rattle.generated_session.proofs.PlainLemmas.{IsPlain}
 use Rattle.generated_session.proofs.StatesLemmas.{at, called_count, ended_sum}
 
 -- a number for each operation, by its number and by its place among the acts
-marks_from : (acts : List Entry) (weight : ℕ → ℕ) (n : ℕ) (es : List Entry) → ((k : ℕ) → slice_get es k ≡ slice_get acts (n + k)) →
-    plain_marks weight n es + total (λ m. cond (operates (nth_act acts m)) (weight m) 0) n ≡ total
-    (λ m. cond (operates (nth_act acts m)) (weight m) 0) (n + length es)
+marks_from : (acts : List Entry) (weight : ℕ → ℕ) (n : ℕ) (es : List Entry) →
+    ((k : ℕ) → slice_get es k ≡ slice_get acts (n + k)) →
+    plain_marks weight n es + total (λ m. cond (operates (nth_act acts m)) (weight m) 0) n
+    ≡ total (λ m. cond (operates (nth_act acts m)) (weight m) 0) (n + length es)
 marks_from acts weight n [] same =
     let none : n ≡ n + 0 = omega arith in
     let whole = ap (total (λ m. cond (operates (nth_act acts m)) (weight m) 0)) none in
@@ -40,22 +41,24 @@ marks_from acts weight n (e ∷ es) same =
     let there : slice_get acts n ≡ Some e = ap (slice_get acts) here ∙ sym (same 0) in
     let is = ap (λ o. cond (operates o) (weight n) 0) (act_of-in acts n (Some e) there) in
     let rest =
-    marks_from acts weight (n + 1) es (λ k. let at : n + suc k ≡ n + 1 + k = omega arith in same (suc k) ∙ ap (slice_get acts) at) in
+    marks_from acts weight (n + 1) es
+    (λ k. let at : n + suc k ≡ n + 1 + k = omega arith in same (suc k) ∙ ap (slice_get acts) at) in
     let next : n + 1 ≡ suc n = omega arith in
     let first = ap (total f) next in
     let end : n + 1 + length es ≡ n + suc (length es) = omega arith in
     let last = ap (total f) end in
     omega (arith, is, rest, first, last)
 
-marks_all : (acts : List Entry) (weight : ℕ → ℕ) → plain_marks weight 0 acts ≡ total (λ m. cond (operates (nth_act acts m)) (weight m) 0)
-    (length acts)
+marks_all : (acts : List Entry) (weight : ℕ → ℕ) →
+    plain_marks weight 0 acts ≡ total (λ m. cond (operates (nth_act acts m)) (weight m) 0) (length acts)
 marks_all acts weight =
     let all = marks_from acts weight 0 acts (λ k. let at : k ≡ 0 + k = omega arith in ap (slice_get acts) at) in
     let end : 0 + length acts ≡ length acts = omega arith in
     let last = ap (total (λ m. cond (operates (nth_act acts m)) (weight m) 0)) end in
     omega (arith, all, last)
 
-operations_counted : (n : ℕ) (es : List Entry) → count_by (λ (e : Entry). is_operation e.act) es ≡ plain_marks (λ m. 1) n es
+operations_counted : (n : ℕ) (es : List Entry) →
+    count_by (λ (e : Entry). is_operation e.act) es ≡ plain_marks (λ m. 1) n es
 operations_counted n [] = refl
 operations_counted n (e ∷ es) =
     let first = sum_by-cons (λ (x : Entry). one_if (is_operation x.act)) e es in
@@ -97,7 +100,8 @@ total_none f (suc n) none = let rest = total_none f n none in let here = none n 
 module _ (acts : List Entry) (items : AreItems 0 acts) (told : Bool) (few : length acts ≤ 1024) (events : List Event)
     (legal : IsLegal (session_of acts) told events) (fine : list_any is_fault events ≡ false)
     (goes : list_any is_outside_stop events ≡ false) (run drop : ℕ → ℕ) (marks : HasMarks run drop events) where
-  plain : IsPlain acts (replicate (length acts) fresh) (first_reactor (session_of acts) told) (numbered asks_entry 0 acts) events
+  plain : IsPlain acts (replicate (length acts) fresh) (first_reactor (session_of acts) told)
+      (numbered asks_entry 0 acts) events
   plain =
       tells_all acts items told few (opening_of (session_of acts)) 0 (first_state (session_of acts) told) events
       (first_opening acts told) legal.legal legal.whole fine goes
@@ -151,8 +155,9 @@ module _ (acts : List Entry) (items : AreItems 0 acts) (told : Bool) (few : leng
   tally_is = rw (called, executed, plain.drops, aborted, marked, lasting, fine, plain.closed closing.Open) refl
 
 -- the summary is that of the script
-pub summary_is : (start size : ℕ) → size ≤ most_size → (told : Bool) (events : List Event) → IsLegal (generated start size) told events →
-    list_any is_fault events ≡ false → list_any is_outside_stop events ≡ false → (run drop : ℕ → ℕ) → HasMarks run drop events →
+pub summary_is : (start size : ℕ) → size ≤ most_size → (told : Bool) (events : List Event) →
+    IsLegal (generated start size) told events → list_any is_fault events ≡ false →
+    list_any is_outside_stop events ≡ false → (run drop : ℕ → ℕ) → HasMarks run drop events →
     summary_of start size events ≡ plain_summary start size run
 summary_is start size few told events legal fine goes run drop marks =
     let acts : List Entry = acts_from size 0 start in

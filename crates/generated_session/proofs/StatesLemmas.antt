@@ -27,7 +27,8 @@ pub record Changes (old new : List ActState) (o : ℕ) (to : ActState) : Type 0 
   pub others : (n : ℕ) → n ≢ o → at new n ≡ at old n
   pub size : length new ≡ length old
 
-pub changed : (states : List ActState) (o : ℕ) (to : ActState) → o < length states → Changes states (slice_set states o to) o to
+pub changed : (states : List ActState) (o : ℕ) (to : ActState) → o < length states →
+    Changes states (slice_set states o to) o to
 changed states o to below = record {
   here = get_or-set_same states o to fresh below;
   others = λ n differ. get_or-set_other states o n to fresh differ;
@@ -38,7 +39,10 @@ changed states o to below = record {
 pub is_there : (states : List ActState) (o : ℕ) → is_born (at states o).phase ≡ true → o < length states
 is_there states o born = elim (cases_lt o (length states)) [
   | inl below ↦ below
-  | inr past ↦ absurd (let wrong : false ≡ true = sym (ap (λ (act : ActState). is_born act.phase) (get_or_past states o fresh past)) ∙ born in cc)
+  | inr past ↦
+      absurd (let wrong : false ≡ true =
+      sym (ap (λ (act : ActState). is_born act.phase) (get_or_past states o fresh past)) ∙ born in
+      cc)
 ]
 
 abbrev pub is_opened : List Entry → ℕ → Bool
@@ -48,7 +52,8 @@ no_place : (place : Place) → same_place None place ≡ true → place ≡ None
 no_place None is = refl
 no_place (Some p) is = absurd (cc)
 
-opened_by : (acts : List Entry) (n : ℕ) (e : Option Entry) → slice_get acts n ≡ e → passes opens e ≡ true → nth_place acts n ≡ None
+opened_by : (acts : List Entry) (n : ℕ) (e : Option Entry) → slice_get acts n ≡ e → passes opens e ≡ true →
+    nth_place acts n ≡ None
 opened_by acts n None there is = absurd (cc)
 opened_by acts n (Some e) there is = parent_of-in acts n (Some e) there ∙ no_place e.parent is
 
@@ -62,7 +67,8 @@ pub record ActsFit (acts : List Entry) (states : List ActState) : Type 0 where
   pub opened : (n : ℕ) → is_opened acts n ≡ true → is_back (at states n).call ≡ true
   pub order : (i j : ℕ) → is_opened acts i ≡ true → is_opened acts j ≡ true → i < j →
       is_back_before (called_at (at states j).call) (at states i).call ≡ true
-  pub nested : (n p : ℕ) (c : Class) → nth_place acts n ≡ Some (p, c) → is_called (at states n).call ≡ has_made (at states p).phase
+  pub nested : (n p : ℕ) (c : Class) → nth_place acts n ≡ Some (p, c) →
+      is_called (at states n).call ≡ has_made (at states p).phase
 
 -- what a change at one act may be
 pub record MayChange (acts : List Entry) (old : List ActState) (o : ℕ) (to : ActState) : Type 0 where
@@ -71,8 +77,8 @@ pub record MayChange (acts : List Entry) (old : List ActState) (o : ℕ) (to : A
   pub makes : (n : ℕ) (c : Class) → nth_place acts n ≡ Some (o, c) → has_made to.phase ≡ has_made (at old o).phase
   pub called : (p : ℕ) (c : Class) → nth_place acts o ≡ Some (p, c) → is_called to.call ≡ is_called (at old o).call
 
-module _ (acts : List Entry) (old new : List ActState) (o : ℕ) (to : ActState) (was : ActsFit acts old) (changes : Changes old new o to)
-    (may : MayChange acts old o to) where
+module _ (acts : List Entry) (old new : List ActState) (o : ℕ) (to : ActState) (was : ActsFit acts old)
+    (changes : Changes old new o to) (may : MayChange acts old o to) where
   fit_at : (n : ℕ) → fits (nth_act acts n) (is_called (at new n).call) (at new n).phase ≡ true
   fit_at n = elim (cases_eq n o) [
     | inl same ↦ subst (λ m. fits (nth_act acts m) (is_called (at new m).call) (at new m).phase ≡ true) (sym same)
@@ -87,16 +93,20 @@ module _ (acts : List Entry) (old new : List ActState) (o : ℕ) (to : ActState)
     | inr differ ↦ ap (λ (act : ActState). act.call) (changes.others n differ)
   ]
 
-  called_same : (n p : ℕ) (c : Class) → nth_place acts n ≡ Some (p, c) → is_called (at new n).call ≡ is_called (at old n).call
+  called_same : (n p : ℕ) (c : Class) → nth_place acts n ≡ Some (p, c) →
+      is_called (at new n).call ≡ is_called (at old n).call
   called_same n p c parent = elim (cases_eq n o) [
-    | inl same ↦ subst (λ m. nth_place acts m ≡ Some (p, c) → is_called (at new m).call ≡ is_called (at old m).call) (sym same)
+    | inl same ↦
+        subst (λ m. nth_place acts m ≡ Some (p, c) → is_called (at new m).call ≡ is_called (at old m).call) (sym same)
         (λ place. ap (λ (act : ActState). is_called act.call) changes.here ∙ may.called p c place) parent
     | inr differ ↦ ap (λ (act : ActState). is_called act.call) (changes.others n differ)
   ]
 
-  made_same : (n p : ℕ) (c : Class) → nth_place acts n ≡ Some (p, c) → has_made (at new p).phase ≡ has_made (at old p).phase
+  made_same : (n p : ℕ) (c : Class) → nth_place acts n ≡ Some (p, c) →
+      has_made (at new p).phase ≡ has_made (at old p).phase
   made_same n p c parent = elim (cases_eq p o) [
-    | inl same ↦ subst (λ q. nth_place acts n ≡ Some (q, c) → has_made (at new q).phase ≡ has_made (at old q).phase) (sym same)
+    | inl same ↦
+        subst (λ q. nth_place acts n ≡ Some (q, c) → has_made (at new q).phase ≡ has_made (at old q).phase) (sym same)
         (λ place. ap (λ (act : ActState). has_made act.phase) changes.here ∙ may.makes n c place) parent
     | inr differ ↦ ap (λ (act : ActState). has_made act.phase) (changes.others p differ)
   ]
@@ -158,18 +168,21 @@ module _ (acts : List Entry) (items : AreItems 0 acts) (old new : List ActState)
         let wrong : None ≡ Some (p, c) = sym outer ∙ (ap (nth_place acts) same ∙ parent) in
         absurd (cc wrong)
     | inr differ ↦ elim (cases_eq m p) [
-      | inl same ↦ subst (λ k. (at new k).call ≡ (at old k).call) (sym same) (ap (λ (act : ActState). act.call) calls.above ∙ calls.back)
+      | inl same ↦
+          subst (λ k. (at new k).call ≡ (at old k).call) (sym same) (ap (λ (act : ActState). act.call) calls.above ∙ calls.back)
       | inr other ↦ ap (λ (act : ActState). act.call) (calls.others m differ other)
     ]
   ]
 
-  nested_called : (m q : ℕ) (d : Class) → nth_place acts m ≡ Some (q, d) → is_called (at new m).call ≡ has_made (at new q).phase
+  nested_called : (m q : ℕ) (d : Class) → nth_place acts m ≡ Some (q, d) →
+      is_called (at new m).call ≡ has_made (at new q).phase
   nested_called m q d place = elim (cases_eq q p) [
     | inl same ↦
         let one : m ≡ suc q = (under acts items m q d place).next in
         let two : n ≡ suc p = (under acts items n p c parent).next in
         let here : m ≡ n = one ∙ (ap suc same ∙ sym two) in
-        ap (λ k. is_called (at new k).call) here ∙ ap (λ (act : ActState). is_called act.call) calls.there ∙ calls.counts
+        ap (λ k. is_called (at new k).call) here ∙ ap (λ (act : ActState). is_called act.call) calls.there
+        ∙ calls.counts
         ∙ sym (ap (λ k. has_made (at new k).phase) same ∙ ap (λ (act : ActState). has_made act.phase) calls.above ∙ calls.made)
     | inr differ ↦
         let one : m ≡ suc q = (under acts items m q d place).next in
@@ -205,11 +218,13 @@ called-changed old new o to size changes below =
     (λ m differ. ap (λ (act : ActState). cond (is_called act.call) 1 0) (sym (changes.others m differ)))
     ∙ ap (λ (act : ActState). called_count old size + cond (is_called act.call) 1 0) changes.here
 
-pub ended-changed : (weight : ℕ → ℕ) (old new : List ActState) (o : ℕ) (to : ActState) (size : ℕ) → Changes old new o to → o < size →
-    ended_sum weight new size + cond (has_ended (at old o).phase) (weight o) 0 ≡ ended_sum weight old size + cond (has_ended to.phase)
-    (weight o) 0
+pub ended-changed : (weight : ℕ → ℕ) (old new : List ActState) (o : ℕ) (to : ActState) (size : ℕ) →
+    Changes old new o to → o < size →
+    ended_sum weight new size + cond (has_ended (at old o).phase) (weight o) 0
+    ≡ ended_sum weight old size + cond (has_ended to.phase) (weight o) 0
 ended-changed weight old new o to size changes below =
-    total-changed (λ n. cond (has_ended (at old n).phase) (weight n) 0) (λ n. cond (has_ended (at new n).phase) (weight n) 0) o size below
+    total-changed (λ n. cond (has_ended (at old n).phase) (weight n) 0)
+    (λ n. cond (has_ended (at new n).phase) (weight n) 0) o size below
     (λ m differ. ap (λ (act : ActState). cond (has_ended act.phase) (weight m) 0) (sym (changes.others m differ)))
     ∙ ap (λ (act : ActState). ended_sum weight old size + cond (has_ended act.phase) (weight o) 0) changes.here
 
@@ -227,14 +242,17 @@ asks_opened_in (waiting timer after rest small short items) (suc zero) asks = re
 asks_opened_in (waiting timer after rest small short items) (suc (suc i)) asks = asks_opened_in items i asks
 
 -- `open` makes all requests
-pub asks_opened : (acts : List Entry) → AreItems 0 acts → (n : ℕ) → asks_in (nth_act acts n) ≡ true → is_opened acts n ≡ true
-asks_opened acts items n asks = asks_opened_in items n (ap asks_in (sym (act_of-in acts n (slice_get acts n) refl)) ∙ asks)
+pub asks_opened : (acts : List Entry) → AreItems 0 acts → (n : ℕ) → asks_in (nth_act acts n) ≡ true →
+    is_opened acts n ≡ true
+asks_opened acts items n asks =
+    asks_opened_in items n (ap asks_in (sym (act_of-in acts n (slice_get acts n) refl)) ∙ asks)
 
 pub asks_within : (acts : List Entry) (n : ℕ) → asks_in (nth_act acts n) ≡ true → n < length acts
 asks_within acts n asks = by_entry (slice_get acts n) refl
   where
     by_entry : (e : Option Entry) → slice_get acts n ≡ e → n < length acts
-    by_entry None there = absurd (let wrong : false ≡ true = ap asks_in (sym (act_of-in acts n None there)) ∙ asks in cc)
+    by_entry None there =
+        absurd (let wrong : false ≡ true = ap asks_in (sym (act_of-in acts n None there)) ∙ asks in cc)
     by_entry (Some e) there = slice_get_within acts n e there
 
 -- an act that stands in no handler is one of `open`

@@ -84,7 +84,8 @@ module _ (acts : List Entry) (items : AreItems 0 acts) (told : Bool) (s : State)
       let first_step = back_step acts items states a s.context.events was.fit made in
       let changes = back_changes acts items states a s.context.events was.fit made in
       let size : length half ≡ length acts = first_step.fit.size in
-      let p_within : p < length acts = let next = inside.next in let less = inside.within in omega (arith, next, less) in
+      let p_within : p < length acts =
+      let next = inside.next in let less = inside.within in omega (arith, next, less) in
       let progress : Changes half new p to = changed half p to (omega (arith, size, p_within)) in
       let x : ContextState =
       with_progress (parent_of script a) step.Back (with_call s.context a (returned s.context.events (at states a).call)) in
@@ -115,7 +116,8 @@ module _ (acts : List Entry) (items : AreItems 0 acts) (told : Bool) (s : State)
       refl
       (record {
         fit = acts_fit-changed acts half new p to first_step.fit progress (record {
-          fit = progress_fits (known acts items p) (is_called (at half p).call) (at half p).phase (first_step.fit.fit p);
+          fit =
+              progress_fits (known acts items p) (is_called (at half p).call) (at half p).phase (first_step.fit.fit p);
           opened = λ is. refl;
           makes = λ n d place. progress_made (at half p).phase;
           called = λ q d place. refl;
@@ -140,7 +142,8 @@ module _ (acts : List Entry) (items : AreItems 0 acts) (told : Bool) (s : State)
 
   step_begun : (o : ℕ) (given : Code) (size : ℕ) → is_born (at s.context.acts o).phase ≡ true →
       is_request (at s.context.acts o).phase ≡ false →
-      ActStep acts s.context.acts (phased s.context.acts o (phase.Running (class_of_code given) no_progress)) (event.Begin o given size) →
+      ActStep acts s.context.acts (phased s.context.acts o (phase.Running (class_of_code given) no_progress))
+      (event.Begin o given size) →
       Step acts s was (event.Begin o given size) (after_event (session_of acts) told s (event.Begin o given size))
   step_begun o given size born never acts_step =
       let script = session_of acts in
@@ -197,7 +200,8 @@ module _ (acts : List Entry) (items : AreItems 0 acts) (told : Bool) (s : State)
       let why : Cause = cause.Completed s.context.events (unwrap_or s.context.turn 0) in
       let to : ActState = record (at states o) { phase = phase.Ready given size why } in
       let new : List ActState = phased states o (phase.Ready given size why) in
-      step_of acts s was (event.Done o given size) (after_event script told s (event.Done o given size)) new refl refl refl refl refl
+      step_of acts s was (event.Done o given size) (after_event script told s (event.Done o given size)) new refl refl
+      refl refl refl
       (done_step acts items states o given size why is was.fit)
       (done_turns acts states new s.reactor was.from o was.left given size to (known acts items o) was.turns was.ahead due
       (changed_phase states o (phase.Ready given size why) (ap is_born is)) refl)
@@ -216,7 +220,8 @@ module _ (acts : List Entry) (items : AreItems 0 acts) (told : Bool) (s : State)
   step_on (event.Begin o given size) may works runs_on going = step_begin o given size may
   step_on (event.End o mark) may works runs_on going = step_end o mark may
   step_on (event.Take a) may works runs_on going =
-      step_of acts s was (event.Take a) (after_event (session_of acts) told s (event.Take a)) s.context.acts refl refl refl refl refl
+      step_of acts s was (event.Take a) (after_event (session_of acts) told s (event.Take a)) s.context.acts refl refl
+      refl refl refl
       (still_acts acts s.context.acts (event.Take a) was.fit refl (λ weight. refl)) (take_turns acts items told s was a may)
   step_on (event.Done o given size) may works runs_on going = step_done o given size may
   step_on (event.Tick time) may works runs_on going =
@@ -228,7 +233,8 @@ module _ (acts : List Entry) (items : AreItems 0 acts) (told : Bool) (s : State)
       (still_acts acts s.context.acts event.Last was.fit refl (λ weight. refl)) (last_turns acts told s was may)
   step_on event.Fault may works runs_on going = absurd (cc)
   step_on event.Ended may works runs_on going = absurd (cc)
-  step_on event.Stopped may works runs_on going = absurd (let wrong : false ≡ true = sym was.stopped ∙ may.stopped in cc)
+  step_on event.Stopped may works runs_on going =
+      absurd (let wrong : false ≡ true = sym was.stopped ∙ may.stopped in cc)
   step_on event.Polled may works runs_on going =
       absurd (let wrong : true ≡ false = sym (ap (λ n. runs (slice_get one_run n)) was.closings) ∙ may.polls in cc)
   step_on event.Restart may works runs_on going =

@@ -79,14 +79,16 @@ stays_later false false n m same = same refl
 
 other_expiry : (expiries : List ℕ) (timer expiry other : ℕ) → (other == timer) ≡ false →
     slice_index_or expiries other 0 ≡ slice_index_or (slice_set expiries timer expiry) other 0
-other_expiry expiries timer expiry other differ = sym (get_or-set_other expiries timer other expiry 0 (eqb-false other timer differ))
+other_expiry expiries timer expiry other differ =
+    sym (get_or-set_other expiries timer other expiry 0 (eqb-false other timer differ))
 
-ones : (ws : List Wait) → gather plus (λ (w : Wait). one_if (is_aborted (aborted w.op 0))) ws ≡ gather plus (λ (w : Wait). 1) ws
+ones : (ws : List Wait) →
+    gather plus (λ (w : Wait). one_if (is_aborted (aborted w.op 0))) ws ≡ gather plus (λ (w : Wait). 1) ws
 ones [] = refl
 ones (w ∷ ws) = ap (λ n. 1 + n) (ones ws)
 
-pub expired_to_come : (r : ReactorHalf) (a timer after expiry : ℕ) (later : List (Option Act)) → expiry ≡ after → AreAhead r →
-    to_come r (Some (act.Expires timer after) ∷ later) ≡ to_come_beside (expired a timer expiry r) later
+pub expired_to_come : (r : ReactorHalf) (a timer after expiry : ℕ) (later : List (Option Act)) → expiry ≡ after →
+    AreAhead r → to_come r (Some (act.Expires timer after) ∷ later) ≡ to_come_beside (expired a timer expiry r) later
 expired_to_come r a timer after expiry later same ahead =
     let all : List (Option Act) = Some (act.Expires timer after) ∷ later in
     let next : ReactorHalf = expired a timer expiry r in
@@ -117,7 +119,8 @@ pub expired_until : (r : ReactorHalf) (a timer after expiry : ℕ) (later : List
 expired_until r a timer after expiry later same =
     let all : List (Option Act) = Some (act.Expires timer after) ∷ later in
     let next : ReactorHalf = expired a timer expiry r in
-    let one = gather-kept most mosts (stays_by r all) (stays_by next later) (λ (w : Wait). not (is_wait_of timer w)) r.waits
+    let one =
+    gather-kept most mosts (stays_by r all) (stays_by next later) (λ (w : Wait). not (is_wait_of timer w)) r.waits
     (all_any (λ (w : Wait). stays_by r all w ≡ cond (not (is_wait_of timer w)) (stays_by next later w) 0) r.waits
     (λ w. stays_later (is_wait_of timer w) (is_renewed w.timer later) (expiry_of r w) (expiry_of next w)
     (other_expiry r.expiries timer expiry w.timer))) in
@@ -127,14 +130,16 @@ expired_until r a timer after expiry later same =
 at_zero : (n : ℕ) (b : Bool) → cond (nat_le n 0) 0 (one_if b) ≡ one_if (nat_lt 0 n && b)
 at_zero zero b = refl
 at_zero (suc n) b =
-    ap (λ t. cond t 0 (one_if b)) (lt-leb (suc n) 0 (omega arith)) ∙ ap (λ t. one_if (t && b)) (sym (lt-ltb 0 (suc n) (omega arith)))
+    ap (λ t. cond t 0 (one_if b)) (lt-leb (suc n) 0 (omega arith))
+    ∙ ap (λ t. one_if (t && b)) (sym (lt-ltb 0 (suc n) (omega arith)))
 
 not_due : (due : Bool) (n : ℕ) → due ≡ false → n ≡ cond due 0 n
 not_due true n is = absurd (cc)
 not_due false n is = refl
 
-pub awaited_to_come : (r : ReactorHalf) (a timer filter : ℕ) (strand slot : Option ℕ) (later : List (Option Act)) → r.now ≡ 0 →
-    AreAhead r → to_come r (Some (act.Wait timer strand slot filter) ∷ later) ≡ to_come_beside (awaited a timer r) later
+pub awaited_to_come : (r : ReactorHalf) (a timer filter : ℕ) (strand slot : Option ℕ) (later : List (Option Act)) →
+    r.now ≡ 0 → AreAhead r →
+    to_come r (Some (act.Wait timer strand slot filter) ∷ later) ≡ to_come_beside (awaited a timer r) later
 awaited_to_come r a timer filter strand slot later early ahead =
     let next : ReactorHalf = awaited a timer r in
     let new : Wait = record { op = a; timer = timer } in

@@ -19,8 +19,9 @@ use Rattle.generated_session.proofs.TurnsLemmas.{Turns, cut_by, to_come, to_come
 abbrev pub moved : ℕ → Bool → List Stream → ReactorHalf → ReactorHalf
 moved time last streams r = record r { now = time; last = last; streams = streams }
 
-pub turns_moved : (acts : List Entry) (states : List ActState) (r : ReactorHalf) (from time : ℕ) (last : Bool) (streams : List Stream)
-    (left : List ℕ) → Turns acts states r from left → left ≡ [] → Turns acts states (moved time last streams r) from left
+pub turns_moved : (acts : List Entry) (states : List ActState) (r : ReactorHalf) (from time : ℕ) (last : Bool)
+    (streams : List Stream) (left : List ℕ) → Turns acts states r from left → left ≡ [] →
+    Turns acts states (moved time last streams r) from left
 turns_moved acts states r from time last streams left turns none = record {
   working = turns.working;
   queues = turns.queues;

@@ -60,7 +60,8 @@ module _ (acts : List Entry) (items : AreItems 0 acts) (states : List ActState) 
 module _ (acts : List Entry) (told : Bool) (states : List ActState) (r : ReactorHalf) (from a : ℕ) (rest : List ℕ)
     (turns : Turns acts states r from (a ∷ rest)) (ahead : AreAhead r) (below : a < length acts) where
   -- the request is performed, and what is due by it completes
-  by_served : (o : Option Act) → nth_act acts a ≡ o → (next : ReactorHalf) → with_taken a (performed_by (session_of acts) a o r) ≡ next →
+  by_served : (o : Option Act) → nth_act acts a ≡ o → (next : ReactorHalf) →
+      with_taken a (performed_by (session_of acts) a o r) ≡ next →
       TakenTo r next a (cond (is_requested (at states a).phase) 1 0) →
       to_come r (o ∷ map (nth_act acts) rest) ≡ to_come_beside next (map (nth_act acts) rest) →
       until r (o ∷ map (nth_act acts) rest) ≡ until next (map (nth_act acts) rest) →
@@ -68,7 +69,8 @@ module _ (acts : List Entry) (told : Bool) (states : List ActState) (r : Reactor
   by_served o is next performs to aborts lasts =
       let script = session_of acts in
       let after : List (Option Act) = map (act_of script) rest in
-      let next_turns : Turns acts states next (suc a) rest = turns_taken acts states r next from a rest turns to below in
+      let next_turns : Turns acts states next (suc a) rest =
+      turns_taken acts states r next from a rest turns to below in
       let same : reactor_after_take script told r a ≡ served next =
       ap (λ (x : Option Act). settled told (with_taken a (performed_by script a x r))) is ∙ ap (settled told) performs
       ∙ settled_is told next next_turns.queues in
@@ -95,13 +97,15 @@ module _ (acts : List Entry) (told : Bool) (states : List ActState) (r : Reactor
   takes (dispatches s) is b fit asked asks = absurd (cc asks)
   takes (expires timer after small) is b fit asked asks =
       let zero_on : r.now + after ≡ after = let zero_still = early in omega (arith, zero_still) in
-      let none : cond (is_requested (at states a).phase) 1 0 ≡ 0 = ap one_if (control_not_requested b (at states a).phase fit) in
+      let none : cond (is_requested (at states a).phase) 1 0 ≡ 0 =
+      ap one_if (control_not_requested b (at states a).phase fit) in
       by_served (Some (act.Expires timer after)) is (expired a timer (r.now + after) r) refl
       (taken_expires r a timer (r.now + after) _ none)
       (expired_to_come r a timer after (r.now + after) (map (nth_act acts) rest) zero_on ahead)
       (expired_until r a timer after (r.now + after) (map (nth_act acts) rest) zero_on)
   takes (waits timer small) is b fit asked asks =
-      let one : cond (is_requested (at states a).phase) 1 0 ≡ 1 = ap one_if (wait_requested b (at states a).phase fit asked) in
+      let one : cond (is_requested (at states a).phase) 1 0 ≡ 1 =
+      ap one_if (wait_requested b (at states a).phase fit asked) in
       by_served (Some (act.Wait timer (Some timer) None 7)) is (awaited a timer r) refl (taken_waits r a timer _ one)
       (awaited_to_come r a timer 7 (Some timer) None (map (nth_act acts) rest) early ahead)
       (awaited_until r a timer 7 (Some timer) None (map (nth_act acts) rest))
@@ -118,16 +122,17 @@ take_turns acts items told s was a may =
     let head =
     head_is acts items states s.reactor was.from a was.fit asks
     (not-true (was_taken s.reactor a) parts.1) may.first was.left was.turns in
-    subst (λ (left : List ℕ). TurnStep acts states s.reactor left (event.Take a) (reactor_after_take (session_of acts) told s.reactor a))
+    subst (λ (left : List ℕ).
+    TurnStep acts states s.reactor left (event.Take a) (reactor_after_take (session_of acts) told s.reactor a))
     (sym head.1)
     (takes acts told states s.reactor was.from a head.0
     (subst (λ (left : List ℕ). Turns acts states s.reactor was.from left) head.1 was.turns) was.ahead (asks_within acts a asks)
     (known acts items a) refl (is_called (at states a).call) fit parts.0 asks)
 
 -- a completion is told
-pub done_turns : (acts : List Entry) (old new : List ActState) (r : ReactorHalf) (from o : ℕ) (left : List ℕ) (given : Code) (size : ℕ)
-    (to : ActState) → IsKnown (nth_act acts o) → Turns acts old r from left → AreAhead r → IsDue r o given → Changes old new o to →
-    is_requested to.phase ≡ false →
+pub done_turns : (acts : List Entry) (old new : List ActState) (r : ReactorHalf) (from o : ℕ) (left : List ℕ)
+    (given : Code) (size : ℕ) (to : ActState) → IsKnown (nth_act acts o) → Turns acts old r from left → AreAhead r →
+    IsDue r o given → Changes old new o to → is_requested to.phase ≡ false →
     TurnStep acts new r left (event.Done o given size) (reactor_after_done (session_of acts) r o)
 done_turns acts old new r from o left given size to known turns ahead due changes is =
     subst (λ (x : ReactorHalf). TurnStep acts new r left (event.Done o given size) x)
@@ -147,8 +152,8 @@ quiet_request phase.Asked asks = refl
 quiet_request p asks = absurd (cc)
 
 -- no request is left where all is quiet
-none_left : (acts : List Entry) (s : State) (from : ℕ) (left : List ℕ) → Turns acts s.context.acts s.reactor from left → AllQuiet s →
-    left ≡ []
+none_left : (acts : List Entry) (s : State) (from : ℕ) (left : List ℕ) → Turns acts s.context.acts s.reactor from left →
+    AllQuiet s → left ≡ []
 none_left acts s from [] turns quiet = refl
 none_left acts s from (h ∷ rest) turns quiet =
     let not_taken = head_untaken acts s.context.acts s.reactor from h rest turns in
@@ -168,17 +173,22 @@ moves acts told states r from time last streams left e turns none lasts aborts t
     subst (λ (x : ReactorHalf). TurnStep acts states r left e x) (sym (settled_is told next turns.queues)) (record {
       from = from;
       rest = [];
-      turns = subst (λ (l : List ℕ). Turns acts states (served next) from l) none (turns_served acts states next from left next_turns);
+      turns =
+          subst (λ (l : List ℕ). Turns acts states (served next) from l) none
+          (turns_served acts states next from left next_turns);
       ahead = ahead_served next;
       aborts =
-          ap (λ (l : List ℕ). to_come r (map (act_of script) l)) none ∙ moved_to_come r time last streams ∙ sym (served_to_come next [])
+          ap (λ (l : List ℕ). to_come r (map (act_of script) l)) none ∙ moved_to_come r time last streams
+          ∙ sym (served_to_come next [])
           ∙ none_more (to_come (served next) []) ∙ ap (λ b. cond b 1 0 + to_come (served next) []) (sym aborts);
       lasts = ap (λ (l : List ℕ). until r (map (act_of script) l)) none ∙ lasts ∙ sym (served_until next []);
       time = time_is;
     })
 
-pub tick_turns : (acts : List Entry) (told : Bool) (s : State) (was : Going acts s) (time : ℕ) → MayTick (session_of acts) s time →
-    TurnStep acts s.context.acts s.reactor was.left (event.Tick time) (reactor_after_tick (session_of acts) told s.reactor time)
+pub tick_turns : (acts : List Entry) (told : Bool) (s : State) (was : Going acts s) (time : ℕ) →
+    MayTick (session_of acts) s time →
+    TurnStep acts s.context.acts s.reactor was.left (event.Tick time)
+    (reactor_after_tick (session_of acts) told s.reactor time)
 tick_turns acts told s was time may =
     let streams = (at_time (session_of acts) told time s.reactor).streams in
     moves acts told s.context.acts s.reactor was.from time s.reactor.last streams was.left (event.Tick time) was.turns
@@ -187,5 +197,6 @@ tick_turns acts told s was time may =
 pub last_turns : (acts : List Entry) (told : Bool) (s : State) (was : Going acts s) → MayDrain (session_of acts) s →
     TurnStep acts s.context.acts s.reactor was.left event.Last (reactor_after_last told s.reactor)
 last_turns acts told s was may =
-    moves acts told s.context.acts s.reactor was.from s.reactor.now true (at_last told s.reactor).streams was.left event.Last was.turns
+    moves acts told s.context.acts s.reactor was.from s.reactor.now true (at_last told s.reactor).streams was.left
+    event.Last was.turns
     (none_left acts s was.from was.left was.turns may.idle.quiet) refl refl refl

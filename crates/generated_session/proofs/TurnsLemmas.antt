@@ -35,7 +35,8 @@ abbrev pub wait_count : ℕ → List Wait → ℕ
 wait_count n waits = gather plus (λ (w : Wait). cond (w.op == n) 1 0) waits
 
 -- what holds of the reactor, where these requests are left from a number on
-pub record Turns (acts : List Entry) (states : List ActState) (r : ReactorHalf) (from : ℕ) (left : List ℕ) : Type 0 where
+pub record Turns (acts : List Entry) (states : List ActState) (r : ReactorHalf) (from : ℕ) (left : List ℕ)
+    : Type 0 where
   pub working : r.failed ≡ false
   pub queues : r.queues ≡ []
   pub guards : r.guards ≡ []
@@ -44,7 +45,8 @@ pub record Turns (acts : List Entry) (states : List ActState) (r : ReactorHalf) 
   pub listed : IsListed (is_asking acts) from left
   pub taken : (n : ℕ) → was_taken r n ≡ (is_asking acts n && nat_lt n from)
   pub waiting : (n : ℕ) → is_asking acts n ≡ true → from ≤ n → is_request (at states n).phase ≡ true
-  pub pending : (n : ℕ) → op_count n r.due + wait_count n r.waits ≡ cond (is_requested (at states n).phase && was_taken r n) 1 0
+  pub pending : (n : ℕ) →
+      op_count n r.due + wait_count n r.waits ≡ cond (is_requested (at states n).phase && was_taken r n) 1 0
   pub early : (r.now ≡ 0) ⊎ (left ≡ [])
 
 -- each pending wait expires later
@@ -80,7 +82,8 @@ until r later = max r.now (max (gather most (stays_by r later) r.waits) (to_last
 -- where waits may be due, which no request cancels
 abbrev pub to_come_beside : ReactorHalf → List (Option Act) → ℕ
 to_come_beside r later =
-    abort_count r.due + (gather plus (λ (w : Wait). cond (is_due r w) 0 (cut_by later w)) r.waits + to_abort r.expiries later)
+    abort_count r.due
+    + (gather plus (λ (w : Wait). cond (is_due r w) 0 (cut_by later w)) r.waits + to_abort r.expiries later)
 
 -- the waits that are due complete
 abbrev pub served : ReactorHalf → ReactorHalf
@@ -120,7 +123,8 @@ turns_served acts states r from left turns = record {
 pub ahead_served : (r : ReactorHalf) → AreAhead (served r)
 ahead_served r =
     let late : Wait → Bool = λ w. not (is_due r w) in
-    all_by (λ (w : Wait). late w ≡ true) (λ (w : Wait). is_due r w ≡ false) (filter late r.waits) (λ w is. not-true (is_due r w) is)
+    all_by (λ (w : Wait). late w ≡ true) (λ (w : Wait). is_due r w ≡ false) (filter late r.waits)
+    (λ w is. not-true (is_due r w) is)
     (filter_passes late r.waits)
 
 cond_not : (b : Bool) (n : ℕ) → cond b 0 n ≡ cond (not b) n 0
@@ -178,7 +182,8 @@ pub record TakenTo (r taken : ReactorHalf) (a more : ℕ) : Type 0 where
   pub at : taken.now ≡ r.now
   pub timers : length taken.expiries ≡ length r.expiries
   pub takes : taken.taken ≡ slice_set r.taken a true
-  pub pending : (n : ℕ) → op_count n taken.due + wait_count n taken.waits ≡ op_count n r.due + wait_count n r.waits + cond (a == n) more 0
+  pub pending : (n : ℕ) →
+      op_count n taken.due + wait_count n taken.waits ≡ op_count n r.due + wait_count n r.waits + cond (a == n) more 0
 
 module _ (acts : List Entry) (states : List ActState) (r taken : ReactorHalf) (from a : ℕ) (rest : List ℕ)
     (turns : Turns acts states r from (a ∷ rest)) (to : TakenTo r taken a (cond (is_requested (at states a).phase) 1 0))
@@ -189,15 +194,18 @@ module _ (acts : List Entry) (states : List ActState) (r taken : ReactorHalf) (f
       ∙ get_or-set_same r.taken a true false (omega (arith, below, turns.size))
 
   taken_other : (n : ℕ) → n ≢ a → was_taken taken n ≡ was_taken r n
-  taken_other n differ = ap (λ (xs : List Bool). slice_index_or xs n false) to.takes ∙ get_or-set_other r.taken a n true false differ
+  taken_other n differ =
+      ap (λ (xs : List Bool). slice_index_or xs n false) to.takes ∙ get_or-set_other r.taken a n true false differ
 
   none_between : (n : ℕ) → n ≢ a → (is_asking acts n && nat_lt n from) ≡ (is_asking acts n && nat_lt n (suc a))
   none_between n differ = elim (cases_lt n from) [
-    | inl before ↦ ap (λ b. is_asking acts n && b) (lt-ltb n from before ∙ sym (lt-ltb n (suc a) (omega (arith, before, turns.listed.0))))
+    | inl before ↦
+        ap (λ b. is_asking acts n && b) (lt-ltb n from before ∙ sym (lt-ltb n (suc a) (omega (arith, before, turns.listed.0))))
     | inr after ↦ elim (cases_lt n a) [
       | inl inside ↦ ap (λ b. b && nat_lt n from) (turns.listed.1 n after inside)
           ∙ sym (ap (λ b. b && nat_lt n (suc a)) (turns.listed.1 n after inside))
-      | inr beyond ↦ ap (λ b. is_asking acts n && b) (le-ltb n from after ∙ sym (le-ltb n (suc a) (omega (arith, beyond, differ))))
+      | inr beyond ↦
+          ap (λ b. is_asking acts n && b) (le-ltb n from after ∙ sym (le-ltb n (suc a) (omega (arith, beyond, differ))))
     ]
   ]
 
@@ -220,10 +228,12 @@ module _ (acts : List Entry) (states : List ActState) (r taken : ReactorHalf) (f
         (to.pending a ∙ ap (λ b. op_count a r.due + wait_count a r.waits + cond b (cond (is_requested (at states a).phase) 1 0) 0)
         (eq-eqb a a refl)
         ∙ more_here (is_requested (at states a).phase) (op_count a r.due + wait_count a r.waits)
-        (turns.pending a ∙ ap (λ b. cond (is_requested (at states a).phase && b) 1 0) (head_untaken acts states r from a rest turns))
+        (turns.pending a
+        ∙ ap (λ b. cond (is_requested (at states a).phase && b) 1 0) (head_untaken acts states r from a rest turns))
         ∙ ap (λ b. cond (is_requested (at states a).phase && b) 1 0) (sym taken_here))
     | inr differ ↦
-        to.pending n ∙ ap (λ b. op_count n r.due + wait_count n r.waits + cond b (cond (is_requested (at states a).phase) 1 0) 0)
+        to.pending n
+        ∙ ap (λ b. op_count n r.due + wait_count n r.waits + cond b (cond (is_requested (at states a).phase) 1 0) 0)
         (ne_eqb a n (λ same. differ (sym same)))
         ∙ plain (op_count n r.due + wait_count n r.waits) ∙ turns.pending n
         ∙ ap (λ b. cond (is_requested (at states n).phase && b) 1 0) (sym (taken_other n differ))
@@ -247,9 +257,9 @@ module _ (acts : List Entry) (states : List ActState) (r taken : ReactorHalf) (f
   }
 
 -- a change of an act that is and was no request
-pub turns_changed : (acts : List Entry) (old new : List ActState) (o : ℕ) (to : ActState) (r : ReactorHalf) (from : ℕ) (left : List ℕ) →
-    Turns acts old r from left → Changes old new o to →
-    is_request (at old o).phase ≡ false → is_request to.phase ≡ false → Turns acts new r from left
+pub turns_changed : (acts : List Entry) (old new : List ActState) (o : ℕ) (to : ActState) (r : ReactorHalf) (from : ℕ)
+    (left : List ℕ) → Turns acts old r from left → Changes old new o to → is_request (at old o).phase ≡ false →
+    is_request to.phase ≡ false → Turns acts new r from left
 turns_changed acts old new o to r from left turns changes was is = record {
   working = turns.working;
   queues = turns.queues;

@@ -1,5 +1,6 @@
--- The session that a number makes: postings, nested postings and dispatches on four strands, and waits on four timers, all
--- called by `open` (Asio reference, asio::post, asio::dispatch, steady_timer).
+-- The session that a number makes: postings, nested postings and dispatches on four strands, and
+-- waits on four timers, all called by `open` (Asio reference, asio::post, asio::dispatch,
+-- steady_timer).
 use Rattle.std.specs.Prelude.{ℕ, zero, suc, ◌+◌, ◌*◌, ◌%◌, ◌==◌, false, List, [], ◌∷◌, ◌++◌, Some, None, if◌then◌else◌}
 use Rattle.asio_types.specs.declared.code.Class.TheVariants as class
 use Rattle.session_script.specs.declared.act.Act.{Act}
@@ -7,7 +8,8 @@ use Rattle.session_script.specs.declared.act.Act.TheVariants as act
 use Rattle.session_script.specs.declared.round.Pace.TheVariants as pace
 use Rattle.session_script.specs.declared.round.Round.{Round}
 use Rattle.session_script.specs.Script.{Entry, ScriptModel}
--- what an item is made from: its kind from 0 to 3, the number of a strand and of a timer, and for how long a wait waits
+-- what an item is made from: its kind from 0 to 3, the number of a strand and of a timer, and for
+-- how long a wait waits
 pub use Rattle.generated_session.specs.declared.generator.Item.{Item}
 
 -- the greatest number that makes a session
@@ -49,8 +51,8 @@ lone_act item =
     else (if item.kind == 2 then act.Dispatch (Some item.lane)
     else act.Post None)
 
--- what it makes where two are left, the first of them with this number: a posting; a posting on a strand that posts; a
--- dispatch to a strand that dispatches to it again; or a wait
+-- what it makes where two are left, the first of them with this number: a posting; a posting on a
+-- strand that posts; a dispatch to a strand that dispatches to it again; or a wait
 abbrev pub acts_of_item : ℕ → Item → List Entry
 acts_of_item n item =
     if item.kind == 0 then opened (act.Post None) ∷ []
@@ -63,7 +65,9 @@ abbrev pub acts_from : ℕ → ℕ → ℕ → List Entry
 acts_from zero n x = []
 acts_from (suc zero) n x = opened (lone_act (item_after x)) ∷ []
 acts_from (suc (suc left)) n x =
-    acts_of_item n (item_after x) ++ (if (item_after x).kind == 0 then acts_from (suc left) (n + 1) (after_item x) else acts_from left (n + 2) (after_item x))
+    acts_of_item n (item_after x)
+    ++ (if (item_after x).kind == 0 then acts_from (suc left) (n + 1) (after_item x)
+    else acts_from left (n + 2) (after_item x))
 
 -- io_context::run by four workers, once
 abbrev pub one_run : List Round

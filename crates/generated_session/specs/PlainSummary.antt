@@ -21,8 +21,8 @@ is_expiry_of timer _ = false
 abbrev pub is_set_again : ℕ → List Entry → Bool
 is_set_again timer later = list_any (λ entry. is_expiry_of timer entry.act) later
 
--- The wait that stands just after an expiry is cancelled where a later act sets its timer again, unless it expires at once: then it
--- has completed before.
+-- The wait that stands just after an expiry is cancelled where a later act sets its timer again,
+-- unless it expires at once: then it has completed before.
 abbrev pub is_cut_off : ℕ → ℕ → List Entry → Bool
 is_cut_off timer after later = nat_lt 0 after && is_set_again timer later
 
@@ -49,7 +49,8 @@ plain_time (entry ∷ later) = max (lasting_by entry.act later) (plain_time late
 -- the sum of the run marks of the operations, the first of these acts being number n
 abbrev pub plain_marks : (ℕ → ℕ) → ℕ → List Entry → ℕ
 plain_marks run n [] = 0
-plain_marks run n (entry ∷ later) = (if is_operation entry.act then run n else 0) + plain_marks run (n + 1) later
+plain_marks run n (entry ∷ later) =
+    (if is_operation entry.act then run n else 0) + plain_marks run (n + 1) later
 
 -- what a summary says of a session with these acts: each is called and each operation executed
 abbrev pub plain_tally : (ℕ → ℕ) → List Entry → Tally
@@ -66,16 +67,20 @@ plain_tally run acts = record {
 
 -- the eight lines
 abbrev pub plain_summary : ℕ → ℕ → (ℕ → ℕ) → List ℕ
-plain_summary start size run = flat_map text_of_line (lines_of start size (plain_tally run (acts_from size 0 start)))
+plain_summary start size run =
+    flat_map text_of_line (lines_of start size (plain_tally run (acts_from size 0 start)))
 
 -- a stop of the context that is none of the script's acts
 abbrev pub is_outside_stop : Event → Bool
 is_outside_stop (event.Stop None) = true
 is_outside_stop _ = false
 
--- The script alone tells the summary of each legal history in which the reactor doesn't fail and nothing else stops the context.
+-- The script alone tells the summary of each legal history in which the reactor doesn't fail and
+-- nothing else stops the context.
 abbrev pub SummariesArePlain : Type 0
 SummariesArePlain =
-    (start size : ℕ) → size ≤ most_size → (told : Bool) (events : List Event) → IsLegal (generated start size) told events →
+    (start size : ℕ) → size ≤ most_size → (told : Bool) (events : List Event) →
+    IsLegal (generated start size) told events →
     list_any is_fault events ≡ false → list_any is_outside_stop events ≡ false →
-    (run drop : ℕ → ℕ) → HasMarks run drop events → summary_of start size events ≡ plain_summary start size run
+    (run drop : ℕ → ℕ) → HasMarks run drop events →
+    summary_of start size events ≡ plain_summary start size run

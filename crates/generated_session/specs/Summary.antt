@@ -1,5 +1,6 @@
--- The summary of a history in eight lines: what was started, executed and dropped, how many operations were cancelled, the
--- sum of the marks of the handlers that ran, the last time, and how it ended.
+-- The summary of a history in eight lines: what was started, executed and dropped, how many
+-- operations were cancelled, the sum of the marks of the handlers that ran, the last time, and how
+-- it ended.
 use Rattle.std.specs.Prelude.{ℕ, ◌+◌, Bool, true, false, List, [], ◌∷◌, ◌++◌, codes, count_by, sum_by, if◌then◌else◌}
 use Rattle.std.specs.List.{list_any, flat_map}
 use Rattle.std.specs.Fmt.{decimal}
@@ -11,7 +12,8 @@ use Rattle.generated_session.specs.declared.line.Line.{Line}
 use Rattle.generated_session.specs.declared.line.Line.TheVariants as line
 use Rattle.generated_session.specs.declared.tally.Closing.{Closing}
 use Rattle.generated_session.specs.declared.tally.Closing.TheVariants as closing
--- what a summary says of a history: its numbers, whether the reactor failed, and how the last round closed
+-- what a summary says of a history: its numbers, whether the reactor failed, and how the last round
+-- closed
 pub use Rattle.generated_session.specs.declared.tally.Tally.{Tally}
 
 abbrev pub is_call : Event → Bool
@@ -130,8 +132,10 @@ last_line tally = if tally.fault then line.Fault else line.Closed tally.closing
 -- the eight lines
 abbrev pub lines_of : ℕ → ℕ → Tally → List Line
 lines_of start size tally =
-    line.Made start size ∷ line.Acts tally.acts ∷ line.Executed tally.executed ∷ line.Dropped tally.dropped
-    ∷ line.Aborted tally.aborted ∷ line.Marks tally.marks ∷ line.Time tally.time ∷ last_line tally ∷ []
+    line.Made start size ∷ line.Acts tally.acts ∷ line.Executed tally.executed
+    ∷ line.Dropped tally.dropped
+    ∷ line.Aborted tally.aborted ∷ line.Marks tally.marks ∷ line.Time tally.time ∷ last_line tally
+    ∷ []
 
 -- the summary of a history of the session that a number made
 abbrev pub summary_of : ℕ → ℕ → List Event → List ℕ

@@ -90,8 +90,9 @@ fn made_by(op: OpNo, act: Act) -> PlacedAct
     }
 }
 
-/// The session of `size` acts that the number `start` makes: `start` is at most 65,536 and `size` from 1 to 1,024. It is
-/// the script itself, and no text is read. Takes time and memory in proportion to `size`.
+/// The session of `size` acts that the number `start` makes: `start` is at most 65,536 and `size`
+/// from 1 to 1,024. It is the script itself, and no text is read. Takes time and memory in
+/// proportion to `size`.
 pub fn generate(alloc: Global, start: u32, size: u32) -> Result<Script, NoMemory>
     requires start { start ≤ most_start }
     requires some { 1 ≤ size }
@@ -145,10 +146,14 @@ fn push_item(acts: &mut Vec<PlacedAct>, item: Item, left: u32)
     requires some { 1 ≤ left }
     requires room { vec_len acts.old + left ≤ vec_capacity acts.old }
     requires numbered { vec_len acts.old + left ≤ most_size }
-    ensures one { left ≡ 1 → entries_of acts.new.items ≡ entries_of acts.old.items ++ opened (lone_act item) ∷ [] }
-    ensures two { 2 ≤ left → entries_of acts.new.items ≡ entries_of acts.old.items ++ acts_of_item (vec_len acts.old) item }
+    ensures one { left ≡ 1 →
+        entries_of acts.new.items ≡ entries_of acts.old.items ++ opened (lone_act item) ∷ [] }
+    ensures two { 2 ≤ left →
+        entries_of acts.new.items
+        ≡ entries_of acts.old.items ++ acts_of_item (vec_len acts.old) item }
     ensures one_more { left ≡ 1 → vec_len acts.new ≡ vec_len acts.old + 1 }
-    ensures longer { 2 ≤ left → vec_len acts.new ≡ vec_len acts.old + length (acts_of_item (vec_len acts.old) item) }
+    ensures longer { 2 ≤ left →
+        vec_len acts.new ≡ vec_len acts.old + length (acts_of_item (vec_len acts.old) item) }
     ensures capacity { vec_capacity acts.new ≡ vec_capacity acts.old }
 {
     let first = acts.len() as OpNo;

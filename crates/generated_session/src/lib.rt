@@ -1,6 +1,7 @@
-//! Sessions made from a number: the script that a number and a size make, and the summary of a history, which of such a
-//! session says the same at each run. It promises which script is made and which eight lines are written, and that the
-//! script alone tells these lines. The session call stands on it.
+//! Sessions made from a number: the script that a number and a size make, and the summary of a
+//! history, which of such a session says the same at each run. It promises which script is made and
+//! which eight lines are written, and that the script alone tells these lines. The session call
+//! stands on it.
 #![tactic(auto)]
 
 mod generator;

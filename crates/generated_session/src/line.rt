@@ -60,8 +60,10 @@ impl Line {
 
     /// Writes the line. `Failed` comes where the sink failed, which has then taken a first part.
     pub(crate) fn write<K: Sink>(self, sink: &mut K) -> Result<(), Failed>
-        ensures whole { IfOk result (λ _. Extends (K.written sink.old) (text_of_line self) (K.written sink.new)) }
-        ensures part { OnErr result (ExtendsByPart (K.written sink.old) (text_of_line self) (K.written sink.new)) }
+        ensures whole { IfOk result
+            (λ _. Extends (K.written sink.old) (text_of_line self) (K.written sink.new)) }
+        ensures part { OnErr result
+            (ExtendsByPart (K.written sink.old) (text_of_line self) (K.written sink.new)) }
         ensures counts { CountsFaults result (K.faults sink.old) (K.faults sink.new) }
         ensures later { K.faults sink.old ≤ K.faults sink.new }
     {
@@ -96,8 +98,11 @@ fn line_of_closing(closing: Closing) -> &'static [u8]
 
 /// Writes a word, a number in decimal, and what ends it.
 fn write_number<K: Sink>(sink: &mut K, word: &[u8], number: u128, end: &[u8]) -> Result<(), Failed>
-    ensures whole { IfOk result (λ _. Extends (K.written sink.old) (word.now ++ decimal number ++ end.now) (K.written sink.new)) }
-    ensures part { OnErr result (ExtendsByPart (K.written sink.old) (word.now ++ decimal number ++ end.now) (K.written sink.new)) }
+    ensures whole { IfOk result (λ _.
+        Extends (K.written sink.old) (word.now ++ decimal number ++ end.now)
+        (K.written sink.new)) }
+    ensures part { OnErr result (ExtendsByPart (K.written sink.old)
+        (word.now ++ decimal number ++ end.now) (K.written sink.new)) }
     ensures counts { CountsFaults result (K.faults sink.old) (K.faults sink.new) }
     ensures later { K.faults sink.old ≤ K.faults sink.new }
 {

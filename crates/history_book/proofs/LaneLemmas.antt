@@ -6,7 +6,8 @@ use Rattle.asio_types.specs.declared.number.Lane.TheVariants as lane
 use Rattle.session_script.specs.Script.{Entry, ScriptModel}
 use Rattle.session_script.specs.Lanes.{caller_lane, lane_in, lane_of, lanes_after, lanes_of}
 
-length-lanes_after : (lanes : List Lane) (entries : List Entry) → length (lanes_after lanes entries) ≡ length lanes + length entries
+length-lanes_after : (lanes : List Lane) (entries : List Entry) →
+    length (lanes_after lanes entries) ≡ length lanes + length entries
 length-lanes_after lanes [] = omega arith
 length-lanes_after lanes (entry ∷ entries) =
     let lane = lane_in (caller_lane lanes entry.parent) (length lanes) entry.act in
@@ -14,4 +15,5 @@ length-lanes_after lanes (entry ∷ entries) =
 
 -- a number that no act has counts to the reactor
 pub lane_of_past : (script : ScriptModel) (n : ℕ) → length script.acts ≤ n → lane_of script n ≡ lane.Reactor
-lane_of_past script n past = get_or_past (lanes_of script) n lane.Reactor (omega (arith, length-lanes_after [] script.acts, past))
+lane_of_past script n past =
+    get_or_past (lanes_of script) n lane.Reactor (omega (arith, length-lanes_after [] script.acts, past))

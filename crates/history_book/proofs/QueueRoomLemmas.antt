@@ -22,14 +22,18 @@ abbrev pub each_size : StreamQueues → ℕ
 each_size each = length each.reads + length each.writes
 
 -- the queues of one stream changed
-pub sizes-set : (queues : List StreamQueues) (place : ℕ) (new : StreamQueues) (more : ℕ → ℕ) → each_size new ≤ each_size (get_or queues place no_queues) + more place → (stream : ℕ) → each_size (get_or (set queues place new) stream no_queues) ≤ each_size (get_or queues stream no_queues) + more stream
+pub sizes-set : (queues : List StreamQueues) (place : ℕ) (new : StreamQueues) (more : ℕ → ℕ) →
+    each_size new ≤ each_size (get_or queues place no_queues) + more place → (stream : ℕ) →
+    each_size (get_or (set queues place new) stream no_queues)
+    ≤ each_size (get_or queues stream no_queues) + more stream
 sizes-set queues place new more b stream =
     elim (cases_eq stream place) [
       | inl same ↦ rw same here
       | inr other ↦ rw (get_or-set_other queues place stream new no_queues other) (omega arith)
     ]
   where
-    here : each_size (get_or (set queues place new) place no_queues) ≤ each_size (get_or queues place no_queues) + more place
+    here : each_size (get_or (set queues place new) place no_queues)
+        ≤ each_size (get_or queues place no_queues) + more place
     here = elim (cases_lt place (length queues)) [
       | inl within ↦ rw (get_or-set_same queues place new no_queues within) b
       | inr past ↦ rw (set_past queues place new (omega arith)) (omega arith)
@@ -47,7 +51,8 @@ count-mono p q (suc n) step =
     let here = bit-mono (p n) (q n) (step n) in
     omega arith
 
-count-more : (p q : ℕ → Bool) (n a : ℕ) → ((k : ℕ) → p k ≡ true → q k ≡ true) → a < n → p a ≡ false → q a ≡ true → count_passing p n + 1 ≤ count_passing q n
+count-more : (p q : ℕ → Bool) (n a : ℕ) → ((k : ℕ) → p k ≡ true → q k ≡ true) → a < n → p a ≡ false → q a ≡ true →
+    count_passing p n + 1 ≤ count_passing q n
 count-more p q zero a step b out within = absurd (omega arith)
 count-more p q (suc n) a step b out within =
     elim (cases_eq a n) [
@@ -82,27 +87,48 @@ and-kept true c d step h = step h
 and-kept false c d step h = h
 
 -- an operation that wasn't taken has a place
-pub taken-below : (script : ScriptModel) (taken : List Bool) (a stream : ℕ) → a < length script.acts → get_or taken a false ≡ false → stream_asked (act_of script a) ≡ Some stream → taken_on script taken stream < ops_on script stream
+pub taken-below : (script : ScriptModel) (taken : List Bool) (a stream : ℕ) → a < length script.acts →
+    get_or taken a false ≡ false → stream_asked (act_of script a) ≡ Some stream →
+    taken_on script taken stream < ops_on script stream
 taken-below script taken a stream b untaken on =
     let out : (is_on script stream a && get_or taken a false) ≡ false = rw untaken (and-none (is_on script stream a)) in
     let here : is_on script stream a ≡ true = ap (is_this stream) on ∙ is-same stream in
-    let more = count-more (λ op. is_on script stream op && get_or taken op false) (is_on script stream) (length script.acts) a (λ k h. and-first (is_on script stream k) (get_or taken k false) h) b out here in
+    let more =
+    count-more (λ op. is_on script stream op && get_or taken op false) (is_on script stream) (length script.acts) a
+    (λ k h. and-first (is_on script stream k) (get_or taken k false) h) b out here in
     omega arith
 
-taken-kept : (taken : List Bool) (a k : ℕ) → a < length taken → get_or taken k false ≡ true → get_or (set taken a true) k false ≡ true
+taken-kept : (taken : List Bool) (a k : ℕ) → a < length taken → get_or taken k false ≡ true →
+    get_or (set taken a true) k false ≡ true
 taken-kept taken a k b h =
     elim (cases_eq k a) [
       | inl same ↦ rw same (get_or-set_same taken a true false b)
       | inr other ↦ get_or-set_other taken a k true false other ∙ h
     ]
 
-taken-step : (script : ScriptModel) (taken : List Bool) (a stream : ℕ) (here : Bool) → is_on script stream a ≡ here → a < length script.acts → a < length taken → get_or taken a false ≡ false → taken_on script taken stream + cond here 1 0 ≤ taken_on script (set taken a true) stream
+taken-step : (script : ScriptModel) (taken : List Bool) (a stream : ℕ) (here : Bool) → is_on script stream a ≡ here →
+    a < length script.acts → a < length taken → get_or taken a false ≡ false →
+    taken_on script taken stream + cond here 1 0 ≤ taken_on script (set taken a true) stream
 taken-step script taken a stream true on b there untaken =
-    count-more (λ op. is_on script stream op && get_or taken op false) (λ op. is_on script stream op && get_or (set taken a true) op false) (length script.acts) a (λ k h. and-kept (is_on script stream k) (get_or taken k false) (get_or (set taken a true) k false) (taken-kept taken a k there) h) b (rw untaken (and-none (is_on script stream a))) (rw (on, get_or-set_same taken a true false there) refl)
+    count-more (λ op. is_on script stream op && get_or taken op false)
+    (λ op. is_on script stream op && get_or (set taken a true) op false) (length script.acts) a
+    (λ k h.
+    and-kept (is_on script stream k) (get_or taken k false) (get_or (set taken a true) k false)
+    (taken-kept taken a k there) h) b (rw untaken (and-none (is_on script stream a)))
+    (rw (on, get_or-set_same taken a true false there) refl)
 taken-step script taken a stream false on b there untaken =
-    let more = count-mono (λ op. is_on script stream op && get_or taken op false) (λ op. is_on script stream op && get_or (set taken a true) op false) (length script.acts) (λ k h. and-kept (is_on script stream k) (get_or taken k false) (get_or (set taken a true) k false) (taken-kept taken a k there) h) in
+    let more =
+    count-mono (λ op. is_on script stream op && get_or taken op false)
+    (λ op. is_on script stream op && get_or (set taken a true) op false) (length script.acts)
+    (λ k h.
+    and-kept (is_on script stream k) (get_or taken k false) (get_or (set taken a true) k false)
+    (taken-kept taken a k there) h) in
     omega arith
 
 -- one more was taken of the stream that the act is on
-pub taken-more : (script : ScriptModel) (taken : List Bool) (a stream : ℕ) → a < length script.acts → a < length taken → get_or taken a false ≡ false → taken_on script taken stream + one_at stream (stream_asked (act_of script a)) ≤ taken_on script (set taken a true) stream
-taken-more script taken a stream b there untaken = taken-step script taken a stream (is_on script stream a) refl b there untaken
+pub taken-more : (script : ScriptModel) (taken : List Bool) (a stream : ℕ) → a < length script.acts → a < length taken →
+    get_or taken a false ≡ false →
+    taken_on script taken stream + one_at stream (stream_asked (act_of script a))
+    ≤ taken_on script (set taken a true) stream
+taken-more script taken a stream b there untaken =
+    taken-step script taken a stream (is_on script stream a) refl b there untaken

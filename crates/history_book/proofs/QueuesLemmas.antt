@@ -10,12 +10,14 @@ use Rattle.history_book.specs.Performing.{aborted, all_aborted, all_of_stream, i
 use Rattle.history_book.specs.Queues.{abort_of, aborts_of, is_queued, reads_go_first, IsFirstOf}
 
 -- a read goes first
-pub read-first : (head : Queued) (reads writes : List Queued) → reads_go_first (head ∷ reads) writes ≡ true → IsFirstOf head (head ∷ reads) writes reads writes
+pub read-first : (head : Queued) (reads writes : List Queued) → reads_go_first (head ∷ reads) writes ≡ true →
+    IsFirstOf head (head ∷ reads) writes reads writes
 read-first head reads [] first f g = refl
 read-first head reads (write ∷ writes) first f g = rw first
 
 -- a write goes first
-pub write-first : (reads : List Queued) (head : Queued) (writes : List Queued) → reads_go_first reads (head ∷ writes) ≡ false → IsFirstOf head reads (head ∷ writes) reads writes
+pub write-first : (reads : List Queued) (head : Queued) (writes : List Queued) →
+    reads_go_first reads (head ∷ writes) ≡ false → IsFirstOf head reads (head ∷ writes) reads writes
 write-first [] head writes first f g = refl
 write-first (read ∷ reads) head writes first f g = rw first
 
@@ -31,37 +33,61 @@ writes-none (read ∷ reads) [] first none = absurd (cc)
 writes-none (read ∷ reads) (write ∷ writes) first none = absurd (cc)
 
 -- an operation that stays or not, with what it asks for
-filter-asked-step : {Asks : Type 0} (f : ℕ → Asks) (x : Queued) (stays : Bool) (xs : List Queued) (rest : List (Pending Asks)) → rest ≡ map (asked f) xs → cond stays (asked f x ∷ rest) rest ≡ map (asked f) (cond stays (x ∷ xs) xs)
+filter-asked-step : {Asks : Type 0} (f : ℕ → Asks) (x : Queued) (stays : Bool) (xs : List Queued)
+    (rest : List (Pending Asks)) → rest ≡ map (asked f) xs →
+    cond stays (asked f x ∷ rest) rest ≡ map (asked f) (cond stays (x ∷ xs) xs)
 filter-asked-step f x true xs rest e = ap (λ r. asked f x ∷ r) e
 filter-asked-step f x false xs rest e = e
 
-pub filter-asked : {Asks : Type 0} (f : ℕ → Asks) (op : ℕ) (xs : List Queued) → filter (λ pending. not (is_of op pending)) (map (asked f) xs) ≡ map (asked f) (filter (λ queued. not (is_queued op queued)) xs)
+pub filter-asked : {Asks : Type 0} (f : ℕ → Asks) (op : ℕ) (xs : List Queued) →
+    filter (λ pending. not (is_of op pending)) (map (asked f) xs)
+    ≡ map (asked f) (filter (λ queued. not (is_queued op queued)) xs)
 filter-asked f op [] = refl
-filter-asked f op (x ∷ xs) = filter-asked-step f x (not (is_queued op x)) (filter (λ queued. not (is_queued op queued)) xs) (filter (λ pending. not (is_of op pending)) (map (asked f) xs)) (filter-asked f op xs)
+filter-asked f op (x ∷ xs) =
+    filter-asked-step f x (not (is_queued op x)) (filter (λ queued. not (is_queued op queued)) xs)
+    (filter (λ pending. not (is_of op pending)) (map (asked f) xs)) (filter-asked f op xs)
 
-aborts-asked-step : {Asks : Type 0} (f : ℕ → Asks) (x : Queued) (goes : Bool) (xs : List Queued) (rest : List (Pending Asks)) → all_aborted rest ≡ map abort_of xs → all_aborted (cond goes (asked f x ∷ rest) rest) ≡ map abort_of (cond goes (x ∷ xs) xs)
+aborts-asked-step : {Asks : Type 0} (f : ℕ → Asks) (x : Queued) (goes : Bool) (xs : List Queued)
+    (rest : List (Pending Asks)) → all_aborted rest ≡ map abort_of xs →
+    all_aborted (cond goes (asked f x ∷ rest) rest) ≡ map abort_of (cond goes (x ∷ xs) xs)
 aborts-asked-step f x true xs rest e = ap (λ r. abort_of x ∷ r) e
 aborts-asked-step f x false xs rest e = e
 
-pub aborts-asked : {Asks : Type 0} (f : ℕ → Asks) (op : ℕ) (xs : List Queued) → all_aborted (filter (is_of op) (map (asked f) xs)) ≡ aborts_of (is_queued op) xs
+pub aborts-asked : {Asks : Type 0} (f : ℕ → Asks) (op : ℕ) (xs : List Queued) →
+    all_aborted (filter (is_of op) (map (asked f) xs)) ≡ aborts_of (is_queued op) xs
 aborts-asked f op [] = refl
-aborts-asked f op (x ∷ xs) = aborts-asked-step f x (is_queued op x) (filter (is_queued op) xs) (filter (is_of op) (map (asked f) xs)) (aborts-asked f op xs)
+aborts-asked f op (x ∷ xs) =
+    aborts-asked-step f x (is_queued op x) (filter (is_queued op) xs) (filter (is_of op) (map (asked f) xs))
+    (aborts-asked f op xs)
 
 -- all operations of a stream are as many as its queues hold
-length-with_writes : (accepted n : ℕ) (read : Completion) (later : List (Pending Writing) → List Completion) → ((rest : List (Pending Writing)) → length (later rest) ≡ n + length rest) → (writes : List (Pending Writing)) → length (with_writes accepted read later writes) ≡ n + length writes + 1
+length-with_writes : (accepted n : ℕ) (read : Completion) (later : List (Pending Writing) → List Completion) →
+    ((rest : List (Pending Writing)) → length (later rest) ≡ n + length rest) → (writes : List (Pending Writing)) →
+    length (with_writes accepted read later writes) ≡ n + length writes + 1
 length-with_writes accepted n read later h [] = omega (arith, h [])
 length-with_writes accepted n read later h (write ∷ writes) =
-    pick (nat_lt accepted write.accepted) (read ∷ later (write ∷ writes)) (aborted write.op write.moved ∷ with_writes accepted read later writes) (n + length (write ∷ writes) + 1) (omega (arith, h (write ∷ writes))) (omega (arith, length-with_writes accepted n read later h writes))
+    pick (nat_lt accepted write.accepted) (read ∷ later (write ∷ writes))
+    (aborted write.op write.moved ∷ with_writes accepted read later writes) (n + length (write ∷ writes) + 1)
+    (omega (arith, h (write ∷ writes))) (omega (arith, length-with_writes accepted n read later h writes))
   where
     pick : (b : Bool) (xs ys : List Completion) (n : ℕ) → length xs ≡ n → length ys ≡ n → length (cond b xs ys) ≡ n
     pick true xs ys n e f = e
     pick false xs ys n e f = f
 
-pub length-all_of_stream : (reads : List (Pending Reading)) (writes : List (Pending Writing)) → length (all_of_stream reads writes) ≡ length reads + length writes
-length-all_of_stream [] writes = omega (arith, length-map writes (λ (pending : Pending Writing). aborted pending.op pending.moved))
-length-all_of_stream (read ∷ reads) writes = omega (arith, length-with_writes read.accepted (length reads) (aborted read.op read.moved) (all_of_stream reads) (length-all_of_stream reads) writes)
+pub length-all_of_stream : (reads : List (Pending Reading)) (writes : List (Pending Writing)) →
+    length (all_of_stream reads writes) ≡ length reads + length writes
+length-all_of_stream [] writes =
+    omega (arith, length-map writes (λ (pending : Pending Writing). aborted pending.op pending.moved))
+length-all_of_stream (read ∷ reads) writes =
+    omega (
+      arith,
+      length-with_writes read.accepted (length reads) (aborted read.op read.moved) (all_of_stream reads)
+          (length-all_of_stream reads) writes,
+    )
 
-pub all-count : (f : ℕ → Reading) (g : ℕ → Writing) (reads writes : List Queued) (due after : List Completion) → after ≡ due ++ all_of_stream (map (asked f) reads) (map (asked g) writes) → length after ≡ length due + length reads + length writes
+pub all-count : (f : ℕ → Reading) (g : ℕ → Writing) (reads writes : List Queued) (due after : List Completion) →
+    after ≡ due ++ all_of_stream (map (asked f) reads) (map (asked g) writes) →
+    length after ≡ length due + length reads + length writes
 all-count f g reads writes due after is =
     let all = length-all_of_stream (map (asked f) reads) (map (asked g) writes) in
     let more = ap length is ∙ length-append due (all_of_stream (map (asked f) reads) (map (asked g) writes)) in
@@ -70,7 +96,9 @@ all-count f g reads writes due after is =
     omega arith
 
 -- an operation of a queue stays or is aborted
-pub left-aborted : {Asks : Type 0} (op : ℕ) (queue : List (Pending Asks)) → length (filter (λ pending. not (is_of op pending)) queue) + length (all_aborted (filter (is_of op) queue)) ≡ length queue
+pub left-aborted : {Asks : Type 0} (op : ℕ) (queue : List (Pending Asks)) →
+    length (filter (λ pending. not (is_of op pending)) queue) + length (all_aborted (filter (is_of op) queue))
+    ≡ length queue
 left-aborted {Asks = Asks} op queue =
     let both = length-filter_both (is_of op) (λ (pending : Pending Asks). not (is_of op pending)) (λ x. refl) queue in
     let each = length-map (filter (is_of op) queue) (λ (pending : Pending Asks). aborted pending.op pending.moved) in

@@ -92,7 +92,9 @@ rest_then (byte ∷ bytes) end more w h =
     ∙ rest_then bytes end more (and_right (is_of_word byte) (list_all is_of_word bytes) w) h
 
 decimal-IsWord : (n : ℕ) → n < 2 ^ 64 → IsWord (decimal n)
-decimal-IsWord n h = decimal_by_steps (λ m ds. IsWord ds) (λ m small. grind (arith, nat_tests)) (λ m ds large w. grind (arith, nat_tests, list_all-append, w)) n h
+decimal-IsWord n h =
+    decimal_by_steps (λ m ds. IsWord ds) (λ m small. grind (arith, nat_tests))
+    (λ m ds large w. grind (arith, nat_tests, list_all-append, w)) n h
 
 value_back : (n : ℕ) → n < 2 ^ 64 → digits_value 10 (decimal n) ≡ n
 value_back n h = (decimal_is_IsNumeral n h).1
@@ -116,7 +118,8 @@ code-IsWord code.Broken = refl
 code-IsWord code.Reset = refl
 
 -- what is read of one, two and three words after the first one
-one_word : {A : Type 0} (f : List ℕ → List ℕ → A) (w more : List ℕ) → IsWord w → f (word (w ++ 10 ∷ more)) (rest (w ++ 10 ∷ more)) ≡ f w more
+one_word : {A : Type 0} (f : List ℕ → List ℕ → A) (w more : List ℕ) → IsWord w →
+    f (word (w ++ 10 ∷ more)) (rest (w ++ 10 ∷ more)) ≡ f w more
 one_word f w more hw =
     ap (λ x. f x (rest (w ++ 10 ∷ more))) (word_then w 10 more hw (omega arith))
     ∙ ap (f w) (rest_then w 10 more hw (omega arith))
@@ -124,22 +127,26 @@ one_word f w more hw =
 joined_two : (v w end more : List ℕ) → (((v ++ space) ++ w) ++ end) ++ more ≡ v ++ 32 ∷ (w ++ (end ++ more))
 joined_two v w end more = simp append_assoc
 
-two_words : {A : Type 0} (f : List ℕ → List ℕ → List ℕ → A) (v w more : List ℕ) (t : List ℕ) → t ≡ v ++ 32 ∷ (w ++ 10 ∷ more) → IsWord v → IsWord w
-    → f (word t) (word (rest t)) (rest (rest t)) ≡ f v w more
+two_words : {A : Type 0} (f : List ℕ → List ℕ → List ℕ → A) (v w more : List ℕ) (t : List ℕ) →
+    t ≡ v ++ 32 ∷ (w ++ 10 ∷ more) → IsWord v → IsWord w → f (word t) (word (rest t)) (rest (rest t)) ≡ f v w more
 two_words f v w more t whole hv hw =
     let left : rest t ≡ w ++ 10 ∷ more = ap rest whole ∙ rest_then v 32 (w ++ 10 ∷ more) hv (omega arith) in
     ap (λ x. f x (word (rest t)) (rest (rest t))) (ap word whole ∙ word_then v 32 (w ++ 10 ∷ more) hv (omega arith))
     ∙ ap (λ x. f v (word x) (rest x)) left
     ∙ one_word (f v) w more hw
 
-three_words : {A : Type 0} (f : List ℕ → List ℕ → List ℕ → List ℕ → A) (u v w more : List ℕ) (t : List ℕ) → t ≡ u ++ 32 ∷ (v ++ 32 ∷ (w ++ 10 ∷ more)) → IsWord u → IsWord v → IsWord w
-    → f (word t) (word (rest t)) (word (rest (rest t))) (rest (rest (rest t))) ≡ f u v w more
+three_words : {A : Type 0} (f : List ℕ → List ℕ → List ℕ → List ℕ → A) (u v w more : List ℕ) (t : List ℕ) →
+    t ≡ u ++ 32 ∷ (v ++ 32 ∷ (w ++ 10 ∷ more)) → IsWord u → IsWord v → IsWord w →
+    f (word t) (word (rest t)) (word (rest (rest t))) (rest (rest (rest t))) ≡ f u v w more
 three_words f u v w more t whole hu hv hw =
-    let left : rest t ≡ v ++ 32 ∷ (w ++ 10 ∷ more) = ap rest whole ∙ rest_then u 32 (v ++ 32 ∷ (w ++ 10 ∷ more)) hu (omega arith) in
-    ap (λ x. f x (word (rest t)) (word (rest (rest t))) (rest (rest (rest t)))) (ap word whole ∙ word_then u 32 (v ++ 32 ∷ (w ++ 10 ∷ more)) hu (omega arith))
+    let left : rest t ≡ v ++ 32 ∷ (w ++ 10 ∷ more) =
+    ap rest whole ∙ rest_then u 32 (v ++ 32 ∷ (w ++ 10 ∷ more)) hu (omega arith) in
+    ap (λ x. f x (word (rest t)) (word (rest (rest t))) (rest (rest (rest t))))
+    (ap word whole ∙ word_then u 32 (v ++ 32 ∷ (w ++ 10 ∷ more)) hu (omega arith))
     ∙ two_words (f u) v w more (rest t) left hv hw
 
-joined_three : (u v w end more : List ℕ) → (((((u ++ space) ++ v) ++ space) ++ w) ++ end) ++ more ≡ u ++ 32 ∷ (v ++ 32 ∷ (w ++ (end ++ more)))
+joined_three : (u v w end more : List ℕ) →
+    (((((u ++ space) ++ v) ++ space) ++ w) ++ end) ++ more ≡ u ++ 32 ∷ (v ++ 32 ∷ (w ++ (end ++ more)))
 joined_three u v w end more = simp append_assoc
 
 -- the same, where the words are numbers, and perhaps a code
@@ -151,16 +158,23 @@ one_number f n more h =
     ∙ ap (λ x. f x more) (value_back n h)
 
 two_numbers : {A : Type 0} (f : ℕ → ℕ → List ℕ → A) (n m : ℕ) (more : List ℕ) → n < 2 ^ 64 → m < 2 ^ 64
-    → let t = (((decimal n ++ space) ++ decimal m) ++ line_end) ++ more in f (number t) (number (rest t)) (rest (rest t)) ≡ f n m more
+    → let t = (((decimal n ++ space) ++ decimal m) ++ line_end) ++ more in
+    f (number t) (number (rest t)) (rest (rest t)) ≡ f n m more
 two_numbers f n m more hn hm =
-    two_words (λ v w r. f (digits_value 10 v) (digits_value 10 w) r) (decimal n) (decimal m) more _ (joined_two (decimal n) (decimal m) line_end more) (decimal-IsWord n hn) (decimal-IsWord m hm)
+    two_words (λ v w r. f (digits_value 10 v) (digits_value 10 w) r) (decimal n) (decimal m) more _
+    (joined_two (decimal n) (decimal m) line_end more) (decimal-IsWord n hn) (decimal-IsWord m hm)
     ∙ ap (λ x. f x (digits_value 10 (decimal m)) more) (value_back n hn)
     ∙ ap (λ x. f n x more) (value_back m hm)
 
-outcome : {A : Type 0} (f : ℕ → Code → ℕ → List ℕ → A) (n : ℕ) (code : Code) (m : ℕ) (more : List ℕ) → n < 2 ^ 64 → m < 2 ^ 64
-    → let t = (((((decimal n ++ space) ++ word_of_code code) ++ space) ++ decimal m) ++ line_end) ++ more in f (number t) (code_of (word (rest t))) (number (rest (rest t))) (rest (rest (rest t))) ≡ f n code m more
+outcome : {A : Type 0} (f : ℕ → Code → ℕ → List ℕ → A) (n : ℕ) (code : Code) (m : ℕ) (more : List ℕ) → n < 2 ^ 64 →
+    m < 2 ^ 64 → let t =
+    (((((decimal n ++ space) ++ word_of_code code) ++ space) ++ decimal m) ++ line_end)
+    ++ more in f (number t) (code_of (word (rest t))) (number (rest (rest t))) (rest (rest (rest t)))
+    ≡ f n code m more
 outcome f n code m more hn hm =
-    three_words (λ u v w r. f (digits_value 10 u) (code_of v) (digits_value 10 w) r) (decimal n) (word_of_code code) (decimal m) more _ (joined_three (decimal n) (word_of_code code) (decimal m) line_end more) (decimal-IsWord n hn) (code-IsWord code) (decimal-IsWord m hm)
+    three_words (λ u v w r. f (digits_value 10 u) (code_of v) (digits_value 10 w) r) (decimal n) (word_of_code code)
+    (decimal m) more _ (joined_three (decimal n) (word_of_code code) (decimal m) line_end more) (decimal-IsWord n hn)
+    (code-IsWord code) (decimal-IsWord m hm)
     ∙ ap (λ x. f x (code_of (word_of_code code)) (digits_value 10 (decimal m)) more) (value_back n hn)
     ∙ ap (λ x. f n x (digits_value 10 (decimal m)) more) (code_back code)
     ∙ ap (λ x. f n code x more) (value_back m hm)
@@ -186,15 +200,18 @@ wide : (n : ℕ) → n < 2 ^ 32 → n < 2 ^ 64
 wide n h = omega arith
 
 -- a line is read back
-line_back : (event : Event) (more : List ℕ) → HasItsNumbers event → event_at (line_of event ++ more) ≡ Some (event, more)
+line_back : (event : Event) (more : List ℕ) → HasItsNumbers event →
+    event_at (line_of event ++ more) ≡ Some (event, more)
 line_back (event.Call act) more h = one_number (λ n r. Some (event.Call n, r)) act more (wide act h)
 line_back (event.Back act) more h = one_number (λ n r. Some (event.Back n, r)) act more (wide act h)
 line_back (event.Stop (Some act)) more h = one_act (λ a r. Some (event.Stop a, r)) act more (wide act h)
 line_back (event.Stop None) more h = refl
-line_back (event.Begin op code size) more h = outcome (λ n c m r. Some (event.Begin n c m, r)) op code size more (wide op h.0) (wide size h.1)
+line_back (event.Begin op code size) more h =
+    outcome (λ n c m r. Some (event.Begin n c m, r)) op code size more (wide op h.0) (wide size h.1)
 line_back (event.End op mark) more h = two_numbers (λ n m r. Some (event.End n m, r)) op mark more (wide op h.0) h.1
 line_back (event.Take act) more h = one_number (λ n r. Some (event.Take n, r)) act more (wide act h)
-line_back (event.Done op code size) more h = outcome (λ n c m r. Some (event.Done n c m, r)) op code size more (wide op h.0) (wide size h.1)
+line_back (event.Done op code size) more h =
+    outcome (λ n c m r. Some (event.Done n c m, r)) op code size more (wide op h.0) (wide size h.1)
 line_back (event.Tick now) more h = one_number (λ n r. Some (event.Tick n, r)) now more h
 line_back event.Last more h = refl
 line_back event.Fault more h = refl
@@ -202,18 +219,23 @@ line_back event.Ended more h = refl
 line_back event.Stopped more h = refl
 line_back event.Polled more h = refl
 line_back event.Restart more h = refl
-line_back (event.Dropped op mark) more h = two_numbers (λ n m r. Some (event.Dropped n m, r)) op mark more (wide op h.0) h.1
+line_back (event.Dropped op mark) more h =
+    two_numbers (λ n m r. Some (event.Dropped n m, r)) op mark more (wide op h.0) h.1
 
 none_is_none : {A : Type 0} (x : A) → None ≡ Some x → ⊥
 none_is_none x h = cc
 
 -- traces that agree are of the same events
-pub same_events : (first second : List Event) → AreEvents first → AreEvents second → trace_of first ≡ trace_of second → first ≡ second
+pub same_events : (first second : List Event) → AreEvents first → AreEvents second → trace_of first ≡ trace_of second →
+    first ≡ second
 same_events [] [] ha hb h = refl
-same_events [] (e ∷ es) ha hb h = absurd (none_is_none (e, trace_of es) (ap event_at h ∙ line_back e (trace_of es) hb.0))
-same_events (e ∷ es) [] ha hb h = absurd (none_is_none (e, trace_of es) (ap event_at (sym h) ∙ line_back e (trace_of es) ha.0))
+same_events [] (e ∷ es) ha hb h =
+    absurd (none_is_none (e, trace_of es) (ap event_at h ∙ line_back e (trace_of es) hb.0))
+same_events (e ∷ es) [] ha hb h =
+    absurd (none_is_none (e, trace_of es) (ap event_at (sym h) ∙ line_back e (trace_of es) ha.0))
 same_events (e ∷ es) (f ∷ fs) ha hb h =
-    let k : ◌≡◌ {A = Option (Event × List ℕ)} (Some (e, trace_of es)) (Some (f, trace_of fs)) = sym (line_back e (trace_of es) ha.0) ∙ ap event_at h ∙ line_back f (trace_of fs) hb.0 in
+    let k : ◌≡◌ {A = Option (Event × List ℕ)} (Some (e, trace_of es)) (Some (f, trace_of fs)) =
+    sym (line_back e (trace_of es) ha.0) ∙ ap event_at h ∙ line_back f (trace_of fs) hb.0 in
     let p : ◌≡◌ {A = Event × List ℕ} (e, trace_of es) (f, trace_of fs) = cc in
     let q : es ≡ fs = same_events es fs ha.1 hb.1 (ap (λ x. x.1) p) in
     ap (λ x. x ∷ es) (ap (λ x. x.0) p) ∙ ap (λ xs. f ∷ xs) q

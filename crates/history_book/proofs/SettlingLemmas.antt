@@ -8,7 +8,8 @@ use Rattle.history_book.specs.Settling.{due_waits, expiry_of, is_due, put_by, se
 use Rattle.history_book.specs.State.{ReactorHalf}
 use Rattle.history_book.specs.Waiting.{all_completed_with}
 
-put_by-same : {X : Type 0} (key : X → ℕ) (n : ℕ) (x : X) (xs : List X) → key x ≡ n → All (λ y. key y ≡ n) xs → put_by key x xs ≡ x ∷ xs
+put_by-same : {X : Type 0} (key : X → ℕ) (n : ℕ) (x : X) (xs : List X) → key x ≡ n → All (λ y. key y ≡ n) xs →
+    put_by key x xs ≡ x ∷ xs
 put_by-same key n x [] is all = refl
 put_by-same key n x (y ∷ ys) is all =
     let first : key y ≡ n = all 0 y (omega arith) in
@@ -24,7 +25,8 @@ sorted_by-same key n (x ∷ xs) all =
 
 -- waits that are due together complete in order of acceptance
 pub due-together : (r : ReactorHalf) → AreDueTogether r → due_waits r ≡ all_completed_with (code.Ok) (is_due r) r.waits
-due-together r together = ap (map waited) (sorted_by-same (expiry_of r) together.0 (filter (is_due r) r.waits) together.1)
+due-together r together =
+    ap (map waited) (sorted_by-same (expiry_of r) together.0 (filter (is_due r) r.waits) together.1)
 
 -- there are as many queues as before
 pub length-served_below : (n : ℕ) (r : ReactorHalf) → length (served_below n r).queues ≡ length r.queues

@@ -19,14 +19,22 @@ least_of_push : (xs : List ℕ) (x : ℕ) → least_of (xs ++ x ∷ []) ≡ less
 least_of_push [] x = refl
 least_of_push (y ∷ ys) x = ap (lesser y) (least_of_push ys x) ∙ lesser-comm y x (least_of ys)
 
-least-kept : (now x : ℕ) (xs : List ℕ) (b : Bool) → nat_lt now x ≡ b → least_of (filter (λ y. nat_lt now y) xs ++ filter (λ y. nat_lt now y) (x ∷ [])) ≡ cond b (lesser x (least_of (filter (λ y. nat_lt now y) xs))) (least_of (filter (λ y. nat_lt now y) xs))
+least-kept : (now x : ℕ) (xs : List ℕ) (b : Bool) → nat_lt now x ≡ b →
+    least_of (filter (λ y. nat_lt now y) xs ++ filter (λ y. nat_lt now y) (x ∷ []))
+    ≡ cond b (lesser x (least_of (filter (λ y. nat_lt now y) xs))) (least_of (filter (λ y. nat_lt now y) xs))
 least-kept now x xs true e = rw e (least_of_push (filter (λ y. nat_lt now y) xs) x)
 least-kept now x xs false e = rw (e, append-nil (filter (λ y. nat_lt now y) xs))
 
 -- one more item, whose number counts where it is above now
-pub least-more : {X : Type 0} (f : X → ℕ) (now : ℕ) (xs : List X) (i : ℕ) (d : X) → i < length xs → least_of (filter (λ y. nat_lt now y) (map f (take (i + 1) xs))) ≡ cond (nat_lt now (f (get_or xs i d))) (lesser (f (get_or xs i d)) (least_of (filter (λ y. nat_lt now y) (map f (take i xs))))) (least_of (filter (λ y. nat_lt now y) (map f (take i xs))))
+pub least-more : {X : Type 0} (f : X → ℕ) (now : ℕ) (xs : List X) (i : ℕ) (d : X) → i < length xs →
+    least_of (filter (λ y. nat_lt now y) (map f (take (i + 1) xs)))
+    ≡ cond (nat_lt now (f (get_or xs i d)))
+    (lesser (f (get_or xs i d)) (least_of (filter (λ y. nat_lt now y) (map f (take i xs)))))
+    (least_of (filter (λ y. nat_lt now y) (map f (take i xs))))
 least-more f now xs i d b =
-    ap (λ ys. least_of (filter (λ y. nat_lt now y) ys)) (map_more f xs i d b) ∙ ap least_of (filter-append (λ y. nat_lt now y) (map f (take i xs)) (f (get_or xs i d) ∷ [])) ∙ least-kept now (f (get_or xs i d)) (map f (take i xs)) (nat_lt now (f (get_or xs i d))) refl
+    ap (λ ys. least_of (filter (λ y. nat_lt now y) ys)) (map_more f xs i d b)
+    ∙ ap least_of (filter-append (λ y. nat_lt now y) (map f (take i xs)) (f (get_or xs i d) ∷ []))
+    ∙ least-kept now (f (get_or xs i d)) (map f (take i xs)) (nat_lt now (f (get_or xs i d))) refl
 
 -- a number that may be there is above this one
 abbrev IsAbove : ℕ → Option ℕ → Type 0
@@ -37,8 +45,10 @@ lesser-above : (n x : ℕ) (least : Option ℕ) → n < x → IsAbove n least �
 lesser-above n x None b above = b
 lesser-above n x (Some y) b above = let both : n < min x y = omega arith in both
 
-above-step : (now x : ℕ) (xs : List ℕ) (b : Bool) → nat_lt now x ≡ b → IsAbove now (least_of xs) → IsAbove now (least_of (cond b (x ∷ xs) xs))
-above-step now x xs true e h = let above : now < x = grind (arith, nat_tests, e) in lesser-above now x (least_of xs) above h
+above-step : (now x : ℕ) (xs : List ℕ) (b : Bool) → nat_lt now x ≡ b → IsAbove now (least_of xs) →
+    IsAbove now (least_of (cond b (x ∷ xs) xs))
+above-step now x xs true e h =
+    let above : now < x = grind (arith, nat_tests, e) in lesser-above now x (least_of xs) above h
 above-step now x xs false e h = h
 
 least-above : (now : ℕ) (xs : List ℕ) → IsAbove now (least_of (filter (λ y. nat_lt now y) xs))
@@ -71,17 +81,22 @@ least-within : (top : ℕ) (xs : List ℕ) → All (λ x. x ≤ top) xs → IsWi
 least-within top [] all = tt
 least-within top (x ∷ xs) all = least-within-step top x xs (least xs) refl (all 0 x (omega arith))
 
-point-within : (top time : ℕ) (limit next : Option ℕ) → earlier_point limit next ≡ point.Time time → IsWithin top limit → IsWithin top next → time ≤ top
+point-within : (top time : ℕ) (limit next : Option ℕ) → earlier_point limit next ≡ point.Time time →
+    IsWithin top limit → IsWithin top next → time ≤ top
 point-within top time None None e a b = absurd (cc)
 point-within top time None (Some x) e a b = let is : x ≡ time = cc in omega arith
 point-within top time (Some l) None e a b = let is : l ≡ time = cc in omega arith
 point-within top time (Some l) (Some x) e a b = let is : min l x ≡ time = cc in omega arith
 
 -- the next point is at most what bounds expiries and lines
-pub next_point-within : (top time now : ℕ) (limit : Option ℕ) (lines : List Line) → next_point limit (times_after now lines) ≡ point.Time time → IsWithin top limit → All (λ (line : Line). line.time ≤ top) lines → time ≤ top
+pub next_point-within : (top time now : ℕ) (limit : Option ℕ) (lines : List Line) →
+    next_point limit (times_after now lines) ≡ point.Time time → IsWithin top limit →
+    All (λ (line : Line). line.time ≤ top) lines → time ≤ top
 next_point-within top time now limit lines e within all =
     let times : List ℕ = filter (λ t. nat_lt now t) (map (λ (line : Line). line.time) lines) in
-    let each : All (λ t. t ≤ top) times = All-filter (λ t. nat_lt now t) (λ t. t ≤ top) (map (λ (line : Line). line.time) lines) (All-map (λ t. t ≤ top) (λ (line : Line). line.time) lines all) in
+    let each : All (λ t. t ≤ top) times =
+    All-filter (λ t. nat_lt now t) (λ t. t ≤ top) (map (λ (line : Line). line.time) lines)
+    (All-map (λ t. t ≤ top) (λ (line : Line). line.time) lines all) in
     point-within top time limit (least times) (sym (next_point-rising limit times) ∙ e) within (least-within top times each)
 
 -- a number that may be there, and is at most this
@@ -101,20 +116,26 @@ some-step : (x y : ℕ) (xs : List ℕ) (b : Bool) → IsAtMost x (least_of xs) 
 some-step x y xs true h = lesser-at_most x y (least_of xs) h
 some-step x y xs false h = h
 
-some-least : {X : Type 0} (f : X → ℕ) (now : ℕ) (xs : List X) (k : ℕ) (d : X) → k < length xs → now < f (get_or xs k d) → IsAtMost (f (get_or xs k d)) (least_of (filter (λ t. nat_lt now t) (map f xs)))
+some-least : {X : Type 0} (f : X → ℕ) (now : ℕ) (xs : List X) (k : ℕ) (d : X) → k < length xs →
+    now < f (get_or xs k d) → IsAtMost (f (get_or xs k d)) (least_of (filter (λ t. nat_lt now t) (map f xs)))
 some-least f now [] k d b above = absurd (omega arith)
 some-least f now (x ∷ xs) zero d b above =
     let test : nat_lt now (f x) ≡ true = grind (arith, nat_tests) in
     rw test (lesser-first (f x) (least_of (filter (λ t. nat_lt now t) (map f xs))))
 some-least f now (x ∷ xs) (suc k) d b above =
-    some-step (f (get_or xs k d)) (f x) (filter (λ t. nat_lt now t) (map f xs)) (nat_lt now (f x)) (some-least f now xs k d (omega arith) above)
+    some-step (f (get_or xs k d)) (f x) (filter (λ t. nat_lt now t) (map f xs)) (nat_lt now (f x))
+    (some-least f now xs k d (omega arith) above)
 
-point-at_most : (x time : ℕ) (limit next : Option ℕ) → earlier_point limit next ≡ point.Time time → IsAtMost x limit → time ≤ x
+point-at_most : (x time : ℕ) (limit next : Option ℕ) → earlier_point limit next ≡ point.Time time → IsAtMost x limit →
+    time ≤ x
 point-at_most x time None next e h = absurd h
 point-at_most x time (Some l) None e h = let is : l ≡ time = cc in omega arith
 point-at_most x time (Some l) (Some y) e h = let is : min l y ≡ time = cc in omega arith
 
 -- no expiry above now is before the next point
-pub next_point-first : {X : Type 0} (f : X → ℕ) (now time : ℕ) (xs : List X) (times : List ℕ) → next_point (least_of (filter (λ t. nat_lt now t) (map f xs))) times ≡ point.Time time → (k : ℕ) (d : X) → k < length xs → now < f (get_or xs k d) → time ≤ f (get_or xs k d)
+pub next_point-first : {X : Type 0} (f : X → ℕ) (now time : ℕ) (xs : List X) (times : List ℕ) →
+    next_point (least_of (filter (λ t. nat_lt now t) (map f xs))) times ≡ point.Time time → (k : ℕ) (d : X) →
+    k < length xs → now < f (get_or xs k d) → time ≤ f (get_or xs k d)
 next_point-first f now time xs times e k d b above =
-    point-at_most (f (get_or xs k d)) time (least_of (filter (λ t. nat_lt now t) (map f xs))) (slice_get times 0) e (some-least f now xs k d b above)
+    point-at_most (f (get_or xs k d)) time (least_of (filter (λ t. nat_lt now t) (map f xs))) (slice_get times 0) e
+    (some-least f now xs k d b above)

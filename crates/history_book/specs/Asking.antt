@@ -1,4 +1,5 @@
--- What the operations of a script ask of their streams, and a stream's queues as the replay holds them.
+-- What the operations of a script ask of their streams, and a stream's queues as the replay holds
+-- them.
 use Rattle.std.specs.Prelude.{ℕ, ◌≤◌, Option, Some, None, IsSome, All, [], map}
 use Rattle.std.specs.Option.{unwrap_or}
 use Rattle.std.specs.VecDeque.{deque_capacity}

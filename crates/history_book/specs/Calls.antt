@@ -1,4 +1,5 @@
--- When an act is initiated, and when that call returns (Asio reference, asio::post, asio::defer, asio::dispatch, io_context::stop).
+-- When an act is initiated, and when that call returns (Asio reference, asio::post, asio::defer,
+-- asio::dispatch, io_context::stop).
 use Rattle.std.specs.Prelude.{◌≡◌, ℕ, Bool, true, false, not, ◌&&◌, ◌||◌, List, Option, Some, None, IsSomeAnd, slice_get, if◌then◌else◌}
 use Rattle.asio_types.specs.Faults.{one_more}
 use Rattle.asio_types.specs.declared.code.Class.{Class}
@@ -27,12 +28,16 @@ pub record Body : Type 0 where
 -- the branch that a running handler executes
 abbrev pub running_body : ScriptModel → ℕ → Class → ActPhase → Option Body
 running_body script o class (phase.Running running progress) =
-    if same_class running class then Some (record { acts = branch_of script o class; progress = progress }) else None
+    if same_class running class
+    then Some (record { acts = branch_of script o class; progress = progress })
+    else None
 running_body script o class _ = None
 
--- the body in this place, if it is being executed; that of `open` is, unless the reactor failed before it
+-- the body in this place, if it is being executed; that of `open` is, unless the reactor failed
+-- before it
 abbrev pub body_at : ScriptModel → Bool → ContextState → Place → Option Body
-body_at script failed s None = if failed then None else Some (record { acts = opening_of script; progress = s.opening })
+body_at script failed s None =
+    if failed then None else Some (record { acts = opening_of script; progress = s.opening })
 body_at script failed s (Some place) = running_body script place.0 place.1 (phase_at s place.0)
 
 -- the act is the next one of a body that has no open call
@@ -58,7 +63,8 @@ abbrev pub with_progress : Place → Step → ContextState → ContextState
 with_progress None step s = record s { opening = stepped step s.opening }
 with_progress (Some place) step s = with_phase s place.0 (progressed step (phase_at s place.0))
 
--- a posting is ready at once, save where it executes inside its call; anything else but a stop asks the reactor
+-- a posting is ready at once, save where it executes inside its call; anything else but a stop asks
+-- the reactor
 abbrev pub accepted : ScriptModel → ℕ → ActPhase
 accepted script a =
     if is_inline script a then phase.Inside
@@ -68,7 +74,8 @@ accepted script a =
 
 abbrev pub after_call : ScriptModel → ContextState → ℕ → ContextState
 after_call script s a =
-    counted (with_act (with_progress (parent_of script a) step.Made s) a (record { call = call.Open s.events; phase = accepted script a }))
+    counted (with_act (with_progress (parent_of script a) step.Made s) a
+    (record { call = call.Open s.events; phase = accepted script a }))
 
 -- the call was made, and has neither stopped the context nor returned
 abbrev pub is_made : CallPhase → Bool
@@ -95,13 +102,16 @@ abbrev pub has_ended : ActPhase → Bool
 has_ended phase.Ended = true
 has_ended _ = false
 
--- a call has done all that it does: a stop has stopped the context, and what executes inside its call has ended
+-- a call has done all that it does: a stop has stopped the context, and what executes inside its
+-- call has ended
 abbrev pub is_call_done : Bool → Bool → ActState → Bool
 is_call_done stops inside act =
-    if stops then has_stopped act.call else (is_made act.call && (not inside || has_ended act.phase))
+    if stops then has_stopped act.call
+    else (is_made act.call && (not inside || has_ended act.phase))
 
 abbrev pub MayReturn : ScriptModel → ContextState → ℕ → Type 0
-MayReturn script s a = is_call_done (is_act is_stop script a) (is_inline script a) (act_at s a) ≡ true
+MayReturn script s a =
+    is_call_done (is_act is_stop script a) (is_inline script a) (act_at s a) ≡ true
 
 abbrev pub returned : ℕ → CallPhase → CallPhase
 returned place call.Uncalled = call.Uncalled
@@ -109,17 +119,21 @@ returned place (call.Open called) = call.Back called place
 returned place (call.Stopping called) = call.Back called place
 returned place (call.Back called back) = call.Back called back
 
--- after a stop in `open` no lane may begin anything; after a handler's each other lane may begin one more
+-- after a stop in `open` no lane may begin anything; after a handler's each other lane may begin
+-- one more
 abbrev pub limited : ScriptModel → ℕ → Place → ContextState → ContextState
 limited script a None s = record s { allowances = each_lane allowance.Nothing s.allowances }
-limited script a (Some place) s = record s { allowances = after_stop_on (lane_of script a) s.allowances }
+limited script a (Some place) s =
+    record s { allowances = after_stop_on (lane_of script a) s.allowances }
 
 abbrev pub limited_by_stop : ScriptModel → ℕ → ContextState → ContextState
-limited_by_stop script a s = if is_act is_stop script a then limited script a (parent_of script a) s else s
+limited_by_stop script a s =
+    if is_act is_stop script a then limited script a (parent_of script a) s else s
 
 abbrev pub after_return : ScriptModel → ContextState → ℕ → ContextState
 after_return script s a =
-    counted (limited_by_stop script a (with_progress (parent_of script a) step.Back (with_call s a (returned s.events (call_at s a)))))
+    counted (limited_by_stop script a (with_progress (parent_of script a) step.Back
+    (with_call s a (returned s.events (call_at s a)))))
 
 abbrev pub is_open : CallPhase → Bool
 is_open call.Uncalled = false

@@ -1,4 +1,5 @@
--- When a handler begins and ends (Asio reference, io_context::run; io_context::strand; asio::dispatch).
+-- When a handler begins and ends (Asio reference, io_context::run; io_context::strand;
+-- asio::dispatch).
 use Rattle.std.specs.Prelude.{◌≡◌, ◌⊎◌, ℕ, Bool, true, false, ◌==◌, ◌&&◌, length, if◌then◌else◌}
 use Rattle.asio_types.specs.Code.{class_of_code}
 use Rattle.asio_types.specs.declared.code.Code.{Code}
@@ -24,7 +25,8 @@ abbrev pub IsReadyWith : ActPhase → Code → ℕ → Type 0
 IsReadyWith act code size = (why : Cause) × (act ≡ phase.Ready code size why)
 
 -- a ready handler begins: one at a time on its lane, in order
-pub record MayBeginOutside (script : ScriptModel) (s : ContextState) (o : ℕ) (code : Code) (size : ℕ) : Type 0 where
+pub record MayBeginOutside (script : ScriptModel) (s : ContextState) (o : ℕ) (code : Code)
+    (size : ℕ) : Type 0 where
   pub round : RoundIsOpen script s
   pub ready : IsReadyWith (phase_at s o) code size
   pub alone : LaneIsFree script s o
@@ -47,12 +49,14 @@ begun s o code = with_phase s o (phase.Running (class_of_code code) no_progress)
 -- only what begins outside a call uses the lane's allowance
 abbrev pub after_begin : ScriptModel → ContextState → ℕ → Code → ContextState
 after_begin script s o code =
-    counted (if is_inline script o then begun s o code else spend (lane_of script o) (begun s o code))
+    counted
+    (if is_inline script o then begun s o code else spend (lane_of script o) (begun s o code))
 
 -- all calls of the branch were made and are back
 abbrev pub has_finished : ScriptModel → ℕ → ActPhase → Bool
 has_finished script o (phase.Running class progress) =
-    (progress.made == length (branch_of script o class)) && (progress.back == length (branch_of script o class))
+    (progress.made == length (branch_of script o class))
+    && (progress.back == length (branch_of script o class))
 has_finished script o _ = false
 
 -- a handler returns once its calls are back

@@ -1,5 +1,6 @@
--- What kind of act an act is: what it asks the reactor for, and what it supports (Asio reference, async_wait, async_read_some, async_read,
--- async_read_until, async_write_some, async_write, cancellation_slot; Overview, "Per-Operation Cancellation").
+-- What kind of act an act is: what it asks the reactor for, and what it supports (Asio reference,
+-- async_wait, async_read_some, async_read, async_read_until, async_write_some, async_write,
+-- cancellation_slot; Overview, "Per-Operation Cancellation").
 use Rattle.std.specs.Prelude.{ℕ, Bool, true, false, Option, Some, None}
 use Rattle.session_script.specs.declared.act.Act.{Act}
 use Rattle.session_script.specs.declared.act.Act.TheVariants as act
@@ -73,8 +74,8 @@ filter_of (act.WriteSome stream bytes strand slot filter) = filter
 filter_of (act.WriteAll stream bytes strand slot filter) = filter
 filter_of _ = 0
 
--- the cancellation types that it supports: a composed operation that was cancelled totally would have had no effect, so total isn't
--- among its types
+-- the cancellation types that it supports: a composed operation that was cancelled totally would
+-- have had no effect, so total isn't among its types
 abbrev pub supported_by : Act → ℕ
 supported_by (act.Wait timer strand slot filter) = 7
 supported_by (act.ReadSome stream size strand slot filter) = 7

@@ -60,12 +60,16 @@ reactor_after script told r _ = r
 -- the state after an event: each half knows its own
 abbrev pub after_event : ScriptModel → Bool → State → Event → State
 after_event script told s event =
-    record { context = context_after script s.context event; reactor = reactor_after script told s.reactor event }
+    record {
+      context = context_after script s.context event;
+      reactor = reactor_after script told s.reactor event;
+    }
 
 -- the state after these events, from this one on
 abbrev pub state_from : ScriptModel → Bool → State → List Event → State
 state_from script told s [] = s
-state_from script told s (event ∷ events) = state_from script told (after_event script told s event) events
+state_from script told s (event ∷ events) =
+    state_from script told (after_event script told s event) events
 
 -- the state of a history
 abbrev pub state_of : ScriptModel → Bool → List Event → State
@@ -80,7 +84,8 @@ IsLegalFrom script told s (event ∷ events) =
 abbrev pub IsLegalSoFar : ScriptModel → Bool → List Event → Type 0
 IsLegalSoFar script told events = IsLegalFrom script told (first_state script told) events
 
--- all rounds are closed or the reactor failed, and each accepted operation's handler was run or destroyed
+-- all rounds are closed or the reactor failed, and each accepted operation's handler was run or
+-- destroyed
 pub record IsWhole (script : ScriptModel) (s : State) : Type 0 where
   pub over : AllClosed script s.context ⊎ (s.reactor.failed ≡ true)
   pub spent : All (λ act. is_unspent act.phase ≡ false) s.context.acts
@@ -91,4 +96,5 @@ pub record IsLegal (script : ScriptModel) (told : Bool) (events : List Event) : 
 
 -- two scripts have the same legal histories, whether bytes are told or not
 abbrev pub HaveSameHistories : ScriptModel → ScriptModel → Type 0
-HaveSameHistories first second = (told : Bool) (events : List Event) → IsLegal first told events ↔ IsLegal second told events
+HaveSameHistories first second =
+    (told : Bool) (events : List Event) → IsLegal first told events ↔ IsLegal second told events

@@ -1,5 +1,6 @@
--- What the reactor does when it takes a request (Asio reference, steady_timer::expires_after, ::cancel, ::cancel_one and ::async_wait;
--- cancellation_signal::emit; basic_stream_socket::close; async_read and its kin).
+-- What the reactor does when it takes a request (Asio reference, steady_timer::expires_after,
+-- ::cancel, ::cancel_one and ::async_wait; cancellation_signal::emit; basic_stream_socket::close;
+-- async_read and its kin).
 use Rattle.std.specs.Prelude.{ℕ, ◌+◌, ◌==◌, nat_lt, Bool, true, false, not, List, [], ◌∷◌, ◌++◌, Option, Some, None, map, filter, find, bit_and, if◌then◌else◌}
 use Rattle.std.specs.List.{slice_index_or, slice_set}
 use Rattle.asio_types.specs.Faults.{one_more}
@@ -46,14 +47,16 @@ abbrev pub read_accepted : ℕ → ℕ → Reading → ReactorHalf → ReactorHa
 read_accepted op stream reading r =
     let queues = queues_at r stream in
     if queues.closed then with_due (bad op ∷ []) r
-    else with_queues r stream (record queues { reads = queues.reads ++ new_pending op r.accepted reading ∷ [] })
+    else with_queues r stream
+    (record queues { reads = queues.reads ++ new_pending op r.accepted reading ∷ [] })
 
 -- a writing operation likewise
 abbrev pub write_accepted : ℕ → ℕ → Writing → ReactorHalf → ReactorHalf
 write_accepted op stream writing r =
     let queues = queues_at r stream in
     if queues.closed then with_due (bad op ∷ []) r
-    else with_queues r stream (record queues { writes = queues.writes ++ new_pending op r.accepted writing ∷ [] })
+    else with_queues r stream
+    (record queues { writes = queues.writes ++ new_pending op r.accepted writing ∷ [] })
 
 -- a wait is pending
 abbrev pub wait_accepted : ℕ → ℕ → ReactorHalf → ReactorHalf
@@ -62,7 +65,8 @@ wait_accepted op timer r = record r { waits = r.waits ++ record { op = op; timer
 -- the waits that pass the test are cancelled
 abbrev pub waits_cancelled : (Wait → Bool) → ReactorHalf → ReactorHalf
 waits_cancelled test r =
-    with_due (map (λ wait. aborted wait.op 0) (filter test r.waits)) (record r { waits = filter (λ wait. not (test wait)) r.waits })
+    with_due (map (λ wait. aborted wait.op 0) (filter test r.waits))
+    (record r { waits = filter (λ wait. not (test wait)) r.waits })
 
 abbrev pub is_wait_of : ℕ → Wait → Bool
 is_wait_of timer wait = wait.timer == timer
@@ -77,7 +81,8 @@ one_wait_cancelled (Some wait) r = waits_cancelled (is_wait_for wait.op) r
 
 -- a timer gets this expiry, and its waits are cancelled
 abbrev pub expiry_set : ℕ → ℕ → ReactorHalf → ReactorHalf
-expiry_set timer expiry r = waits_cancelled (is_wait_of timer) (record r { expiries = slice_set r.expiries timer expiry })
+expiry_set timer expiry r =
+    waits_cancelled (is_wait_of timer) (record r { expiries = slice_set r.expiries timer expiry })
 
 abbrev pub is_of : {Asks : Type 0} → ℕ → Pending Asks → Bool
 is_of op pending = pending.op == op
@@ -89,7 +94,10 @@ all_aborted queue = map (λ pending. aborted pending.op pending.moved) queue
 abbrev pub one_of_stream_cancelled : ℕ → ℕ → ReactorHalf → ReactorHalf
 one_of_stream_cancelled op stream r =
     let queues = queues_at r stream in
-    with_due (all_aborted (filter (is_of op) queues.reads) ++ all_aborted (filter (is_of op) queues.writes)) (with_queues r stream (record queues {
+    with_due
+    (all_aborted (filter (is_of op) queues.reads)
+    ++ all_aborted (filter (is_of op) queues.writes)) (with_queues r stream
+    (record queues {
       reads = filter (λ pending. not (is_of op pending)) queues.reads;
       writes = filter (λ pending. not (is_of op pending)) queues.writes;
     }))
@@ -97,11 +105,16 @@ one_of_stream_cancelled op stream r =
 -- an operation is cancelled, by what its act is
 abbrev pub operation_cancelled : Act → ℕ → ReactorHalf → ReactorHalf
 operation_cancelled (act.Wait timer strand slot filter) op r = waits_cancelled (is_wait_for op) r
-operation_cancelled (act.ReadSome stream size strand slot filter) op r = one_of_stream_cancelled op stream r
-operation_cancelled (act.ReadAll stream size strand slot filter) op r = one_of_stream_cancelled op stream r
-operation_cancelled (act.Until stream delimiter max strand slot filter) op r = one_of_stream_cancelled op stream r
-operation_cancelled (act.WriteSome stream bytes strand slot filter) op r = one_of_stream_cancelled op stream r
-operation_cancelled (act.WriteAll stream bytes strand slot filter) op r = one_of_stream_cancelled op stream r
+operation_cancelled (act.ReadSome stream size strand slot filter) op r =
+    one_of_stream_cancelled op stream r
+operation_cancelled (act.ReadAll stream size strand slot filter) op r =
+    one_of_stream_cancelled op stream r
+operation_cancelled (act.Until stream delimiter max strand slot filter) op r =
+    one_of_stream_cancelled op stream r
+operation_cancelled (act.WriteSome stream bytes strand slot filter) op r =
+    one_of_stream_cancelled op stream r
+operation_cancelled (act.WriteAll stream bytes strand slot filter) op r =
+    one_of_stream_cancelled op stream r
 operation_cancelled _ op r = r
 
 -- an emit of these types reaches an operation that supports one of them and lets it through
@@ -117,7 +130,8 @@ emitted script None types r = r
 emitted script (Some op) types r = emitted_to (act_of script op) types op r
 
 -- one read, which was accepted then, goes before the writes that were accepted later
-abbrev pub with_writes : ℕ → Completion → (List (Pending Writing) → List Completion) → List (Pending Writing) → List Completion
+abbrev pub with_writes : ℕ → Completion → (List (Pending Writing) → List Completion) →
+    List (Pending Writing) → List Completion
 with_writes accepted read later [] = read ∷ later []
 with_writes accepted read later (write ∷ writes) =
     if nat_lt accepted write.accepted then read ∷ later (write ∷ writes)
@@ -126,13 +140,17 @@ with_writes accepted read later (write ∷ writes) =
 -- all operations of a stream, in order of acceptance
 abbrev pub all_of_stream : List (Pending Reading) → List (Pending Writing) → List Completion
 all_of_stream [] writes = all_aborted writes
-all_of_stream (read ∷ reads) writes = with_writes read.accepted (aborted read.op read.moved) (all_of_stream reads) writes
+all_of_stream (read ∷ reads) writes =
+    with_writes read.accepted (aborted read.op read.moved) (all_of_stream reads) writes
 
--- an open stream is closed: its operations are cancelled, and its bytes there and its room are dropped
+-- an open stream is closed: its operations are cancelled, and its bytes there and its room are
+-- dropped
 abbrev pub shut_at : ℕ → ReactorHalf → ReactorHalf
 shut_at stream r =
     let queues = queues_at r stream in
-    with_due (all_of_stream queues.reads queues.writes) (with_queues (record r { streams = changed_at stream closed_stream r.streams }) stream (record { closed = true; reads = []; writes = [] }))
+    with_due (all_of_stream queues.reads queues.writes) (with_queues
+    (record r { streams = changed_at stream closed_stream r.streams }) stream
+    (record { closed = true; reads = []; writes = [] }))
 
 -- a second close changes nothing
 abbrev pub closed_at : ℕ → ReactorHalf → ReactorHalf
@@ -159,8 +177,10 @@ performed_act script a (act.WriteAll stream bytes strand slot filter) r =
 performed_act script a (act.Expires timer after) r = expiry_set timer (r.now + after) r
 performed_act script a (act.ExpiresAt timer at) r = expiry_set timer at r
 performed_act script a (act.Cancel timer) r = waits_cancelled (is_wait_of timer) r
-performed_act script a (act.CancelOne timer) r = one_wait_cancelled (find (is_wait_of timer) r.waits) r
-performed_act script a (act.Emit slot types) r = emitted script (slice_index_or r.slots slot None) types r
+performed_act script a (act.CancelOne timer) r =
+    one_wait_cancelled (find (is_wait_of timer) r.waits) r
+performed_act script a (act.Emit slot types) r =
+    emitted script (slice_index_or r.slots slot None) types r
 performed_act script a (act.Close stream) r = closed_at stream r
 performed_act script a (act.Release guard) r = guard_released guard r
 performed_act script a _ r = r

@@ -16,7 +16,12 @@ pub record Played : Type 0 where
 
 -- what a schedule and streams are seen as
 abbrev pub played_over : Bool → Timetable → List Pipe → Played
-played_over told table pipes = record { told = told; now = table.time; lines = table.lines; streams = map stream_of pipes }
+played_over told table pipes = record {
+  told = told;
+  now = table.time;
+  lines = table.lines;
+  streams = map stream_of pipes;
+}
 
 -- where bytes are told the lines name streams that are there, with memory for what is to come
 pub record IsPlayed (told : Bool) (table : Timetable) (pipes : List Pipe) : Type 0 where

@@ -1,4 +1,5 @@
--- How many operations a script has on each stream, which is the room that the queues of the stream need.
+-- How many operations a script has on each stream, which is the room that the queues of the stream
+-- need.
 use Rattle.std.specs.Prelude.{◌≡◌, ℕ, zero, suc, ◌+◌, ◌<◌, ◌==◌, Bool, false, ◌&&◌, List, Option, Some, None, length, if◌then◌else◌}
 use Rattle.std.specs.List.{slice_index_or, slice_set}
 use Rattle.session_script.specs.declared.act.Act.{Act}
@@ -31,7 +32,8 @@ ops_on script stream = count_passing (is_on script stream) (length script.acts)
 -- how many of them were taken
 abbrev pub taken_on : ScriptModel → List Bool → ℕ → ℕ
 taken_on script taken stream =
-    count_passing (λ op. is_on script stream op && slice_index_or taken op false) (length script.acts)
+    count_passing (λ op. is_on script stream op && slice_index_or taken op false)
+    (length script.acts)
 
 -- how many operations of a stream are pending
 abbrev pub size_at : ReactorHalf → ℕ → ℕ

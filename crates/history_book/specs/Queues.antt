@@ -29,7 +29,8 @@ reads_go_first (read ∷ reads) (write ∷ writes) = nat_lt read.accepted write.
 abbrev pub IsFirstOf : Queued → List Queued → List Queued → List Queued → List Queued → Type 0
 IsFirstOf first reads writes reads_left writes_left =
     (f : ℕ → Reading) (g : ℕ → Writing) →
-    all_of_stream (map (asked f) reads) (map (asked g) writes) ≡ abort_of first ∷ all_of_stream (map (asked f) reads_left) (map (asked g) writes_left)
+    all_of_stream (map (asked f) reads) (map (asked g) writes)
+    ≡ abort_of first ∷ all_of_stream (map (asked f) reads_left) (map (asked g) writes_left)
 
 -- queues that are empty, and have room for so many operations
 pub record IsNew (room : ℕ) (queues : Queues) : Type 0 where
@@ -41,7 +42,9 @@ pub record IsNew (room : ℕ) (queues : Queues) : Type 0 where
 
 -- such queues for each stream, by the room that each has
 abbrev pub AreNew : List ℕ → List Queues → Type 0
-AreNew rooms queues = (stream : ℕ) (any : Queues) → stream < length queues → IsNew (slice_index_or rooms stream 0) (slice_index_or queues stream any)
+AreNew rooms queues =
+    (stream : ℕ) (any : Queues) → stream < length queues →
+    IsNew (slice_index_or rooms stream 0) (slice_index_or queues stream any)
 
 -- how many operations a stream has
 abbrev pub size_of : Queues → ℕ

@@ -28,13 +28,18 @@ pub record ReactorReplayed : Type 0 where
 
 -- how many operations are pending, those that are due among them
 abbrev pub pending_in : List Wait → List StreamQueues → List Completion → ℕ
-pending_in waits queues due = length waits + sum_by (λ each. length each.reads + length each.writes) queues + length due
+pending_in waits queues due =
+    length waits + sum_by (λ each. length each.reads + length each.writes) queues + length due
 
--- the world is the script's, each stream has its queues with room for its operations, and there is room for all acts
-pub record IsRoomy (script : ScriptModel) (world : Played) (waits : Vec Wait) (queues : List Queues) (due : Vec Completion) : Type 0 where
+-- the world is the script's, each stream has its queues with room for its operations, and there is
+-- room for all acts
+pub record IsRoomy (script : ScriptModel) (world : Played) (waits : Vec Wait) (queues : List Queues)
+    (due : Vec Completion) : Type 0 where
   pub same_lines : world.lines ≡ script.world.lines
   pub paired : length queues ≤ length world.streams
-  pub each : (stream : ℕ) (any : Queues) → stream < length queues → AreQueues script (ops_on script stream) (slice_index_or queues stream any)
+  pub each : (stream : ℕ) (any : Queues) → stream < length queues →
+      AreQueues script (ops_on script stream) (slice_index_or queues stream any)
   pub waits_room : length script.acts ≤ vec_capacity waits
   pub due_room : length script.acts ≤ vec_capacity due
-  pub pending : pending_in waits.items (map (queues_of script) queues) due.items ≤ length script.acts
+  pub pending : pending_in waits.items (map (queues_of script) queues) due.items
+      ≤ length script.acts

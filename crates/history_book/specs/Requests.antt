@@ -1,4 +1,5 @@
--- When the reactor takes a request, and when an operation completes (Asio reference, Overview, "The Proactor Design Pattern").
+-- When the reactor takes a request, and when an operation completes (Asio reference, Overview, "The
+-- Proactor Design Pattern").
 use Rattle.std.specs.Prelude.{◌≡◌, ◌⊎◌, ℕ, ◌==◌, Bool, true, false, List, [], ◌∷◌, Option, Some, None, IsSome, if◌then◌else◌}
 use Rattle.std.specs.Option.{unwrap_or}
 use Rattle.std.specs.List.{slice_get, slice_index_or, slice_set}
@@ -41,24 +42,28 @@ abbrev pub reactor_after_take : ScriptModel → Bool → ReactorHalf → ℕ →
 reactor_after_take script told r a = settled told (performed script a r)
 
 -- the operation is the head of what is due, with this code and size
-pub record IsNextDue (script : ScriptModel) (told : Bool) (r : ReactorHalf) (o : ℕ) (code : Code) (size : ℕ) : Type 0 where
+pub record IsNextDue (script : ScriptModel) (told : Bool) (r : ReactorHalf) (o : ℕ) (code : Code)
+    (size : ℕ) : Type 0 where
   pub head : Completion
   pub due : slice_get r.due 0 ≡ Some head
   pub is_op : head.op ≡ o
   pub outcome : IsToldAs told (act_of script o) head.outcome code size
 
 -- nothing is due that is fixed, and the operation's stream gives this
-pub record IsGivenUntold (script : ScriptModel) (told : Bool) (r : ReactorHalf) (o : ℕ) (code : Code) (size : ℕ) : Type 0 where
+pub record IsGivenUntold (script : ScriptModel) (told : Bool) (r : ReactorHalf) (o : ℕ)
+    (code : Code) (size : ℕ) : Type 0 where
   pub untold : told ≡ false
   pub fixed : r.due ≡ []
   pub given : MayGiveUntold r o (act_of script o) code size
 
 -- what is due completes in order, and where bytes are untold streams may give more
 abbrev pub MayTell : ScriptModel → Bool → ReactorHalf → ℕ → Code → ℕ → Type 0
-MayTell script told r o code size = IsNextDue script told r o code size ⊎ IsGivenUntold script told r o code size
+MayTell script told r o code size =
+    IsNextDue script told r o code size ⊎ IsGivenUntold script told r o code size
 
 -- an operation completes
-pub record MayComplete (script : ScriptModel) (told : Bool) (s : State) (o : ℕ) (code : Code) (size : ℕ) : Type 0 where
+pub record MayComplete (script : ScriptModel) (told : Bool) (s : State) (o : ℕ) (code : Code)
+    (size : ℕ) : Type 0 where
   pub working : s.reactor.failed ≡ false
   pub next : MayTell script told s.reactor o code size
   -- where nothing is due the turn isn't over
@@ -77,7 +82,8 @@ released o (Some connected) = if connected == o then None else Some connected
 -- the operation leaves its slot, unless another has replaced it there
 abbrev pub disconnected : ℕ → Option ℕ → ReactorHalf → ReactorHalf
 disconnected o None r = r
-disconnected o (Some slot) r = record r { slots = slice_set r.slots slot (released o (slice_index_or r.slots slot None)) }
+disconnected o (Some slot) r =
+    record r { slots = slice_set r.slots slot (released o (slice_index_or r.slots slot None)) }
 
 abbrev pub slot_in : Option Act → Option ℕ
 slot_in None = None
@@ -90,4 +96,5 @@ told_off script o r (head ∷ due) = record r { due = due }
 
 abbrev pub reactor_after_done : ScriptModel → ReactorHalf → ℕ → ReactorHalf
 reactor_after_done script r o =
-    disconnected o (slot_in (act_of script o)) (record (told_off script o r r.due) { whole_turn = false })
+    disconnected o (slot_in (act_of script o))
+    (record (told_off script o r r.due) { whole_turn = false })

@@ -1,5 +1,5 @@
--- When a round is open, how it closes, and what is destroyed in the end (Asio reference, io_context::run, ::poll, ::stop, ::restart and
--- ::~io_context; executor_work_guard).
+-- When a round is open, how it closes, and what is destroyed in the end (Asio reference,
+-- io_context::run, ::poll, ::stop, ::restart and ::~io_context; executor_work_guard).
 use Rattle.std.specs.Prelude.{◌≡◌, ◌<◌, ◌≤◌, ◌⊎◌, ℕ, ◌+◌, Bool, true, false, not, Option, Some, None, [], length, All, count_by, slice_get}
 use Rattle.std.specs.List.{range_with_len}
 use Rattle.asio_types.specs.Faults.{one_more}
@@ -63,7 +63,8 @@ is_unspent phase.Ended = false
 is_unspent phase.Dropped = false
 is_unspent phase.Asked = false
 
--- an act that keeps the context from running out of work: an unspent operation, or a control act that wasn't taken
+-- an act that keeps the context from running out of work: an unspent operation, or a control act
+-- that wasn't taken
 abbrev pub is_outstanding : ActPhase → Bool → Bool
 is_outstanding phase.Asked taken = not taken
 is_outstanding other taken = is_unspent other
@@ -77,7 +78,8 @@ is_act_outstanding s n = is_outstanding (phase_at s.context n) (was_taken s.reac
 -- the outstanding work of the context (Asio reference, executor_work_guard)
 abbrev pub outstanding_work : State → ℕ
 outstanding_work s =
-    count_by (is_act_outstanding s) (range_with_len 0 (length s.context.acts)) + count_by is_held s.reactor.guards
+    count_by (is_act_outstanding s) (range_with_len 0 (length s.context.acts))
+    + count_by is_held s.reactor.guards
 
 -- no operation of a stream is pending
 abbrev pub IsEmptied : StreamQueues → Type 0
@@ -130,7 +132,10 @@ after_poll s = counted (record s { closings = one_more s.closings; restarted = f
 
 -- the context is stopped, and no lane may begin anything
 abbrev pub after_closing : ContextState → ContextState
-after_closing s = record (after_poll s) { stopped = true; allowances = each_lane allowance.Nothing s.allowances }
+after_closing s = record (after_poll s) {
+  stopped = true;
+  allowances = each_lane allowance.Nothing s.allowances;
+}
 
 -- io_context::restart, where the round has one
 pub record MayRestart (script : ScriptModel) (s : State) : Type 0 where
@@ -142,7 +147,8 @@ pub record MayRestart (script : ScriptModel) (s : State) : Type 0 where
 
 abbrev pub after_restart : ContextState → ContextState
 after_restart s =
-    counted (record s { stopped = false; allowances = each_lane allowance.Free s.allowances; restarted = true })
+    counted (record s
+    { stopped = false; allowances = each_lane allowance.Free s.allowances; restarted = true })
 
 -- a stop from outside
 abbrev pub after_outside_stop : ContextState → ContextState
@@ -151,7 +157,8 @@ after_outside_stop s = record s { stopped = true }
 abbrev pub AllClosed : ScriptModel → ContextState → Type 0
 AllClosed script s = s.closings ≡ length script.rounds
 
--- no round is left to the context: all are closed, or the reactor failed and all handlers have returned
+-- no round is left to the context: all are closed, or the reactor failed and all handlers have
+-- returned
 abbrev pub IsOver : ScriptModel → State → Type 0
 IsOver script s = AllClosed script s.context ⊎ ((s.reactor.failed ≡ true) × NothingRuns s.context)
 

@@ -1,5 +1,6 @@
--- What completes in a turn of the reactor, and in which order (Asio reference, steady_timer, async_read and its kin; the order within one
--- turn is this project's own): what was cancelled, the waits that are due, and then what each stream serves.
+-- What completes in a turn of the reactor, and in which order (Asio reference, steady_timer,
+-- async_read and its kin; the order within one turn is this project's own): what was cancelled, the
+-- waits that are due, and then what each stream serves.
 use Rattle.std.specs.Prelude.{◌≡◌, All, ℕ, zero, suc, length, Bool, true, not, nat_le, List, [], ◌∷◌, ◌++◌, map, filter, if◌then◌else◌}
 use Rattle.std.specs.List.{slice_set}
 use Rattle.asio_types.specs.declared.code.Code.TheVariants as code
@@ -14,7 +15,8 @@ use Rattle.history_book.specs.State.{ReactorHalf, Wait, StreamQueues}
 -- an item put before those whose key isn't less
 abbrev pub put_by : {X : Type 0} → (X → ℕ) → X → List X → List X
 put_by key x [] = x ∷ []
-put_by key x (first ∷ rest) = if nat_le (key x) (key first) then x ∷ (first ∷ rest) else first ∷ put_by key x rest
+put_by key x (first ∷ rest) =
+    if nat_le (key x) (key first) then x ∷ (first ∷ rest) else first ∷ put_by key x rest
 
 -- the items by key, and those of one key as they stand
 abbrev pub sorted_by : {X : Type 0} → (X → ℕ) → List X → List X
@@ -54,7 +56,8 @@ served_stream stream queues =
 abbrev pub served_at : ℕ → ReactorHalf → ReactorHalf
 served_at stream r =
     let served = served_stream (stream_at r.streams stream) (queues_at r stream) in
-    with_due served.completed (with_queues (record r { streams = slice_set r.streams stream served.stream }) stream served.queues)
+    with_due served.completed (with_queues
+    (record r { streams = slice_set r.streams stream served.stream }) stream served.queues)
 
 -- the first streams are served, by rising number
 abbrev pub served_below : ℕ → ReactorHalf → ReactorHalf
@@ -67,12 +70,16 @@ with_streams_served told r = if told then served_below (length r.queues) r else 
 
 -- the waits that are due complete
 abbrev pub with_waits_served : ReactorHalf → ReactorHalf
-with_waits_served r = with_due (due_waits r) (record r { waits = filter (λ wait. not (is_due r wait)) r.waits })
+with_waits_served r =
+    with_due (due_waits r) (record r { waits = filter (λ wait. not (is_due r wait)) r.waits })
 
--- a turn of the reactor after which nothing more completes by itself; told says whether bytes are told
+-- a turn of the reactor after which nothing more completes by itself; told says whether bytes are
+-- told
 abbrev pub settled : Bool → ReactorHalf → ReactorHalf
-settled told r = with_streams_served told (record (with_waits_served r) { whole_turn = true; reached = 0 })
+settled told r =
+    with_streams_served told (record (with_waits_served r) { whole_turn = true; reached = 0 })
 
 -- the waits that are due have one expiry
 abbrev pub AreDueTogether : ReactorHalf → Type 0
-AreDueTogether r = (expiry : ℕ) × All (λ wait. expiry_of r wait ≡ expiry) (filter (is_due r) r.waits)
+AreDueTogether r =
+    (expiry : ℕ) × All (λ wait. expiry_of r wait ≡ expiry) (filter (is_due r) r.waits)

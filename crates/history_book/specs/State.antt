@@ -1,5 +1,6 @@
--- The state of a history, in two halves: the context's, which is what has become of each act, and the reactor's, which is what the
--- outside has still to complete (Asio reference, io_context; Overview, "The Proactor Design Pattern").
+-- The state of a history, in two halves: the context's, which is what has become of each act, and
+-- the reactor's, which is what the outside has still to complete (Asio reference, io_context;
+-- Overview, "The Proactor Design Pattern").
 use Rattle.std.specs.Prelude.{ℕ, Bool, true, false, List, [], Option, None, length, map, replicate, if◌then◌else◌}
 use Rattle.std.specs.List.{slice_index_or, slice_set}
 use Rattle.asio_types.specs.Faults.{one_more}
@@ -20,7 +21,8 @@ use Rattle.history_book.specs.declared.phase.Progress.{Progress}
 -- a wait of a timer that hasn't completed
 pub use Rattle.history_book.specs.declared.waiting.Wait.{Wait}
 
--- how many more executions each lane may begin; a private lane has one in its life, so for these one answer serves
+-- how many more executions each lane may begin; a private lane has one in its life, so for these
+-- one answer serves
 pub record Allowances : Type 0 where
   pub strands : List Allowance
   pub own : Allowance
@@ -64,7 +66,8 @@ pub record ReactorHalf : Type 0 where
   pub waits : List Wait
   -- for each slot the operation that is connected to it
   pub slots : List (Option ℕ)
-  -- for each stream what arrived, its room, its marks and what was sent; untouched where bytes are untold
+  -- for each stream what arrived, its room, its marks and what was sent; untouched where bytes are
+  -- untold
   pub streams : List Stream
   -- for each stream its operations
   pub queues : List StreamQueues
@@ -94,7 +97,11 @@ no_progress = record { made = 0; back = 0 }
 
 -- the same for every lane
 abbrev pub all_lanes : Allowance → ℕ → Allowances
-all_lanes allowed strands = record { strands = replicate strands allowed; own = allowed; reactor = allowed }
+all_lanes allowed strands = record {
+  strands = replicate strands allowed;
+  own = allowed;
+  reactor = allowed;
+}
 
 -- every lane comes to the same
 abbrev pub each_lane : Allowance → Allowances → Allowances
@@ -138,7 +145,10 @@ first_reactor script told = record {
 
 -- the state before the first event
 abbrev pub first_state : ScriptModel → Bool → State
-first_state script told = record { context = first_context script; reactor = first_reactor script told }
+first_state script told = record {
+  context = first_context script;
+  reactor = first_reactor script told;
+}
 
 abbrev pub act_at : ContextState → ℕ → ActState
 act_at s n = slice_index_or s.acts n fresh

@@ -1,5 +1,5 @@
--- What may still begin after a stop (Asio reference, io_context::stop; that each lane may begin one more execution is this project's
--- own bound).
+-- What may still begin after a stop (Asio reference, io_context::stop; that each lane may begin one
+-- more execution is this project's own bound).
 use Rattle.std.specs.Prelude.{◌≢◌, map}
 use Rattle.std.specs.List.{slice_index_or, slice_set}
 use Rattle.asio_types.specs.declared.number.Lane.{Lane}
@@ -9,13 +9,15 @@ use Rattle.history_book.specs.declared.phase.Allowance.TheVariants as allowance
 use Rattle.history_book.specs.State.{Allowances, ContextState}
 
 abbrev pub allowance_of : Allowances → Lane → Allowance
-allowance_of allowances (lane.Strand strand) = slice_index_or allowances.strands strand allowance.Nothing
+allowance_of allowances (lane.Strand strand) =
+    slice_index_or allowances.strands strand allowance.Nothing
 allowance_of allowances (lane.Own op) = allowances.own
 allowance_of allowances lane.Reactor = allowances.reactor
 
 -- a private lane has one execution in its life, so nothing is kept of it
 abbrev pub with_allowance : Lane → Allowance → Allowances → Allowances
-with_allowance (lane.Strand strand) new allowances = record allowances { strands = slice_set allowances.strands strand new }
+with_allowance (lane.Strand strand) new allowances =
+    record allowances { strands = slice_set allowances.strands strand new }
 with_allowance (lane.Own op) new allowances = allowances
 with_allowance lane.Reactor new allowances = record allowances { reactor = new }
 
@@ -31,7 +33,9 @@ less_one allowance.Nothing = allowance.Nothing
 
 -- something began on the lane
 abbrev pub spend : Lane → ContextState → ContextState
-spend lane s = record s { allowances = with_allowance lane (less_one (allowance_of s.allowances lane)) s.allowances }
+spend lane s =
+    record s
+    { allowances = with_allowance lane (less_one (allowance_of s.allowances lane)) s.allowances }
 
 -- a free lane has one more execution after a stop
 abbrev pub at_most_one : Allowance → Allowance

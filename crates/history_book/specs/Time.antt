@@ -1,5 +1,5 @@
--- When scripted time moves, and when the reactor fails (Asio reference, io_context::run and steady_timer; scripted time is this
--- project's own).
+-- When scripted time moves, and when the reactor fails (Asio reference, io_context::run and
+-- steady_timer; scripted time is this project's own).
 use Rattle.std.specs.Prelude.{◌≡◌, ◌<◌, ◌≤◌, ◌⊎◌, ℕ, ◌+◌, Bool, true, false, nat_lt, min, List, [], ◌∷◌, Option, Some, None, length, map, filter, sum_by, if◌then◌else◌}
 use Rattle.asio_types.specs.declared.event.Event.{Event}
 use Rattle.asio_types.specs.declared.event.Event.TheVariants as event
@@ -15,7 +15,9 @@ use Rattle.history_book.specs.State.{State, ContextState, ReactorHalf, counted}
 
 -- how many operations are pending, those that are due among them
 abbrev pub pending_count : ReactorHalf → ℕ
-pending_count r = length r.waits + sum_by (λ queues. length queues.reads + length queues.writes) r.queues + length r.due
+pending_count r =
+    length r.waits + sum_by (λ queues. length queues.reads + length queues.writes) r.queues
+    + length r.due
 
 -- the lesser of a number and of what may be there
 abbrev pub lesser : ℕ → Option ℕ → Option ℕ
@@ -30,7 +32,8 @@ least_of (x ∷ xs) = lesser x (least_of xs)
 abbrev pub next_expiry : ReactorHalf → Option ℕ
 next_expiry r = least_of (filter (λ expiry. nat_lt r.now expiry) (map (expiry_of r) r.waits))
 
--- the least time point above now: a time of the world, or the expiry of a pending wait; or that there is none
+-- the least time point above now: a time of the world, or the expiry of a pending wait; or that
+-- there is none
 abbrev pub next_time : ScriptModel → ReactorHalf → Point
 next_time script r = next_point (next_expiry r) (times_after r.now script.world.lines)
 
@@ -55,14 +58,21 @@ pub record MayDrain (script : ScriptModel) (s : State) : Type 0 where
 -- the lines of the new time are performed, where bytes are told
 abbrev pub at_time : ScriptModel → Bool → ℕ → ReactorHalf → ReactorHalf
 at_time script told now r =
-    record r { now = now; streams = if told then perform_lines (lines_at now script.world.lines) r.streams else r.streams }
+    record r {
+      now = now;
+      streams =
+          if told then perform_lines (lines_at now script.world.lines) r.streams else r.streams;
+    }
 
 abbrev pub reactor_after_tick : ScriptModel → Bool → ReactorHalf → ℕ → ReactorHalf
 reactor_after_tick script told r now = settled told (at_time script told now r)
 
 -- each side of a stream without a mark gets its own, where bytes are told
 abbrev pub at_last : Bool → ReactorHalf → ReactorHalf
-at_last told r = record r { last = true; streams = if told then streams_at_last r.streams else r.streams }
+at_last told r = record r {
+  last = true;
+  streams = if told then streams_at_last r.streams else r.streams;
+}
 
 abbrev pub reactor_after_last : Bool → ReactorHalf → ReactorHalf
 reactor_after_last told r = settled told (at_last told r)
@@ -84,7 +94,8 @@ context_after_fault s = counted (record s { stopped = true; turn = None })
 abbrev pub reactor_after_fault : ReactorHalf → ReactorHalf
 reactor_after_fault r = record r { failed = true; due = [] }
 
--- what the reactor needs of an event: an act that it takes is there and wasn't taken, and time moves to the next time point
+-- what the reactor needs of an event: an act that it takes is there and wasn't taken, and time
+-- moves to the next time point
 abbrev pub CanTurn : ScriptModel → ReactorHalf → Event → Type 0
 CanTurn script r (event.Take a) = (a < length script.acts) × (was_taken r a ≡ false)
 CanTurn script r (event.Tick now) = next_time script r ≡ point.Time now

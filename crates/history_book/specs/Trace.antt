@@ -29,10 +29,12 @@ line_of (event.Call act) = codes "call " ++ decimal act ++ line_end
 line_of (event.Back act) = codes "back " ++ decimal act ++ line_end
 line_of (event.Stop (Some act)) = codes "stop " ++ decimal act ++ line_end
 line_of (event.Stop None) = codes "stop -" ++ line_end
-line_of (event.Begin op code size) = codes "begin " ++ decimal op ++ space ++ word_of_code code ++ space ++ decimal size ++ line_end
+line_of (event.Begin op code size) =
+    codes "begin " ++ decimal op ++ space ++ word_of_code code ++ space ++ decimal size ++ line_end
 line_of (event.End op mark) = codes "end " ++ decimal op ++ space ++ decimal mark ++ line_end
 line_of (event.Take act) = codes "take " ++ decimal act ++ line_end
-line_of (event.Done op code size) = codes "done " ++ decimal op ++ space ++ word_of_code code ++ space ++ decimal size ++ line_end
+line_of (event.Done op code size) =
+    codes "done " ++ decimal op ++ space ++ word_of_code code ++ space ++ decimal size ++ line_end
 line_of (event.Tick now) = codes "tick " ++ decimal now ++ line_end
 line_of event.Last = codes "last" ++ line_end
 line_of event.Fault = codes "fault" ++ line_end

@@ -27,7 +27,8 @@ impl ContextReplay {
     /// Whether the branch of this class, which its handler runs, makes this call next.
     fn may_call_in(&self, script: &Script, o: OpNo, class: Class, a: ActNo) -> bool
         requires { length self.now.acts ≡ length script.now.acts }
-        ensures { IsTrue result ↔ IsSomeAnd (running_body script.now o class (phase_at self.now o)) (IsNextOf a) }
+        ensures { IsTrue result
+            ↔ IsSomeAnd (running_body script.now o class (phase_at self.now o)) (IsNextOf a) }
     {
         match self.act(o).phase {
             ActPhase::Running {

@@ -1,6 +1,6 @@
-//! Histories of one io_context: which event is legal when, how a history is replayed, and its trace as text. It
-//! promises that a replay takes exactly the legal events and that a trace fixes its history. The context, the program
-//! and the trace checker stand on it.
+//! Histories of one io_context: which event is legal when, how a history is replayed, and its trace
+//! as text. It promises that a replay takes exactly the legal events and that a trace fixes its
+//! history. The context, the program and the trace checker stand on it.
 #![tactic(auto)]
 
 mod asking;

@@ -24,8 +24,8 @@ pub(crate) fn is_back_before(place: u64, call: CallPhase) -> bool
     }
 }
 
-/// Of two handlers that became ready by these causes, whose operations were called so: whether the first one is before
-/// the second.
+/// Of two handlers that became ready by these causes, whose operations were called so: whether the
+/// first one is before the second.
 fn is_before(first: CallPhase, why: Cause, second: CallPhase, because: Cause) -> bool
     ensures { result ≡ is_before first why second because }
 {

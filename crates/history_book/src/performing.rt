@@ -101,7 +101,9 @@ impl<'a> ReactorWorks<'a> {
         requires reads { IsReading self.old.script op }
         requires place { HasPlace self.old.script self.old.half (Some stream) }
         requires room { pending_count self.old.half < length self.old.script.acts }
-        ensures { self.new ≡ record self.old { half = read_accepted op stream (asked_reading self.old.script op) self.old.half } }
+        ensures { self.new
+            ≡ record self.old
+            { half = read_accepted op stream (asked_reading self.old.script op) self.old.half } }
     {
         let new = new_queued(op, self.accepted);
         let Some(queues) = self.queues.get_mut(stream as usize) else {
@@ -119,7 +121,9 @@ impl<'a> ReactorWorks<'a> {
         requires writes { IsWriting self.old.script op }
         requires place { HasPlace self.old.script self.old.half (Some stream) }
         requires room { pending_count self.old.half < length self.old.script.acts }
-        ensures { self.new ≡ record self.old { half = write_accepted op stream (asked_writing self.old.script op) self.old.half } }
+        ensures { self.new
+            ≡ record self.old
+            { half = write_accepted op stream (asked_writing self.old.script op) self.old.half } }
     {
         let new = new_queued(op, self.accepted);
         let Some(queues) = self.queues.get_mut(stream as usize) else {
@@ -134,7 +138,8 @@ impl<'a> ReactorWorks<'a> {
 
     /// The waits of a timer are cancelled.
     fn cancel(&mut self, timer: TimerNo)
-        ensures { self.new ≡ record self.old { half = waits_cancelled (is_wait_of timer) self.old.half } }
+        ensures { self.new
+            ≡ record self.old { half = waits_cancelled (is_wait_of timer) self.old.half } }
     {
         let which = Which::OfTimer { timer };
         complete_waits(&which, Code::Aborted, &mut self.waits, &mut self.due);
@@ -142,7 +147,8 @@ impl<'a> ReactorWorks<'a> {
 
     /// The wait of an operation is cancelled.
     fn cancel_wait(&mut self, op: OpNo)
-        ensures { self.new ≡ record self.old { half = waits_cancelled (is_wait_for op) self.old.half } }
+        ensures { self.new
+            ≡ record self.old { half = waits_cancelled (is_wait_for op) self.old.half } }
     {
         let which = Which::OfOperation { op };
         complete_waits(&which, Code::Aborted, &mut self.waits, &mut self.due);
@@ -150,7 +156,11 @@ impl<'a> ReactorWorks<'a> {
 
     /// The wait of a timer that was accepted first is cancelled.
     fn cancel_one(&mut self, timer: TimerNo)
-        ensures { self.new ≡ record self.old { half = one_wait_cancelled (find (is_wait_of timer) self.old.half.waits) self.old.half } }
+        ensures { self.new
+            ≡ record self.old {
+              half =
+                  one_wait_cancelled (find (is_wait_of timer) self.old.half.waits) self.old.half;
+            } }
     {
         let Some(wait) = first_wait(timer, self.waits.as_slice()) else {
             return;
@@ -159,7 +169,11 @@ impl<'a> ReactorWorks<'a> {
     }
 
     fn set_expiry(&mut self, timer: TimerNo, expiry: u64)
-        ensures { self.new ≡ record self.old { half = record self.old.half { expiries = slice_set self.old.half.expiries timer expiry } } }
+        ensures { self.new
+            ≡ record self.old {
+              half =
+                  record self.old.half { expiries = slice_set self.old.half.expiries timer expiry };
+            } }
     {
         let Some(old) = self.expiries.get_mut(timer as usize) else {
             return;
@@ -177,7 +191,8 @@ impl<'a> ReactorWorks<'a> {
 
     /// One operation of a stream is cancelled, and reports the bytes that it moved so far.
     fn cancel_in_stream(&mut self, op: OpNo, stream: StreamNo)
-        ensures { self.new ≡ record self.old { half = one_of_stream_cancelled op stream self.old.half } }
+        ensures { self.new
+            ≡ record self.old { half = one_of_stream_cancelled op stream self.old.half } }
     {
         let Some(queues) = self.queues.get_mut(stream as usize) else {
             return;
@@ -188,7 +203,8 @@ impl<'a> ReactorWorks<'a> {
 
     /// An operation is cancelled, by what its act is.
     fn cancel_operation(&mut self, act: &Act, op: OpNo)
-        ensures { self.new ≡ record self.old { half = operation_cancelled act.now op self.old.half } }
+        ensures { self.new
+            ≡ record self.old { half = operation_cancelled act.now op self.old.half } }
     {
         match act {
             Act::Wait { .. } => self.cancel_wait(op),
@@ -203,7 +219,9 @@ impl<'a> ReactorWorks<'a> {
 
     /// An emit of these types meets the operation that its slot is connected to.
     fn emit_to(&mut self, op: OpNo, types: Types)
-        ensures { self.new ≡ record self.old { half = emitted_to (act_of self.old.script op) types op self.old.half } }
+        ensures { self.new
+            ≡ record self.old
+            { half = emitted_to (act_of self.old.script op) types op self.old.half } }
     {
         let script = self.script;
         if op >= script.acts() {
@@ -222,7 +240,12 @@ impl<'a> ReactorWorks<'a> {
     }
 
     fn emit(&mut self, slot: SlotNo, types: Types)
-        ensures { self.new ≡ record self.old { half = emitted self.old.script (slice_index_or self.old.half.slots slot None) types self.old.half } }
+        ensures { self.new
+            ≡ record self.old {
+              half =
+                  emitted self.old.script (slice_index_or self.old.half.slots slot None) types
+                  self.old.half;
+            } }
     {
         let Some(op) = self.connected_to(slot) else {
             return;
@@ -249,7 +272,8 @@ impl<'a> ReactorWorks<'a> {
         }
     }
 
-    /// An open stream is closed: its operations are cancelled, and its bytes there and its room are dropped.
+    /// An open stream is closed: its operations are cancelled, and its bytes there and its room are
+    /// dropped.
     fn shut(&mut self, stream: StreamNo)
         ensures { self.new ≡ record self.old { half = shut_at stream self.old.half } }
     {
@@ -274,10 +298,13 @@ impl<'a> ReactorWorks<'a> {
     /// Performs the act with this number.
     pub(crate) fn perform(&mut self, a: ActNo)
         requires there { a < length self.old.script.acts }
-        requires place { HasPlace self.old.script self.old.half (stream_asked (act_of self.old.script a)) }
+        requires place { HasPlace self.old.script self.old.half
+            (stream_asked (act_of self.old.script a)) }
         requires room { pending_count self.old.half < length self.old.script.acts }
         requires soon { self.old.half.now < 2 ^ 63 }
-        ensures { self.new ≡ record self.old { half = performed_by self.old.script a (act_of self.old.script a) self.old.half } }
+        ensures { self.new
+            ≡ record self.old
+            { half = performed_by self.old.script a (act_of self.old.script a) self.old.half } }
     {
         let script = self.script;
         match script.act(a) {

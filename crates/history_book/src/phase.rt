@@ -1,6 +1,7 @@
 use asio_types::{Class, Code};
 
-/// How far the initiating call of an act has come. Places of events are counted without stops from outside.
+/// How far the initiating call of an act has come. Places of events are counted without stops from
+/// outside.
 #[derive(Clone, Copy, Debug, PartialEq, Eq)]
 pub enum CallPhase {
     /// It wasn't made.

@@ -34,7 +34,8 @@ impl Model for PlayedWorld {
 }
 
 impl PlayedWorld {
-    /// A world at time 0. Takes memory for its lines, and where bytes are told for all that they bring.
+    /// A world at time 0. Takes memory for its lines, and where bytes are told for all that they
+    /// bring.
     pub(crate) fn make(alloc: Global, world: &World, told: bool) -> Result<PlayedWorld, NoMemory>
         requires { HasItsStreams world.now }
         ensures { IfOk result (λ played. played ≡ first_played world.now told) }
@@ -76,7 +77,8 @@ impl PlayedWorld {
     /// Moves to the next point, which is this time.
     pub(crate) fn tick(&mut self, limit: Option<u64>, time: u64)
         requires ahead { ForSome limit (λ limit. self.old.now < limit) }
-        requires next { next_point limit (times_after self.old.now self.old.lines) ≡ Point.Time time }
+        requires next { next_point limit (times_after self.old.now self.old.lines)
+            ≡ Point.Time time }
         ensures { self.new ≡ played_at time self.old }
     {
         self.schedule.advance(limit);
@@ -96,7 +98,8 @@ impl PlayedWorld {
 
     /// Drops what is there of a stream, and its room.
     pub(crate) fn close(&mut self, stream: StreamNo)
-        ensures { self.new ≡ record self.old { streams = changed_at stream closed_stream self.old.streams } }
+        ensures { self.new
+            ≡ record self.old { streams = changed_at stream closed_stream self.old.streams } }
     {
         let Some(pipe) = self.pipes.get_mut(stream as usize) else {
             return;
@@ -113,21 +116,33 @@ impl PlayedWorld {
         due: &mut Vec<Completion>,
     )
         requires there { stream < length self.old.streams }
-        requires reads { All (λ queued. IsReading asking.now.script.now queued.op) queues.old.reads.items }
-        requires writes { All (λ queued. IsWriting asking.now.script.now queued.op) queues.old.writes.items }
-        requires room { vec_len due.old + deque_len queues.old.reads + deque_len queues.old.writes ≤ vec_capacity due.old }
-        ensures stream { self.new ≡ record self.old {
-          streams = slice_set self.old.streams stream
-              (served_stream (stream_at self.old.streams stream) (queues_of asking.now.script.now queues.old)).stream;
-        } }
-        ensures completed { due.new.items ≡ due.old.items ++
-            (served_stream (stream_at self.old.streams stream) (queues_of asking.now.script.now queues.old)).completed }
-        ensures staying { queues_of asking.now.script.now queues.new ≡
-            (served_stream (stream_at self.old.streams stream) (queues_of asking.now.script.now queues.old)).queues }
-        ensures reads { All (λ queued. IsReading asking.now.script.now queued.op) queues.new.reads.items }
-        ensures writes { All (λ queued. IsWriting asking.now.script.now queued.op) queues.new.writes.items }
-        ensures each_once { vec_len due.new + deque_len queues.new.reads + deque_len queues.new.writes ≡
-            vec_len due.old + deque_len queues.old.reads + deque_len queues.old.writes }
+        requires reads { All (λ queued. IsReading asking.now.script.now queued.op)
+            queues.old.reads.items }
+        requires writes { All (λ queued. IsWriting asking.now.script.now queued.op)
+            queues.old.writes.items }
+        requires room { vec_len due.old + deque_len queues.old.reads + deque_len queues.old.writes
+            ≤ vec_capacity due.old }
+        ensures stream { self.new
+            ≡ record self.old {
+              streams =
+                  slice_set self.old.streams stream
+                  (served_stream (stream_at self.old.streams stream)
+                  (queues_of asking.now.script.now queues.old)).stream;
+            } }
+        ensures completed { due.new.items
+            ≡ due.old.items
+            ++ (served_stream (stream_at self.old.streams stream)
+            (queues_of asking.now.script.now queues.old)).completed }
+        ensures staying { queues_of asking.now.script.now queues.new
+            ≡ (served_stream (stream_at self.old.streams stream)
+            (queues_of asking.now.script.now queues.old)).queues }
+        ensures reads { All (λ queued. IsReading asking.now.script.now queued.op)
+            queues.new.reads.items }
+        ensures writes { All (λ queued. IsWriting asking.now.script.now queued.op)
+            queues.new.writes.items }
+        ensures each_once { vec_len due.new + deque_len queues.new.reads
+            + deque_len queues.new.writes
+            ≡ vec_len due.old + deque_len queues.old.reads + deque_len queues.old.writes }
         ensures due_room { vec_capacity due.new ≡ vec_capacity due.old }
         ensures reads_room { deque_capacity queues.new.reads ≡ deque_capacity queues.old.reads }
         ensures writes_room { deque_capacity queues.new.writes ≡ deque_capacity queues.old.writes }

@@ -23,7 +23,8 @@ fn stream_of(act: &Act) -> Option<StreamNo>
 
 /// One more operation of this stream.
 fn count_one(counts: &mut Vec<usize>, stream: Option<StreamNo>)
-    requires { (place : ℕ) → place < length counts.old.items → slice_index_or counts.old.items place 0 < 2 ^ 32 }
+    requires { (place : ℕ) → place < length counts.old.items →
+        slice_index_or counts.old.items place 0 < 2 ^ 32 }
     ensures { counts.new.items ≡ with_one_more stream counts.old.items }
 {
     let Some(stream) = stream else {
@@ -39,7 +40,8 @@ fn count_one(counts: &mut Vec<usize>, stream: Option<StreamNo>)
 pub(crate) fn rooms_of(alloc: Global, script: &Script, streams: u8) -> Result<Vec<usize>, NoMemory>
     ensures count { IfOk result (λ rooms. length rooms.items ≡ streams) }
     ensures each { IfOk result (λ rooms.
-        (stream : ℕ) → stream < streams → slice_index_or rooms.items stream 0 ≡ ops_on script.now stream) }
+        (stream : ℕ) → stream < streams →
+        slice_index_or rooms.items stream 0 ≡ ops_on script.now stream) }
 {
     let mut rooms = vec![in alloc; 0usize; streams as usize]?;
     for act in 0..script.acts() {

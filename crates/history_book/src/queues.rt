@@ -60,8 +60,11 @@ fn reads_go_first(reads: &VecDeque<Queued>, writes: &VecDeque<Queued>) -> bool
 fn pop_first(reads: &mut VecDeque<Queued>, writes: &mut VecDeque<Queued>) -> Option<Queued>
     ensures none { IfNone result ((reads.old.items ≡ []) × (writes.old.items ≡ [])) }
     ensures none_left { IfNone result ((reads.new.items ≡ []) × (writes.new.items ≡ [])) }
-    ensures first { IfSome result (λ first. IsFirstOf first reads.old.items writes.old.items reads.new.items writes.new.items) }
-    ensures count { IfSome result (λ _. deque_len reads.new + deque_len writes.new + 1 ≡ deque_len reads.old + deque_len writes.old) }
+    ensures first { IfSome result (λ first.
+        IsFirstOf first reads.old.items writes.old.items reads.new.items writes.new.items) }
+    ensures count { IfSome result (λ _.
+        deque_len reads.new + deque_len writes.new + 1
+        ≡ deque_len reads.old + deque_len writes.old) }
     ensures reads_room { deque_capacity reads.new ≡ deque_capacity reads.old }
     ensures writes_room { deque_capacity writes.new ≡ deque_capacity writes.old }
 {
@@ -79,7 +82,10 @@ pub(crate) fn abort_all(
     due: &mut Vec<Completion>,
 )
     requires { vec_len due.old + deque_len reads.old + deque_len writes.old ≤ vec_capacity due.old }
-    ensures due { (f : ℕ → reading) (g : ℕ → writing) → due.new.items ≡ due.old.items ++ all_of_stream (map (asked f) reads.old.items) (map (asked g) writes.old.items) }
+    ensures due { (f : ℕ → reading) (g : ℕ → writing) →
+        due.new.items
+        ≡ due.old.items
+        ++ all_of_stream (map (asked f) reads.old.items) (map (asked g) writes.old.items) }
     ensures reads { reads.new.items ≡ [] }
     ensures writes { writes.new.items ≡ [] }
     ensures reads_room { deque_capacity reads.new ≡ deque_capacity reads.old }

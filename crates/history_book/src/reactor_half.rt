@@ -104,14 +104,21 @@ fn empty_queues(alloc: Global, rooms: &[usize]) -> Result<Vec<Queues>, NoMemory>
 }
 
 impl<'a> ReactorWorks<'a> {
-    /// The reactor's half before the first event. Takes memory for each act and world line, and where bytes are told for all
-    /// that the lines bring; for a stream's queues as much as the script has operations on it.
+    /// The reactor's half before the first event. Takes memory for each act and world line, and
+    /// where bytes are told for all that the lines bring; for a stream's queues as much as the
+    /// script has operations on it.
     pub(crate) fn make(
         alloc: Global,
         script: &'a Script,
         told: bool,
     ) -> Result<ReactorWorks<'a>, NoMemory>
-        ensures { IfOk result (λ works. works ≡ record { script = script.now; told = told; half = first_reactor script.now told }) }
+        ensures { IfOk result (λ works.
+            works
+            ≡ record {
+              script = script.now;
+              told = told;
+              half = first_reactor script.now told;
+            }) }
     {
         scripts_are_well_formed(script);
         let acts = script.acts() as usize;

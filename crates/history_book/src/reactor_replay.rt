@@ -28,13 +28,20 @@ impl<'a> Model for ReactorReplay<'a> {
 }
 
 impl<'a> ReactorReplay<'a> {
-    /// Before the first event. Takes memory for each act and world line, and where bytes are told for all that the lines bring.
+    /// Before the first event. Takes memory for each act and world line, and where bytes are told
+    /// for all that the lines bring.
     pub(crate) fn make(
         alloc: Global,
         script: &'a Script,
         told: bool,
     ) -> Result<ReactorReplay<'a>, NoMemory>
-        ensures { IfOk result (λ replay. replay ≡ record { script = script.now; told = told; half = first_reactor script.now told }) }
+        ensures { IfOk result (λ replay.
+            replay
+            ≡ record {
+              script = script.now;
+              told = told;
+              half = first_reactor script.now told;
+            }) }
     {
         let acts = script.acts();
         let works = ReactorWorks::make(alloc, script, told)?;
@@ -52,7 +59,9 @@ impl<'a> ReactorReplay<'a> {
     pub(crate) fn take(&mut self, a: ActNo)
         requires there { a < length self.old.script.acts }
         requires untaken { was_taken self.old.half a ≡ false }
-        ensures { self.new ≡ record self.old { half = reactor_after_take self.old.script self.old.told self.old.half a } }
+        ensures { self.new
+            ≡ record self.old
+            { half = reactor_after_take self.old.script self.old.told self.old.half a } }
     {
         let script = self.works.script();
         acts_fit(script);
@@ -61,7 +70,8 @@ impl<'a> ReactorReplay<'a> {
 
     /// The operation has completed, and that was told.
     pub(crate) fn done(&mut self, o: OpNo)
-        ensures { self.new ≡ record self.old { half = reactor_after_done self.old.script self.old.half o } }
+        ensures { self.new
+            ≡ record self.old { half = reactor_after_done self.old.script self.old.half o } }
     {
         self.works.done(o);
     }
@@ -69,7 +79,9 @@ impl<'a> ReactorReplay<'a> {
     /// Time moves to the next time point, which is this.
     pub(crate) fn tick(&mut self, now: u64)
         requires { next_time self.old.script self.old.half ≡ Point.Time now }
-        ensures { self.new ≡ record self.old { half = reactor_after_tick self.old.script self.old.told self.old.half now } }
+        ensures { self.new
+            ≡ record self.old
+            { half = reactor_after_tick self.old.script self.old.told self.old.half now } }
     {
         let script = self.works.script();
         scripts_are_well_formed(script);
@@ -78,7 +90,8 @@ impl<'a> ReactorReplay<'a> {
 
     /// The last time point has passed.
     pub(crate) fn last(&mut self)
-        ensures { self.new ≡ record self.old { half = reactor_after_last self.old.told self.old.half } }
+        ensures { self.new
+            ≡ record self.old { half = reactor_after_last self.old.told self.old.half } }
     {
         self.works.end();
     }

@@ -11,8 +11,8 @@ use session_script::Script;
 use std::alloc::Global;
 use std::marker::Model;
 
-/// A history of a script as it is replayed, event by event. A step takes no memory, looks at each act and stream at
-/// most a few times, and never at the events before it.
+/// A history of a script as it is replayed, event by event. A step takes no memory, looks at each
+/// act and stream at most a few times, and never at the events before it.
 #[derive(Debug, Drop)]
 pub struct Replay<'a> {
     pub(crate) context: ContextReplay,
@@ -35,8 +35,8 @@ impl<'a> Model for Replay<'a> {
 }
 
 impl<'a> Replay<'a> {
-    /// The state before the first event; `bytes_told` says whether the reactor tells its bytes. Takes memory in
-    /// proportion to the acts, the lines of the world and their bytes.
+    /// The state before the first event; `bytes_told` says whether the reactor tells its bytes.
+    /// Takes memory in proportion to the acts, the lines of the world and their bytes.
     pub fn make(alloc: Global, script: &'a Script, bytes_told: bool) -> Result<Replay<'a>, NoMemory>
         ensures script { IfOk result (λ replay. replay.script ≡ script.now) }
         ensures told { IfOk result (λ replay. replay.told ≡ bytes_told) }
@@ -49,8 +49,10 @@ impl<'a> Replay<'a> {
 
     /// Takes the event where it is legal; else nothing changes.
     pub fn step(&mut self, event: Event) -> bool
-        ensures legal { IsTrue result ↔ MayHappen self.old.script self.old.told self.old.state event }
-        ensures next { OnTrue result (self.new.state ≡ after_event self.old.script self.old.told self.old.state event) }
+        ensures legal { IsTrue result
+            ↔ MayHappen self.old.script self.old.told self.old.state event }
+        ensures next { OnTrue result
+            (self.new.state ≡ after_event self.old.script self.old.told self.old.state event) }
         ensures unchanged { OnFalse result (self.new.state ≡ self.old.state) }
         ensures script { self.new.script ≡ self.old.script }
         ensures told { self.new.told ≡ self.old.told }
@@ -62,7 +64,8 @@ impl<'a> Replay<'a> {
         legal
     }
 
-    /// Whether all rounds are closed or the reactor failed, and each accepted operation's handler was run or destroyed.
+    /// Whether all rounds are closed or the reactor failed, and each accepted operation's handler
+    /// was run or destroyed.
     pub fn whole(&self) -> bool
         ensures { IsTrue result ↔ IsWhole self.now.script self.now.state }
     {
@@ -100,7 +103,9 @@ impl<'a> Replay<'a> {
     /// The event happens.
     fn perform(&mut self, event: Event)
         requires { MayHappen self.old.script self.old.told self.old.state event }
-        ensures { self.new ≡ record self.old { state = after_event self.old.script self.old.told self.old.state event } }
+        ensures { self.new
+            ≡ record self.old
+            { state = after_event self.old.script self.old.told self.old.state event } }
     {
         self.context.perform(self.reactor.works().script(), event);
         self.reactor.perform(event);
@@ -134,7 +139,9 @@ impl<'a> ReactorReplay<'a> {
     /// What an event makes of the reactor.
     fn perform(&mut self, event: Event)
         requires { CanTurn self.old.script self.old.half event }
-        ensures { self.new ≡ record self.old { half = reactor_after self.old.script self.old.told self.old.half event } }
+        ensures { self.new
+            ≡ record self.old
+            { half = reactor_after self.old.script self.old.told self.old.half event } }
     {
         match event {
             Event::Take { act } => self.take(act),

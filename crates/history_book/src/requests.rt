@@ -37,12 +37,14 @@ impl ContextReplay {
 
 impl<'a> ReactorWorks<'a> {
     fn is_given_untold(&self, o: OpNo, code: Code, size: u32) -> bool
-        ensures { IsTrue result ↔ IsGivenUntold self.now.script self.now.told self.now.half o code size }
+        ensures { IsTrue result
+            ↔ IsGivenUntold self.now.script self.now.told self.now.half o code size }
     {
         !self.world.told && self.nothing_due() && self.may_give(o, code, size)
     }
 
-    /// Whether this operation may be told so: as the head of what is due, or where bytes are untold as its stream gives it.
+    /// Whether this operation may be told so: as the head of what is due, or where bytes are untold
+    /// as its stream gives it.
     pub(crate) fn may_tell(&self, o: OpNo, code: Code, size: u32) -> bool
         ensures { IsTrue result ↔ MayTell self.now.script self.now.told self.now.half o code size }
     {
@@ -91,7 +93,8 @@ impl<'a> Replay<'a> {
 
     /// Whether this operation may complete so.
     pub(crate) fn may_complete(&self, o: OpNo, code: Code, size: u32) -> bool
-        ensures { IsTrue result ↔ MayComplete self.now.script self.now.told self.now.state o code size }
+        ensures { IsTrue result
+            ↔ MayComplete self.now.script self.now.told self.now.state o code size }
     {
         !self.reactor.works().has_failed()
             && self.reactor.works().may_tell(o, code, size)

@@ -87,7 +87,8 @@ impl ContextReplay {
     fn first_unspent(&self) -> Option<usize>
         ensures none { IfNone result ((other : ℕ) → is_unspent (phase_at self.now other) ≡ false) }
         ensures some { IfSome result (λ o. is_unspent (phase_at self.now o) ≡ true) }
-        ensures least { IfSome result (λ o. (other : ℕ) → other < o → is_unspent (phase_at self.now other) ≡ false) }
+        ensures least { IfSome result
+            (λ o. (other : ℕ) → other < o → is_unspent (phase_at self.now other) ≡ false) }
     {
         for (n, act) in self.acts.iter().enumerate() {
             if is_unspent(act.phase) {
@@ -184,7 +185,9 @@ fn is_quiet(phase: ActPhase, taken: bool) -> bool
 
 impl<'a> Replay<'a> {
     fn acts_outstanding(&self) -> u64
-        ensures count { result ≡ count_by (is_act_outstanding self.now.state) (range_with_len 0 (length self.now.state.context.acts)) }
+        ensures count { result
+            ≡ count_by (is_act_outstanding self.now.state)
+            (range_with_len 0 (length self.now.state.context.acts)) }
         ensures few { result ≤ most_acts }
     {
         let acts = 0..self.reactor.works().script().acts();

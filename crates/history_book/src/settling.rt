@@ -18,16 +18,24 @@ pub(crate) fn serve_stream(
     pipe: &mut Pipe,
     due: &mut Vec<Completion>,
 )
-    requires reads { All (λ queued. IsReading asking.now.script.now queued.op) queues.old.reads.items }
-    requires writes { All (λ queued. IsWriting asking.now.script.now queued.op) queues.old.writes.items }
-    requires room { vec_len due.old + deque_len queues.old.reads + deque_len queues.old.writes ≤ vec_capacity due.old }
-    ensures completed { due.new.items ≡ due.old.items ++
-        (served_stream (stream_of pipe.old) (queues_of asking.now.script.now queues.old)).completed }
+    requires reads { All (λ queued. IsReading asking.now.script.now queued.op)
+        queues.old.reads.items }
+    requires writes { All (λ queued. IsWriting asking.now.script.now queued.op)
+        queues.old.writes.items }
+    requires room { vec_len due.old + deque_len queues.old.reads + deque_len queues.old.writes
+        ≤ vec_capacity due.old }
+    ensures completed { due.new.items
+        ≡ due.old.items
+        ++ (served_stream (stream_of pipe.old)
+        (queues_of asking.now.script.now queues.old)).completed }
     ensures staying { queues_of asking.now.script.now queues.new ≡
         (served_stream (stream_of pipe.old) (queues_of asking.now.script.now queues.old)).queues }
-    ensures stream { stream_of pipe.new ≡ (served_stream (stream_of pipe.old) (queues_of asking.now.script.now queues.old)).stream }
-    ensures reads { All (λ queued. IsReading asking.now.script.now queued.op) queues.new.reads.items }
-    ensures writes { All (λ queued. IsWriting asking.now.script.now queued.op) queues.new.writes.items }
+    ensures stream { stream_of pipe.new
+        ≡ (served_stream (stream_of pipe.old) (queues_of asking.now.script.now queues.old)).stream }
+    ensures reads { All (λ queued. IsReading asking.now.script.now queued.op)
+        queues.new.reads.items }
+    ensures writes { All (λ queued. IsWriting asking.now.script.now queued.op)
+        queues.new.writes.items }
     ensures each_once { vec_len due.new + deque_len queues.new.reads + deque_len queues.new.writes ≡
         vec_len due.old + deque_len queues.old.reads + deque_len queues.old.writes }
     ensures bytes_left { pipe.new.inbound.left ≡ pipe.old.inbound.left }
@@ -68,7 +76,8 @@ impl<'a> ReactorWorks<'a> {
 
     /// All streams are served, where their bytes are told.
     fn serve_streams(&mut self)
-        ensures { self.new ≡ record self.old { half = with_streams_served self.old.told self.old.half } }
+        ensures { self.new
+            ≡ record self.old { half = with_streams_served self.old.told self.old.half } }
     {
         if !self.world.told {
             return;

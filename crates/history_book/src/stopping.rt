@@ -94,7 +94,8 @@ impl LaneAllowances {
         self.reactor = allowed;
     }
 
-    /// A handler's stop has returned: each free lane may begin one more, and the handler's own lane none.
+    /// A handler's stop has returned: each free lane may begin one more, and the handler's own lane
+    /// none.
     pub(crate) fn limit(&mut self, lane: Lane)
         ensures { self.new ≡ after_stop_on lane self.old }
     {

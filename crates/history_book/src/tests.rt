@@ -1,5 +1,5 @@
-//! Worked sessions: each trace is legal and whole, told and untold, and no other order of two neighbouring lines is legal but where
-//! the session allows it.
+//! Worked sessions: each trace is legal and whole, told and untold, and no other order of two
+//! neighbouring lines is legal but where the session allows it.
 
 mod rows;
 
@@ -95,7 +95,8 @@ fn is_legal(
     Ok(replay.whole())
 }
 
-/// Whether the session is legal, and its neighbouring lines may be exchanged exactly where it says so.
+/// Whether the session is legal, and its neighbouring lines may be exchanged exactly where it says
+/// so.
 fn is_as_said(alloc: Global, session: &Session, told: bool) -> Result<bool, NoMemory> {
     let Ok(script) = read_script(alloc, session.script.as_bytes()) else {
         return Ok(false);

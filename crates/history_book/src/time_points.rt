@@ -28,7 +28,8 @@ fn with_expiry(now: u64, expiry: u64, least: Option<u64>) -> Option<u64>
 
 /// The next expiry of these waits.
 fn next_expiry(now: u64, expiries: &[u64], waits: &[Wait]) -> Option<u64>
-    ensures { result ≡ least_of (filter (λ expiry. nat_lt now expiry) (map (expiry_in expiries.now) waits.now)) }
+    ensures { result
+        ≡ least_of (filter (λ expiry. nat_lt now expiry) (map (expiry_in expiries.now) waits.now)) }
 {
     let mut least = None;
     for wait in waits {

@@ -8,12 +8,14 @@ use crate::history::History;
 use crate::trace_line::TraceLine;
 use asio_types::{Failed, Sink, write_all};
 
-/// Writes the trace of a history: offers one line at a time, and what is left of it where the sink took a part.
-/// `Failed` comes exactly where the sink failed, which has then taken the first part of the trace and is asked nothing
-/// more. Takes no memory.
+/// Writes the trace of a history: offers one line at a time, and what is left of it where the sink
+/// took a part. `Failed` comes exactly where the sink failed, which has then taken the first part
+/// of the trace and is asked nothing more. Takes no memory.
 pub fn write_trace<K: Sink>(history: &History, sink: &mut K) -> Result<(), Failed>
-    ensures whole { IfOk result (λ _. Extends (K.written sink.old) (trace_of history.now.events) (K.written sink.new)) }
-    ensures part { OnErr result (ExtendsByPart (K.written sink.old) (trace_of history.now.events) (K.written sink.new)) }
+    ensures whole { IfOk result
+        (λ _. Extends (K.written sink.old) (trace_of history.now.events) (K.written sink.new)) }
+    ensures part { OnErr result
+        (ExtendsByPart (K.written sink.old) (trace_of history.now.events) (K.written sink.new)) }
     ensures counts { CountsFaults result (K.faults sink.old) (K.faults sink.new) }
     ensures later { K.faults sink.old ≤ K.faults sink.new }
 {
@@ -26,7 +28,8 @@ pub fn write_trace<K: Sink>(history: &History, sink: &mut K) -> Result<(), Faile
 
 /// A trace fixes its history: events with the same trace are the same events.
 pub fn one_to_one()
-    ensures { (first second : List Event) → AreEvents first → AreEvents second → trace_of first ≡ trace_of second → first ≡ second }
+    ensures { (first second : List Event) → AreEvents first → AreEvents second →
+        trace_of first ≡ trace_of second → first ≡ second }
 {}
 
 #[cfg(test)]

@@ -5,7 +5,8 @@ ghost use Rattle.history_book.specs.Trace.{line_end, line_of, space, word_of_cod
 use asio_types::{Code, Event};
 use std::marker::Model;
 
-/// One line of a trace while it is put together; it takes no memory. Contracts see the list of its bytes.
+/// One line of a trace while it is put together; it takes no memory. Contracts see the list of its
+/// bytes.
 #[derive(Drop)]
 pub(crate) struct TraceLine {
     bytes: [u8; 64],
@@ -90,7 +91,9 @@ impl TraceLine {
 
     fn of_outcome(word: &[u8], op: u32, code: Code, size: u32) -> TraceLine
         requires { length word.now ≤ 8 }
-        ensures { result ≡ word.now ++ decimal op ++ space ++ word_of_code code ++ space ++ decimal size ++ line_end }
+        ensures { result
+            ≡ word.now ++ decimal op ++ space ++ word_of_code code ++ space ++ decimal size
+            ++ line_end }
     {
         let mut line = TraceLine::empty();
         line.push_word(word);

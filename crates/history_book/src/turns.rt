@@ -43,13 +43,17 @@ impl<'a> ReactorWorks<'a> {
     /// The act is taken and performed, and what completes by it is due.
     pub(crate) fn take(&mut self, a: ActNo)
         requires there { a < length self.old.script.acts }
-        requires place { HasPlace self.old.script self.old.half (stream_asked (act_of self.old.script a)) }
+        requires place { HasPlace self.old.script self.old.half
+            (stream_asked (act_of self.old.script a)) }
         requires room { pending_count self.old.half < length self.old.script.acts }
         requires soon { self.old.half.now < 2 ^ 63 }
         requires accepted { self.old.half.accepted < 2 ^ 31 }
-        requires same { (performed_by self.old.script a (act_of self.old.script a) self.old.half).accepted ≡ self.old.half.accepted }
+        requires same { (performed_by self.old.script a (act_of self.old.script a)
+            self.old.half).accepted ≡ self.old.half.accepted }
         requires together { AreDueTogether (performed self.old.script a self.old.half) }
-        ensures { self.new ≡ record self.old { half = reactor_after_take self.old.script self.old.told self.old.half a } }
+        ensures { self.new
+            ≡ record self.old
+            { half = reactor_after_take self.old.script self.old.told self.old.half a } }
     {
         self.perform(a);
         self.mark_taken(a);
@@ -59,8 +63,11 @@ impl<'a> ReactorWorks<'a> {
     /// Time moves to the next time point, which is this.
     pub(crate) fn tick(&mut self, now: u64)
         requires next { next_time self.old.script self.old.half ≡ Point.Time now }
-        requires together { AreDueTogether (at_time self.old.script self.old.told now self.old.half) }
-        ensures { self.new ≡ record self.old { half = reactor_after_tick self.old.script self.old.told self.old.half now } }
+        requires together { AreDueTogether
+            (at_time self.old.script self.old.told now self.old.half) }
+        ensures { self.new
+            ≡ record self.old
+            { half = reactor_after_tick self.old.script self.old.told self.old.half now } }
     {
         let limit = self.next_expiry();
         self.world.tick(limit, now);
@@ -70,7 +77,8 @@ impl<'a> ReactorWorks<'a> {
     /// The last time point has passed.
     pub(crate) fn end(&mut self)
         requires { AreDueTogether (at_last self.old.told self.old.half) }
-        ensures { self.new ≡ record self.old { half = reactor_after_last self.old.told self.old.half } }
+        ensures { self.new
+            ≡ record self.old { half = reactor_after_last self.old.told self.old.half } }
     {
         self.world.end();
         self.last = true;
@@ -107,7 +115,8 @@ impl<'a> ReactorWorks<'a> {
 
     /// The head of a queue has completed where bytes are untold.
     fn give(&mut self, o: OpNo)
-        ensures { self.new ≡ record self.old { half = gone (act_of self.old.script o) self.old.half } }
+        ensures { self.new
+            ≡ record self.old { half = gone (act_of self.old.script o) self.old.half } }
     {
         let script = self.script;
         if o >= script.acts() {
@@ -125,7 +134,9 @@ impl<'a> ReactorWorks<'a> {
 
     /// An operation leaves what is due, or where nothing was due the queue of its stream.
     fn tell_off(&mut self, o: OpNo)
-        ensures { self.new ≡ record self.old { half = told_off self.old.script o self.old.half self.old.half.due } }
+        ensures { self.new
+            ≡ record self.old
+            { half = told_off self.old.script o self.old.half self.old.half.due } }
     {
         if self.due.is_empty() {
             self.give(o);
@@ -160,7 +171,8 @@ impl<'a> ReactorWorks<'a> {
 
     /// The operation has completed, and that was told.
     pub(crate) fn done(&mut self, o: OpNo)
-        ensures { self.new ≡ record self.old { half = reactor_after_done self.old.script self.old.half o } }
+        ensures { self.new
+            ≡ record self.old { half = reactor_after_done self.old.script self.old.half o } }
     {
         let slot = self.slot_in(o);
         self.tell_off(o);

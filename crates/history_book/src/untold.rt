@@ -97,20 +97,25 @@ impl<'a> ReactorWorks<'a> {
     }
 
     fn may_give_read(&self, o: OpNo, stream: StreamNo, gives: bool) -> bool
-        ensures { IsTrue result ↔ MayGive self.now.half o (reading_place stream) (head_of (queues_at self.now.half stream).reads) gives }
+        ensures { IsTrue result
+            ↔ MayGive self.now.half o (reading_place stream)
+            (head_of (queues_at self.now.half stream).reads) gives }
     {
         gives && self.reached <= 2 * stream as u32 && self.read_head(stream) == Some(o)
     }
 
     fn may_give_write(&self, o: OpNo, stream: StreamNo, gives: bool) -> bool
-        ensures { IsTrue result ↔ MayGive self.now.half o (writing_place stream) (head_of (queues_at self.now.half stream).writes) gives }
+        ensures { IsTrue result
+            ↔ MayGive self.now.half o (writing_place stream)
+            (head_of (queues_at self.now.half stream).writes) gives }
     {
         gives && self.reached <= 2 * stream as u32 + 1 && self.write_head(stream) == Some(o)
     }
 
     /// Whether an operation of a stream may complete so where bytes are untold.
     pub(crate) fn may_give(&self, o: OpNo, code: Code, size: u32) -> bool
-        ensures { IsTrue result ↔ MayGiveUntold self.now.half o (act_of self.now.script o) code size }
+        ensures { IsTrue result
+            ↔ MayGiveUntold self.now.half o (act_of self.now.script o) code size }
     {
         if o >= self.script.acts() {
             return false;
@@ -157,7 +162,8 @@ impl<'a> ReactorWorks<'a> {
     }
 
     fn is_told_as(&self, o: OpNo, outcome: (Code, u32), code: Code, size: u32) -> bool
-        ensures { IsTrue result ↔ IsToldAs self.now.told (act_of self.now.script o) outcome code size }
+        ensures { IsTrue result
+            ↔ IsToldAs self.now.told (act_of self.now.script o) outcome code size }
     {
         if self.world.told {
             return outcome == (code, size);
@@ -167,7 +173,8 @@ impl<'a> ReactorWorks<'a> {
 
     /// Whether the operation is the head of what is due, and may be told so.
     pub(crate) fn is_next_due(&self, o: OpNo, code: Code, size: u32) -> bool
-        ensures { IsTrue result ↔ IsNextDue self.now.script self.now.told self.now.half o code size }
+        ensures { IsTrue result
+            ↔ IsNextDue self.now.script self.now.told self.now.half o code size }
     {
         let Some(head) = self.due.as_slice().first() else {
             return false;

@@ -47,7 +47,8 @@ impl<'a> Which<'a> {
 /// Lists those of the waits that complete with this code.
 fn list_waits(which: &Which, code: Code, waits: &[Wait], due: &mut Vec<Completion>)
     requires { vec_len due.old + length waits.now ≤ vec_capacity due.old }
-    ensures due { due.new.items ≡ due.old.items ++ all_completed_with code (is_chosen which.now) waits.now }
+    ensures due { due.new.items
+        ≡ due.old.items ++ all_completed_with code (is_chosen which.now) waits.now }
     ensures room { vec_capacity due.new ≡ vec_capacity due.old }
 {
     for wait in waits {
@@ -68,8 +69,10 @@ pub(crate) fn complete_waits(
     due: &mut Vec<Completion>,
 )
     requires { vec_len due.old + vec_len waits.old ≤ vec_capacity due.old }
-    ensures waits { waits.new.items ≡ filter (λ wait. not (is_chosen which.now wait)) waits.old.items }
-    ensures due { due.new.items ≡ due.old.items ++ all_completed_with code (is_chosen which.now) waits.old.items }
+    ensures waits { waits.new.items
+        ≡ filter (λ wait. not (is_chosen which.now wait)) waits.old.items }
+    ensures due { due.new.items
+        ≡ due.old.items ++ all_completed_with code (is_chosen which.now) waits.old.items }
     ensures waits_room { vec_capacity waits.new ≡ vec_capacity waits.old }
     ensures due_room { vec_capacity due.new ≡ vec_capacity due.old }
 {

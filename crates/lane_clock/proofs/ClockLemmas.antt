@@ -29,7 +29,8 @@ still (Look lane place held) w h = refl
 still (Join counts) w h = refl
 
 -- with no draw in between the word stays
-pub word_stays : (guards : ℕ) (a es : List Event) → Tail a es → drawn a ≡ drawn es → word_after guards a ≡ word_after guards es
+pub word_stays : (guards : ℕ) (a es : List Event) → Tail a es → drawn a ≡ drawn es →
+    word_after guards a ≡ word_after guards es
 word_stays g a [] h e = ap (word_after g) h
 word_stays g a (x ∷ es) (inl h) e = ap (word_after g) h
 word_stays g a (x ∷ es) (inr h) e =
@@ -62,7 +63,8 @@ pub clock_counts : (guards : ℕ) (es : List Event) → drawn es < 2 ^ 32 → wo
 clock_counts g [] l = omega arith
 clock_counts g (e ∷ es) l = go e.step (clock_counts g es (omega arith)) l
   where
-    go : (st : Step) → word_after g es % 2 ^ 32 ≡ drawn es → draw_count st + drawn es < 2 ^ 32 → word_with st (word_after g es) % 2 ^ 32 ≡ draw_count st + drawn es
+    go : (st : Step) → word_after g es % 2 ^ 32 ≡ drawn es → draw_count st + drawn es < 2 ^ 32 →
+        word_with st (word_after g es) % 2 ^ 32 ≡ draw_count st + drawn es
     go (Draw c found) h m = ticks c (word_after g es) (drawn es) h (omega arith)
     go (Load found) h m = h ∙ omega arith
     go (Place lane place) h m = h ∙ omega arith
@@ -78,5 +80,6 @@ module _ (guards seats : ℕ) (es : List Event) (few : seats ≤ 2 ^ 15) (sound 
   pub found_clock : (f : Found) → f ≡ found_of (word_after guards es) → f.clock ≡ drawn es
   found_clock f e = ap (λ (x : Found). x.clock) e ∙ clock_is
 
-  pub found_word : guards < 2 ^ 15 → (f : Found) → f ≡ found_of (word_after guards es) → word_of f ≡ word_after guards es
+  pub found_word : guards < 2 ^ 15 → (f : Found) → f ≡ found_of (word_after guards es) →
+      word_of f ≡ word_after guards es
   found_word h f e = ap word_of e ∙ word_of-found_of (word_after guards es) (word_bounded guards h es)

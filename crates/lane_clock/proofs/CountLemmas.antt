@@ -11,9 +11,12 @@ use Rattle.lane_clock.proofs.KnownLemmas.{event, under_same, under_other}
 
 same_below : (f g : ℕ → ℕ) (n : ℕ) → ((k : ℕ) → k < n → g k ≡ f k) → sum_below g n ≡ sum_below f n
 same_below f g zero h = refl
-same_below f g (suc n) h = let a : g n ≡ f n = h n (omega arith) in let b : sum_below g n ≡ sum_below f n = same_below f g n (λ k l. h k (omega arith)) in omega arith
+same_below f g (suc n) h =
+    let a : g n ≡ f n = h n (omega arith) in
+    let b : sum_below g n ≡ sum_below f n = same_below f g n (λ k l. h k (omega arith)) in omega arith
 
-bumped_below : (f g : ℕ → ℕ) (k x n : ℕ) → k < n → g k ≡ f k + x → ((m : ℕ) → m ≢ k → g m ≡ f m) → sum_below g n ≡ sum_below f n + x
+bumped_below : (f g : ℕ → ℕ) (k x n : ℕ) → k < n → g k ≡ f k + x → ((m : ℕ) → m ≢ k → g m ≡ f m) →
+    sum_below g n ≡ sum_below f n + x
 bumped_below f g k x zero lt here there = absurd (omega arith)
 bumped_below f g k x (suc n) lt here there = dite (ℕ_discrete n k)
     (λ (e : n ≡ k).
@@ -25,7 +28,8 @@ bumped_below f g k x (suc n) lt here there = dite (ℕ_discrete n k)
 
 bounded_below : (f : ℕ → ℕ) (n : ℕ) → ((k : ℕ) → f k ≤ 65536) → sum_below f n ≤ n * 65536
 bounded_below f zero h = omega arith
-bounded_below f (suc n) h = let a : f n ≤ 65536 = h n in let c : sum_below f n ≤ n * 65536 = bounded_below f n h in omega arith
+bounded_below f (suc n) h =
+    let a : f n ≤ 65536 = h n in let c : sum_below f n ≤ n * 65536 = bounded_below f n h in omega arith
 
 pub counted_push : (f : Step → ℕ) (xs : List Step) (x : Step) → counted f (xs ++ x ∷ []) ≡ counted f xs + f x
 counted_push f [] x = omega arith
@@ -40,21 +44,27 @@ counted_nil : (f : Step → ℕ) (n : ℕ) → sum_below (λ k. counted f (steps
 counted_nil f zero = refl
 counted_nil f (suc n) = let h : sum_below (λ k. counted f (steps_under k [])) n ≡ 0 = counted_nil f n in omega arith
 
-under_counted : (f : Step → ℕ) (es : List Event) (n : ℕ) (st : Step) → counted f (steps_under n (event n st ∷ es)) ≡ counted f (steps_under n es) + f st
+under_counted : (f : Step → ℕ) (es : List Event) (n : ℕ) (st : Step) →
+    counted f (steps_under n (event n st ∷ es)) ≡ counted f (steps_under n es) + f st
 under_counted f es n st = ap (counted f) (under_same es n st) ∙ counted_push f (steps_under n es) st
 
-counted_in_lists : (f : Step → ℕ) (guards seats : ℕ) (es : List Event) → IsSoundHistory guards seats es → counted_in f es ≡ sum_below (λ k. counted f (steps_under k es)) seats
+counted_in_lists : (f : Step → ℕ) (guards seats : ℕ) (es : List Event) → IsSoundHistory guards seats es →
+    counted_in f es ≡ sum_below (λ k. counted f (steps_under k es)) seats
 counted_in_lists f g n [] s = sym (counted_nil f n)
 counted_in_lists f g n (e ∷ es) s =
     let h : counted_in f es ≡ sum_below (λ k. counted f (steps_under k es)) n = counted_in_lists f g n es s.0 in
-    let b : sum_below (λ k. counted f (steps_under k (e ∷ es))) n ≡ sum_below (λ k. counted f (steps_under k es)) n + f e.step =
-    bumped_below (λ k. counted f (steps_under k es)) (λ k. counted f (steps_under k (e ∷ es))) e.by (f e.step) n s.1 (under_counted f es e.by e.step)
+    let b : sum_below (λ k. counted f (steps_under k (e ∷ es))) n
+    ≡ sum_below (λ k. counted f (steps_under k es)) n + f e.step =
+    bumped_below (λ k. counted f (steps_under k es)) (λ k. counted f (steps_under k (e ∷ es))) e.by (f e.step) n s.1
+    (under_counted f es e.by e.step)
     (λ m ne. ap (counted f) (under_other es m e.by e.step ne)) in
     omega arith
 
 -- The step isn't counted, or its list had room
 abbrev Rooms : (Step → ℕ) → ℕ → Type 0
-Rooms f guards = (es : List Event) (n : ℕ) (st : Step) → Fits guards es n st → (f st ≡ 0) ⊎ ((f st ≡ 1) × (counted f (steps_under n es) < 65536))
+Rooms f guards =
+    (es : List Event) (n : ℕ) (st : Step) → Fits guards es n st →
+    (f st ≡ 0) ⊎ ((f st ≡ 1) × (counted f (steps_under n es) < 65536))
 
 draw_rooms : (guards : ℕ) → Rooms draw_count guards
 draw_rooms g es n (Draw change found) h = inr (refl, h.1)
@@ -72,13 +82,16 @@ place_rooms g es n (Put lane place note) h = inl refl
 place_rooms g es n (Look lane place held) h = inl refl
 place_rooms g es n (Join counts) h = inl refl
 
-bounded_list : (f : Step → ℕ) (guards seats : ℕ) → Rooms f guards → (es : List Event) → IsSoundHistory guards seats es → (k : ℕ) → counted f (steps_under k es) ≤ 65536
+bounded_list : (f : Step → ℕ) (guards seats : ℕ) → Rooms f guards → (es : List Event) → IsSoundHistory guards seats es →
+    (k : ℕ) → counted f (steps_under k es) ≤ 65536
 bounded_list f g n rooms [] s k = omega arith
 bounded_list f g n rooms (e ∷ es) s k =
     let h : counted f (steps_under k es) ≤ 65536 = bounded_list f g n rooms es s.0 k in
     dite (ℕ_discrete k e.by)
     (λ (p : k ≡ e.by).
-    let c : counted f (steps_under k (e ∷ es)) ≡ counted f (steps_under k es) + f e.step = subst (λ m. counted f (steps_under k (event m e.step ∷ es)) ≡ counted f (steps_under k es) + f e.step) p (under_counted f es k e.step) in
+    let c : counted f (steps_under k (e ∷ es)) ≡ counted f (steps_under k es) + f e.step =
+    subst (λ m. counted f (steps_under k (event m e.step ∷ es)) ≡ counted f (steps_under k es) + f e.step) p
+    (under_counted f es k e.step) in
     ⊎_elim
     (λ (z : f e.step ≡ 0). omega arith)
     (λ (z : (f e.step ≡ 1) × (counted f (steps_under e.by es) < 65536)).
@@ -87,10 +100,12 @@ bounded_list f g n rooms (e ∷ es) s k =
     (rooms es e.by e.step s.2))
     (λ (ne : k ≢ e.by). subst (λ l. counted f l ≤ 65536) (sym (under_other es k e.by e.step ne)) h)
 
-few_in : (f : Step → ℕ) (guards seats : ℕ) → Rooms f guards → (es : List Event) → IsSoundHistory guards seats es → counted_in f es ≤ seats * 65536
+few_in : (f : Step → ℕ) (guards seats : ℕ) → Rooms f guards → (es : List Event) → IsSoundHistory guards seats es →
+    counted_in f es ≤ seats * 65536
 few_in f g n rooms es s =
     let e : counted_in f es ≡ sum_below (λ k. counted f (steps_under k es)) n = counted_in_lists f g n es s in
-    let b : sum_below (λ k. counted f (steps_under k es)) n ≤ n * 65536 = bounded_below (λ k. counted f (steps_under k es)) n (bounded_list f g n rooms es s) in
+    let b : sum_below (λ k. counted f (steps_under k es)) n ≤ n * 65536 =
+    bounded_below (λ k. counted f (steps_under k es)) n (bounded_list f g n rooms es s) in
     omega arith
 
 drawn_counted : (es : List Event) → drawn es ≡ counted_in draw_count es
@@ -98,15 +113,20 @@ drawn_counted [] = refl
 drawn_counted (e ∷ es) = let h : drawn es ≡ counted_in draw_count es = drawn_counted es in omega arith
 
 -- so few positions are drawn that the clock never wraps
-pub few_drawn : (guards seats : ℕ) (es : List Event) → seats ≤ 2 ^ 15 → IsSoundHistory guards seats es → drawn es ≤ 2 ^ 31
-few_drawn g n es few s = let a : drawn es ≡ counted_in draw_count es = drawn_counted es in let b : counted_in draw_count es ≤ n * 65536 = few_in draw_count g n (draw_rooms g) es s in omega arith
+pub few_drawn : (guards seats : ℕ) (es : List Event) → seats ≤ 2 ^ 15 → IsSoundHistory guards seats es →
+    drawn es ≤ 2 ^ 31
+few_drawn g n es few s =
+    let a : drawn es ≡ counted_in draw_count es = drawn_counted es in
+    let b : counted_in draw_count es ≤ n * 65536 = few_in draw_count g n (draw_rooms g) es s in omega arith
 
-pub places_step : (lane k : ℕ) (st : Step) → (places_with lane st k ≡ k) ⊎ ((places_with lane st k ≡ k + 1) × (place_count st ≡ 1))
+pub places_step : (lane k : ℕ) (st : Step) →
+    (places_with lane st k ≡ k) ⊎ ((places_with lane st k ≡ k + 1) × (place_count st ≡ 1))
 places_step lane k (Draw change found) = inl refl
 places_step lane k (Load found) = inl refl
 places_step lane k (Place at place) = go (eqb lane at)
   where
-    go : (b : Bool) → ((if b then k + 1 else k) ≡ k) ⊎ (((if b then k + 1 else k) ≡ k + 1) × (place_count (Place at place) ≡ 1))
+    go : (b : Bool) →
+        ((if b then k + 1 else k) ≡ k) ⊎ (((if b then k + 1 else k) ≡ k + 1) × (place_count (Place at place) ≡ 1))
     go true = inr (refl, refl)
     go false = inl refl
 places_step lane k (Put at place note) = inl refl
@@ -119,8 +139,12 @@ places_counted lane (e ∷ es) = let h : places_after lane es ≤ counted_in pla
     let n : places_after lane (e ∷ es) ≡ places_with lane e.step (places_after lane es) = refl in
     ⊎_elim
     (λ (z : places_with lane e.step (places_after lane es) ≡ places_after lane es). omega arith)
-    (λ (z : (places_with lane e.step (places_after lane es) ≡ places_after lane es + 1) × (place_count e.step ≡ 1)). let a = z.0 in let b = z.1 in omega arith)
+    (λ (z : (places_with lane e.step (places_after lane es) ≡ places_after lane es + 1) × (place_count e.step ≡ 1)).
+    let a = z.0 in let b = z.1 in omega arith)
     (places_step lane (places_after lane es) e.step)
 
-pub few_placed : (guards seats : ℕ) (es : List Event) (lane : ℕ) → seats ≤ 2 ^ 15 → IsSoundHistory guards seats es → places_after lane es ≤ 2 ^ 31
-few_placed g n es lane few s = let a : places_after lane es ≤ counted_in place_count es = places_counted lane es in let b : counted_in place_count es ≤ n * 65536 = few_in place_count g n (place_rooms g) es s in omega arith
+pub few_placed : (guards seats : ℕ) (es : List Event) (lane : ℕ) → seats ≤ 2 ^ 15 → IsSoundHistory guards seats es →
+    places_after lane es ≤ 2 ^ 31
+few_placed g n es lane few s =
+    let a : places_after lane es ≤ counted_in place_count es = places_counted lane es in
+    let b : counted_in place_count es ≤ n * 65536 = few_in place_count g n (place_rooms g) es s in omega arith

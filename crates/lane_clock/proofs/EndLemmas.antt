@@ -27,7 +27,9 @@ first_are plan =
     let x : ℕ = plan.guards * 2 ^ 32 in
     let zeros : List ℕ = replicate n 0 in
     let long : length zeros ≡ n = length-replicate n 0 in
-    let rest : (i : ℕ) → i ≢ 0 → slice_index (first_words plan) i ≡ 0 = λ (i : ℕ) (ne : i ≢ 0). get_or-set_other (replicate n 0) 0 i x 0 ne ∙ zero_at n i in record {
+    let rest : (i : ℕ) → i ≢ 0 → slice_index (first_words plan) i ≡ 0 = λ (i : ℕ) (ne : i ≢ 0).
+    get_or-set_other (replicate n 0) 0 i x 0 ne ∙ zero_at n i in
+    record {
       count = length-set (replicate n 0) 0 x ∙ long;
       clock = get_or-set_same (replicate n 0) 0 x 0 (omega (arith, long));
       places = λ lane h. rest (place_word lane) (λ e. absurd (omega arith));
@@ -42,21 +44,26 @@ owned (suc n) m zero = refl
 owned (suc n) m (suc k) = owned n m k
 
 giver_long : (n : ℕ) → length (owns_below n n) ≡ n
-giver_long n = length-append (replicate n (known true [])) (replicate (n - n) unknown) ∙ (let a = length-replicate n (known true []) in let b = length-replicate (n - n) unknown in omega arith)
+giver_long n =
+    length-append (replicate n (known true [])) (replicate (n - n) unknown)
+    ∙ (let a = length-replicate n (known true []) in let b = length-replicate (n - n) unknown in omega arith)
 
 giver_knows : (plan : Layout) → KnowsHistory plan [] (giver plan)
 giver_knows plan = record {
   short = let h = giver_long plan.seats in omega arith;
   told = λ n. ([], sym (Rattle.std.proofs.lemmas.List.append-nil _ ∙ owned plan.seats (plan.seats - plan.seats) n));
   whole = λ n m. owned plan.seats (plan.seats - plan.seats) n;
-  width = λ n m. let i = mine_within (owns_below plan.seats plan.seats) n m in let h = giver_long plan.seats in (omega arith, h, refl);
+  width = λ n m.
+      let i = mine_within (owns_below plan.seats plan.seats) n m in
+      let h = giver_long plan.seats in (omega arith, h, refl);
 }
 
 alone : (v : View) (i : ℕ) (u : View) → get_elem? (v ∷ []) i ≡ some u → (i ≡ 0) × (v ≡ u)
 alone v zero u e = (refl, some-injective v u e)
 alone v (suc i) u e = absurd (some-ne-none u (sym e))
 
-pub starts : (plan : Layout) {S : Type 0} → plan.seats ≤ 2 ^ 15 → plan.guards < 2 ^ 15 → HasOneHistory plan {S = S} (opening (first_words plan) [] (giver plan))
+pub starts : (plan : Layout) {S : Type 0} → plan.seats ≤ 2 ^ 15 → plan.guards < 2 ^ 15 →
+    HasOneHistory plan {S = S} (opening (first_words plan) [] (giver plan))
 starts plan few small = record {
   history = [];
   few = (few, small);
@@ -67,13 +74,17 @@ starts plan few small = record {
 }
 
 -- nobody steps under a number that isn't a seat's
-none_under : (guards seats : ℕ) (es : List Event) → IsSoundHistory guards seats es → (n : ℕ) → seats ≤ n → steps_under n es ≡ []
+none_under : (guards seats : ℕ) (es : List Event) → IsSoundHistory guards seats es → (n : ℕ) → seats ≤ n →
+    steps_under n es ≡ []
 none_under g s [] sound n h = refl
-none_under g s (e ∷ es) sound n h = under_other es n e.by e.step (λ q. let l : e.by < s = sound.1 in absurd (omega arith)) ∙ none_under g s es sound.0 n h
+none_under g s (e ∷ es) sound n h =
+    under_other es n e.by e.step (λ q. let l : e.by < s = sound.1 in absurd (omega arith))
+    ∙ none_under g s es sound.0 n h
 
-pub all_known : (plan : Layout) {S : Type 0} (id n : ℕ) (v : View) (s : State S View) (kept : HasOneHistory plan {S = S} s) → get_elem? s.views id ≡ some v → (known_at v.known n).mine ≡ true
-    → ((m : ℕ) → m < v.plan.seats → (known_at v.known m).mine ≡ true)
-    → ◌≡◌ {A = ℕ → List Step} (λ m. steps_at v.known m) (λ m. steps_under m kept.history)
+pub all_known : (plan : Layout) {S : Type 0} (id n : ℕ) (v : View) (s : State S View)
+    (kept : HasOneHistory plan {S = S} s) → get_elem? s.views id ≡ some v → (known_at v.known n).mine ≡ true →
+    ((m : ℕ) → m < v.plan.seats → (known_at v.known m).mine ≡ true) →
+    ◌≡◌ {A = ℕ → List Step} (λ m. steps_at v.known m) (λ m. steps_under m kept.history)
 all_known plan id n v s kept at mine all = λ i m. each m i
   where
     knows : KnowsHistory plan kept.history v
@@ -82,14 +93,18 @@ all_known plan id n v s kept at mine all = λ i m. each m i
     each : (m : ℕ) → steps_at v.known m ≡ steps_under m kept.history
     each m = Rattle.std.proofs.Common.⊎_elim
         (λ (lt : m < plan.seats). knows.whole m (all m (subst (λ (p : Layout). m < p.seats) (sym (knows.width n mine).2) lt)))
-        (λ (ge : plan.seats ≤ m). ap (λ (k : Known). k.steps) (get_or_past v.known m unknown (subst (λ k. k ≤ m) (sym (knows.width n mine).1) ge))
+        (λ (ge : plan.seats ≤ m).
+        ap (λ (k : Known). k.steps)
+        (get_or_past v.known m unknown (subst (λ k. k ≤ m) (sym (knows.width n mine).1) ge))
         ∙ sym (none_under plan.guards plan.seats kept.history kept.sound m ge))
         (cases_lt m plan.seats)
 
 -- what the last words say, where the seat with all numbers closes
-pub closes : (plan : Layout) {S : Type 0} (id n : ℕ) (v : View) (ws : List ℕ) (xs : List S) → Final (Seen (λ s. HasOneHistory plan {S = S} s) id v) ws xs → (known_at v.known n).mine ≡ true
-    → ((m : ℕ) → m < v.plan.seats → (known_at v.known m).mine ≡ true)
-    → (words : Words) × (words.clock_word ≡ slice_index ws 0) × (words.clock_word < 2 ^ 64) × ClockRule (λ m. steps_at v.known m) words plan.guards × (plan.guards < 2 ^ 15)
+pub closes : (plan : Layout) {S : Type 0} (id n : ℕ) (v : View) (ws : List ℕ) (xs : List S) →
+    Final (Seen (λ s. HasOneHistory plan {S = S} s) id v) ws xs → (known_at v.known n).mine ≡ true →
+    ((m : ℕ) → m < v.plan.seats → (known_at v.known m).mine ≡ true) →
+    (words : Words) × (words.clock_word ≡ slice_index ws 0) × (words.clock_word < 2 ^ 64)
+    × ClockRule (λ m. steps_at v.known m) words plan.guards × (plan.guards < 2 ^ 15)
 closes plan {S} id n v ws xs final mine all =
     let s = final.0 in
     let kept = final.1.0 in
@@ -97,6 +112,8 @@ closes plan {S} id n v ws xs final mine all =
       words_after plan.guards kept.history,
       sym kept.words.clock ∙ ap (λ us. slice_index us 0) final.2,
       word_bounded plan.guards kept.few.1 kept.history,
-      subst (λ ls. ClockRule ls (words_after plan.guards kept.history) plan.guards) (sym (all_known plan id n v s kept at mine all)) (rule_of plan.guards plan.seats kept.few.1 kept.few.0 kept.history kept.sound),
+      subst (λ ls. ClockRule ls (words_after plan.guards kept.history) plan.guards)
+          (sym (all_known plan id n v s kept at mine all))
+          (rule_of plan.guards plan.seats kept.few.1 kept.few.0 kept.history kept.sound),
       kept.few.1,
     )

@@ -13,7 +13,8 @@ use Rattle.lane_clock.proofs.KnownLemmas.{event}
 use Rattle.lane_clock.proofs.MomentLemmas.{Tail, tail_more, tail_trans, sound_tail, Moment, moment_of, One, Before, order_of, in_order}
 use Rattle.lane_clock.proofs.ClockLemmas.{drawn_grows, clock_is, found_clock}
 
-module _ (guards seats : ℕ) (small : guards < 2 ^ 15) (few : seats ≤ 2 ^ 15) (es : List Event) (sound : IsSoundHistory guards seats es) where
+module _ (guards seats : ℕ) (small : guards < 2 ^ 15) (few : seats ≤ 2 ^ 15) (es : List Event)
+    (sound : IsSoundHistory guards seats es) where
   abbrev pub lists : ℕ → List Step
   lists n = steps_under n es
 
@@ -41,28 +42,37 @@ module _ (guards seats : ℕ) (small : guards < 2 ^ 15) (few : seats ≤ 2 ^ 15)
   finding m i f h = go h.0 h.1 f h.2
     where
       go : (st : Step) → get_elem? (lists m) i ≡ some st → (g : Found) → IsFinding st g → Finding m i g
-      go _ e _ (by_draw c g) = let p = moment_of es m i (Draw c g) e in record { step = Draw c g; moment = p; found = (sound_at m i (Draw c g) p).2.0; clock = draw_clock m i c g p }
-      go _ e _ (by_load g) = let p = moment_of es m i (Load g) e in record { step = Load g; moment = p; found = (sound_at m i (Load g) p).2; clock = load_clock m i g p }
+      go _ e _ (by_draw c g) =
+          let p = moment_of es m i (Draw c g) e in
+          record { step = Draw c g; moment = p; found = (sound_at m i (Draw c g) p).2.0; clock = draw_clock m i c g p }
+      go _ e _ (by_load g) =
+          let p = moment_of es m i (Load g) e in
+          record { step = Load g; moment = p; found = (sound_at m i (Load g) p).2; clock = load_clock m i g p }
 
   -- what was drawn before a moment is below what is found after a later one
   pub precedes_by : (m i n j : ℕ) (t : Step) (q : Moment es n j t)
-      → ((a : ℕ) (c : Change) (d : Found) → a < i → (p : Moment es m a (Draw c d)) → Before es m a n j (Draw c d) t p q) → Precedes lists m i n j
+      → ((a : ℕ) (c : Change) (d : Found) → a < i → (p : Moment es m a (Draw c d)) → Before es m a n j (Draw c d) t p q)
+      → Precedes lists m i n j
   precedes_by m i n j t q before a b c d f lt gt draws finds =
       let p = moment_of es m a (Draw c d) draws in
       let r = finding n b f finds in
       let x : drawn (event m (Draw c d) ∷ p.older) ≤ drawn q.older = drawn_grows _ _ (before a c d lt p) in
-      let y : drawn (event n t ∷ q.older) ≤ drawn r.moment.older = drawn_grows _ _ (in_order es n j b t r.step q r.moment gt) in
+      let y : drawn (event n t ∷ q.older) ≤ drawn r.moment.older =
+      drawn_grows _ _ (in_order es n j b t r.step q r.moment gt) in
       let k : d.clock ≡ drawn p.older = draw_clock m a c d p in
       let l : f.clock ≡ drawn r.moment.older = r.clock in
       omega arith
 
-  pub precedes : (m i n j : ℕ) (s t : Step) (p : Moment es m i s) (q : Moment es n j t) → Tail p.older q.older → Precedes lists m i n j
-  precedes m i n j s t p q h = precedes_by m i n j t q (λ a c d lt r. tail_trans _ p.older q.older (in_order es m a i (Draw c d) s r p lt) h)
+  pub precedes : (m i n j : ℕ) (s t : Step) (p : Moment es m i s) (q : Moment es n j t) → Tail p.older q.older →
+      Precedes lists m i n j
+  precedes m i n j s t p q h =
+      precedes_by m i n j t q (λ a c d lt r. tail_trans _ p.older q.older (in_order es m a i (Draw c d) s r p lt) h)
 
   pub the_clock : clock_in (words_after guards es) ≡ drawn es
   the_clock = clock_is guards seats es few sound
 
-  pub drawn_once : (m i n j : ℕ) (c d : Change) (f g : Found) → Draws lists m i c f → Draws lists n j d g → f.clock ≡ g.clock → (m ≡ n) × (i ≡ j)
+  pub drawn_once : (m i n j : ℕ) (c d : Change) (f g : Found) → Draws lists m i c f → Draws lists n j d g →
+      f.clock ≡ g.clock → (m ≡ n) × (i ≡ j)
   drawn_once m i n j c d f g hf hg e =
       let p = moment_of es m i (Draw c f) hf in
       let q = moment_of es n j (Draw d g) hg in

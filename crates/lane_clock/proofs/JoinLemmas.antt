@@ -53,7 +53,8 @@ joined_at (a ∷ as_) (b ∷ bs) zero = refl
 joined_at (a ∷ as_) (b ∷ bs) (suc n) = joined_at as_ bs n
 
 -- the more of two starts is a start, and all where one of them is
-more_told : (a b : Bool) (xs ys all : List Step) → StartOf xs all → StartOf ys all → StartOf (steps_of_more a b xs ys) all
+more_told : (a b : Bool) (xs ys all : List Step) → StartOf xs all → StartOf ys all →
+    StartOf (steps_of_more a b xs ys) all
 more_told true b xs ys all hx hy = hx
 more_told false true xs ys all hx hy = hy
 more_told false false xs ys all hx hy = go (ltb (length xs) (length ys))
@@ -63,9 +64,12 @@ more_told false false xs ys all hx hy = go (ltb (length xs) (length ys))
     go false = hx
 
 start_bound : (xs all : List Step) → StartOf xs all → length xs ≤ length all
-start_bound xs all h = let e : length all ≡ length xs + length h.0 = ap length h.1 ∙ Rattle.std.proofs.Common.length-append xs h.0 in omega arith
+start_bound xs all h =
+    let e : length all ≡ length xs + length h.0 = ap length h.1 ∙ Rattle.std.proofs.Common.length-append xs h.0 in
+    omega arith
 
-more_whole : (a b : Bool) (xs ys all : List Step) → (a || b) ≡ true → (a ≡ true → xs ≡ all) → (b ≡ true → ys ≡ all) → steps_of_more a b xs ys ≡ all
+more_whole : (a b : Bool) (xs ys all : List Step) → (a || b) ≡ true → (a ≡ true → xs ≡ all) → (b ≡ true → ys ≡ all) →
+    steps_of_more a b xs ys ≡ all
 more_whole true b xs ys all h hx hy = hx refl
 more_whole false true xs ys all h hx hy = hy refl
 more_whole false false xs ys all h hx hy = absurd (false≢true h)
@@ -79,29 +83,40 @@ joined_short : (as_ bs : List Known) (n : ℕ) → length as_ ≤ n → length b
 joined_short [] bs n ha hb = hb
 joined_short (a ∷ as_) [] n ha hb = ha
 joined_short (a ∷ as_) (b ∷ bs) zero ha hb = absurd (omega arith)
-joined_short (a ∷ as_) (b ∷ bs) (suc n) ha hb = let h : length (joined as_ bs) ≤ n = joined_short as_ bs n (omega arith) (omega arith) in omega arith
+joined_short (a ∷ as_) (b ∷ bs) (suc n) ha hb =
+    let h : length (joined as_ bs) ≤ n = joined_short as_ bs n (omega arith) (omega arith) in omega arith
 
 joined_long : (as_ bs : List Known) → length as_ ≤ length (joined as_ bs)
 joined_long [] bs = omega arith
 joined_long (a ∷ as_) [] = omega arith
 joined_long (a ∷ as_) (b ∷ bs) = let h : length as_ ≤ length (joined as_ bs) = joined_long as_ bs in omega arith
 
-module _ (plan : Layout) (es : List Event) (v w : View) (kv : KnowsHistory plan es v) (kw : KnowsHistory plan es w) (own : v.plan ≡ plan) (wide : length v.known ≡ plan.seats) where
+module _ (plan : Layout) (es : List Event) (v w : View) (kv : KnowsHistory plan es v) (kw : KnowsHistory plan es w)
+    (own : v.plan ≡ plan) (wide : length v.known ≡ plan.seats) where
   abbrev both : View
   both = view_with v (joined v.known w.known)
 
-  mine_of : (n : ℕ) → (known_at both.known n).mine ≡ true → ((known_at v.known n).mine || (known_at w.known n).mine) ≡ true
+  mine_of : (n : ℕ) → (known_at both.known n).mine ≡ true →
+      ((known_at v.known n).mine || (known_at w.known n).mine) ≡ true
   mine_of n m = ap (λ (x : Known). x.mine) (sym (joined_at v.known w.known n)) ∙ m
 
   joined_knows : KnowsHistory plan es both
   joined_knows =
-      let long : length (joined v.known w.known) ≡ plan.seats = let a = joined_short v.known w.known plan.seats kv.short kw.short in let b = joined_long v.known w.known in omega arith in record {
+      let long : length (joined v.known w.known) ≡ plan.seats =
+      let a = joined_short v.known w.known plan.seats kv.short kw.short in
+      let b = joined_long v.known w.known in omega arith in
+      record {
         short = joined_short v.known w.known plan.seats kv.short kw.short;
-        told = λ n. subst (λ (x : Known). StartOf x.steps (steps_under n es)) (sym (joined_at v.known w.known n))
-            (more_told (known_at v.known n).mine (known_at w.known n).mine (steps_at v.known n) (steps_at w.known n) (steps_under n es) (kv.told n) (kw.told n));
-        whole = λ n m. ap (λ (x : Known). x.steps) (joined_at v.known w.known n)
-            ∙ more_whole (known_at v.known n).mine (known_at w.known n).mine (steps_at v.known n) (steps_at w.known n) (steps_under n es) (mine_of n m) (kv.whole n) (kw.whole n);
-        width = λ n m. (⊎_elim (λ h. (kv.width n h).0) (λ h. (kw.width n h).0) (from_either _ _ (mine_of n m)), long, own);
+        told = λ n.
+            subst (λ (x : Known). StartOf x.steps (steps_under n es)) (sym (joined_at v.known w.known n))
+            (more_told (known_at v.known n).mine (known_at w.known n).mine (steps_at v.known n) (steps_at w.known n)
+            (steps_under n es) (kv.told n) (kw.told n));
+        whole = λ n m.
+            ap (λ (x : Known). x.steps) (joined_at v.known w.known n)
+            ∙ more_whole (known_at v.known n).mine (known_at w.known n).mine (steps_at v.known n) (steps_at w.known n)
+            (steps_under n es) (mine_of n m) (kv.whole n) (kw.whole n);
+        width = λ n m.
+            (⊎_elim (λ h. (kv.width n h).0) (λ h. (kw.width n h).0) (from_either _ _ (mine_of n m)), long, own);
       }
 
 spent_knows : (plan : Layout) (es : List Event) → KnowsHistory plan es spent
@@ -112,7 +127,8 @@ spent_knows plan es = record {
   width = λ n m. absurd (false≢true m);
 }
 
-module _ (plan : Layout) {S : Type 0} (id : ℕ) (v : View) (other : ℕ) (w : View) (mine : (known_at v.known v.number).mine ≡ true) (s : State S View) (kept : HasOneHistory plan {S = S} s)
+module _ (plan : Layout) {S : Type 0} (id : ℕ) (v : View) (other : ℕ) (w : View)
+    (mine : (known_at v.known v.number).mine ≡ true) (s : State S View) (kept : HasOneHistory plan {S = S} s)
     (at : get_elem? s.views id ≡ some v) (apart : other ≢ id) (there : get_elem? s.views other ≡ some w) where
   abbrev together : View
   together = view_with v (joined v.known w.known)
@@ -138,9 +154,13 @@ module _ (plan : Layout) {S : Type 0} (id : ℕ) (v : View) (other : ℕ) (w : V
       dite_no (yes p) = absurd (ne p)
       dite_no (no n) = refl
 
-  cases : (j : ℕ) (u : View) → get_elem? merged j ≡ some u → ((j ≡ other) × (spent ≡ u)) ⊎ (((j ≡ id) × (together ≡ u)) ⊎ ((j ≢ other) × (j ≢ id) × (get_elem? s.views j ≡ some u)))
+  cases : (j : ℕ) (u : View) → get_elem? merged j ≡ some u →
+      ((j ≡ other) × (spent ≡ u))
+      ⊎ (((j ≡ id) × (together ≡ u)) ⊎ ((j ≢ other) × (j ≢ id) × (get_elem? s.views j ≡ some u)))
   cases j u e = ⊎_elim (λ h. inl h)
-      (λ (h : (j ≢ other) × (get_elem? (set s.views id together) j ≡ some u)). ⊎_elim (λ x. inr (inl x)) (λ (x : (j ≢ id) × (get_elem? s.views j ≡ some u)). inr (inr (h.0, x.0, x.1))) (at_set s.views id j together u h.1))
+      (λ (h : (j ≢ other) × (get_elem? (set s.views id together) j ≡ some u)).
+      ⊎_elim (λ x. inr (inl x)) (λ (x : (j ≢ id) × (get_elem? s.views j ≡ some u)). inr (inr (h.0, x.0, x.1)))
+      (at_set s.views id j together u h.1))
       (at_set (set s.views id together) other j spent u e)
 
   was : (j n : ℕ) (u : View) → get_elem? merged j ≡ some u → (known_at u.known n).mine ≡ true
@@ -166,7 +186,9 @@ module _ (plan : Layout) {S : Type 0} (id : ℕ) (v : View) (other : ℕ) (w : V
         each = λ j u e. ⊎_elim
             (λ (h : (j ≡ other) × (spent ≡ u)). subst (KnowsHistory plan kept.history) h.1 (spent_knows plan kept.history))
             (λ more. ⊎_elim
-            (λ (h : (j ≡ id) × (together ≡ u)). subst (KnowsHistory plan kept.history) h.1 (joined_knows plan kept.history v w (kept.each id v at) (kept.each other w there) width.2 width.1))
+            (λ (h : (j ≡ id) × (together ≡ u)).
+            subst (KnowsHistory plan kept.history) h.1
+            (joined_knows plan kept.history v w (kept.each id v at) (kept.each other w there) width.2 width.1))
             (λ (h : (j ≢ other) × (j ≢ id) × (get_elem? s.views j ≡ some u)). kept.each j u h.2)
             more)
             (cases j u e);
@@ -175,24 +197,40 @@ module _ (plan : Layout) {S : Type 0} (id : ℕ) (v : View) (other : ℕ) (w : V
             a.4 ∙ (ap heir (kept.apart a.0 b.0 n a.1 b.1 a.2 b.2 a.3 b.3) ∙ sym b.4);
       }
 
-pub may_join : (plan : Layout) {S : Type 0} (id : ℕ) (v : View) (other : ℕ) (w : View) → (known_at v.known v.number).mine ≡ true → Joins (λ s. HasOneHistory plan {S = S} s) id v other w (join_view v w.known) spent
+pub may_join : (plan : Layout) {S : Type 0} (id : ℕ) (v : View) (other : ℕ) (w : View) →
+    (known_at v.known v.number).mine ≡ true →
+    Joins (λ s. HasOneHistory plan {S = S} s) id v other w (join_view v w.known) spent
 may_join plan {S} id v other w mine s kept at apart later =
-    let there : get_elem? s.views other ≡ some w = sym (set_else s.views id other (join_view v w.known) apart) ∙ later in
+    let there : get_elem? s.views other ≡ some w =
+    sym (set_else s.views id other (join_view v w.known) apart) ∙ later in
     let v' : View = view_with v (joined v.known w.known) in
     let merged : List View = set (set s.views id v') other spent in
     let kept' = merge_keeps plan id v other w mine s kept at apart there in
-    let here : get_elem? merged id ≡ some v' = set_else (set s.views id v') other id spent (λ q. apart (sym q)) ∙ set_here s.views id v' (at_within s.views id v at) in
-    let mine' : (known_at v'.known v'.number).mine ≡ true = ap (λ (x : Known). x.mine) (joined_at v.known w.known v.number) ∙ ap (λ b. b || (known_at w.known v.number).mine) mine in
+    let here : get_elem? merged id ≡ some v' =
+    set_else (set s.views id v') other id spent (λ q. apart (sym q))
+    ∙ set_here s.views id v' (at_within s.views id v at) in
+    let mine' : (known_at v'.known v'.number).mine ≡ true =
+    ap (λ (x : Known). x.mine) (joined_at v.known w.known v.number)
+    ∙ ap (λ b. b || (known_at w.known v.number).mine) mine in
     let fits : (m : ℕ) → slice_index (counts w.known) m ≤ length (steps_under m kept.history)
-    = λ m. subst (λ k. k ≤ length (steps_under m kept.history)) (sym (get_or-map (λ (k : Known). length k.steps) w.known m Rattle.lane_clock.specs.Knowledge.unknown)) (start_bound (steps_at w.known m) (steps_under m kept.history) ((kept.each other w there).told m)) in
-    let done = steps_keep plan record { words = s.words; homes = s.homes; views = merged } kept' id v' here (Join (counts w.known)) s.words s.homes mine' fits (joined_words plan kept.history s.words kept.words v.number (counts w.known)) in
+    = λ m.
+    subst (λ k. k ≤ length (steps_under m kept.history))
+    (sym (get_or-map (λ (k : Known). length k.steps) w.known m Rattle.lane_clock.specs.Knowledge.unknown))
+    (start_bound (steps_at w.known m) (steps_under m kept.history) ((kept.each other w there).told m)) in
+    let done =
+    steps_keep plan record { words = s.words; homes = s.homes; views = merged } kept' id v' here (Join (counts w.known))
+    s.words s.homes mine' fits (joined_words plan kept.history s.words kept.words v.number (counts w.known)) in
     let views : set merged id (join_view v w.known) ≡ set (set s.views id (join_view v w.known)) other spent
-    = set_comm (set s.views id v') other id spent (join_view v w.known) apart ∙ ap (λ vs. set vs other spent) (set-set s.views id v' (join_view v w.known)) in
+    =
+    set_comm (set s.views id v') other id spent (join_view v w.known) apart
+    ∙ ap (λ vs. set vs other spent) (set-set s.views id v' (join_view v w.known)) in
     subst (λ (vs : List View). HasOneHistory plan {S = S} record { words = s.words; homes = s.homes; views = vs }) views done
 
 -- the seat that takes in another keeps its own number
-pub join_mine : (v : View) (ks : List Known) → (known_at v.known v.number).mine ≡ true → (known_at (join_view v ks).known v.number).mine ≡ true
+pub join_mine : (v : View) (ks : List Known) → (known_at v.known v.number).mine ≡ true →
+    (known_at (join_view v ks).known v.number).mine ≡ true
 join_mine v ks mine =
     let both : List Known = joined v.known ks in
-    let mine' : (known_at both v.number).mine ≡ true = ap (λ (x : Known). x.mine) (joined_at v.known ks v.number) ∙ ap (λ b. b || (known_at ks v.number).mine) mine in
+    let mine' : (known_at both v.number).mine ≡ true =
+    ap (λ (x : Known). x.mine) (joined_at v.known ks v.number) ∙ ap (λ b. b || (known_at ks v.number).mine) mine in
     stepped_mine both v.number v.number (Join (counts ks)) (mine_within both v.number mine') ∙ mine'

@@ -23,9 +23,12 @@ start_longer xs all x h = (h.0 ++ x ∷ [], ap (λ ys. ys ++ x ∷ []) h.1 ∙ a
 pub start_same : (xs all : List Step) → xs ≡ all → StartOf xs all
 start_same xs all e = ([], sym e ∙ sym (append-nil xs))
 
-pub start_under : (xs : List Step) (es : List Event) (n m : ℕ) (st : Step) → StartOf xs (steps_under n es) → StartOf xs (steps_under n (event m st ∷ es))
+pub start_under : (xs : List Step) (es : List Event) (n m : ℕ) (st : Step) → StartOf xs (steps_under n es) →
+    StartOf xs (steps_under n (event m st ∷ es))
 start_under xs es n m st h = dite (ℕ_discrete n m)
-    (λ (e : n ≡ m). subst (λ (k : ℕ). StartOf xs (steps_under n (event k st ∷ es))) e (subst (StartOf xs) (sym (under_same es n st)) (start_longer xs (steps_under n es) st h)))
+    (λ (e : n ≡ m).
+    subst (λ (k : ℕ). StartOf xs (steps_under n (event k st ∷ es))) e
+    (subst (StartOf xs) (sym (under_same es n st)) (start_longer xs (steps_under n es) st h)))
     (λ ne. subst (StartOf xs) (sym (under_other es n m st ne)) h)
 
 module _ (plan : Layout) (es : List Event) (v : View) (st : Step) (knows : KnowsHistory plan es v) where
@@ -34,7 +37,9 @@ module _ (plan : Layout) (es : List Event) (v : View) (st : Step) (knows : Knows
   others_know n not_mine = record {
     short = knows.short;
     told = λ m. start_under (steps_at v.known m) es m n st (knows.told m);
-    whole = λ m mine. knows.whole m mine ∙ sym (under_other es m n st (λ e. not_mine (subst (λ k. (known_at v.known k).mine ≡ true) e mine)));
+    whole = λ m mine.
+        knows.whole m mine
+        ∙ sym (under_other es m n st (λ e. not_mine (subst (λ k. (known_at v.known k).mine ≡ true) e mine)));
     width = knows.width;
   }
 
@@ -42,22 +47,37 @@ module _ (plan : Layout) (es : List Event) (v : View) (st : Step) (knows : Knows
   pub own_known : (known_at v.known v.number).mine ≡ true → KnowsHistory plan (event v.number st ∷ es) (step_view v st)
   own_known mine =
       let i : v.number < length v.known = mine_within v.known v.number mine in
-      let here : steps_at (stepped_at v.known v.number st) v.number ≡ steps_under v.number (event v.number st ∷ es) = ap (λ (k : Known). k.steps) (stepped_here v.known v.number st i) ∙ (ap (λ xs. xs ++ st ∷ []) (knows.whole v.number mine) ∙ sym (under_same es v.number st)) in
-      let was : (m : ℕ) → (known_at (stepped_at v.known v.number st) m).mine ≡ true → (known_at v.known m).mine ≡ true = λ m h. sym (stepped_mine v.known v.number m st i) ∙ h in
+      let here : steps_at (stepped_at v.known v.number st) v.number ≡ steps_under v.number (event v.number st ∷ es) =
+      ap (λ (k : Known). k.steps) (stepped_here v.known v.number st i)
+      ∙ (ap (λ xs. xs ++ st ∷ []) (knows.whole v.number mine) ∙ sym (under_same es v.number st)) in
+      let was : (m : ℕ) → (known_at (stepped_at v.known v.number st) m).mine ≡ true → (known_at v.known m).mine ≡ true =
+      λ m h. sym (stepped_mine v.known v.number m st i) ∙ h in
       record {
         short = subst (λ k. k ≤ plan.seats) (sym (length-set v.known v.number _)) knows.short;
         told = λ m. dite (ℕ_discrete m v.number)
-            (λ (e : m ≡ v.number). subst (λ k. StartOf (steps_at (stepped_at v.known v.number st) k) (steps_under k (event v.number st ∷ es))) (sym e) (start_same _ _ here))
-            (λ ne. subst (λ (k : Known). StartOf k.steps (steps_under m (event v.number st ∷ es))) (sym (stepped_other v.known v.number m st ne)) (start_under (steps_at v.known m) es m v.number st (knows.told m)));
+            (λ (e : m ≡ v.number).
+            subst
+            (λ k. StartOf (steps_at (stepped_at v.known v.number st) k) (steps_under k (event v.number st ∷ es)))
+            (sym e) (start_same _ _ here))
+            (λ ne.
+            subst (λ (k : Known). StartOf k.steps (steps_under m (event v.number st ∷ es)))
+            (sym (stepped_other v.known v.number m st ne))
+            (start_under (steps_at v.known m) es m v.number st (knows.told m)));
         whole = λ m h. dite (ℕ_discrete m v.number)
-            (λ (e : m ≡ v.number). subst (λ k. steps_at (stepped_at v.known v.number st) k ≡ steps_under k (event v.number st ∷ es)) (sym e) here)
-            (λ ne. ap (λ (k : Known). k.steps) (stepped_other v.known v.number m st ne) ∙ (knows.whole m (was m h) ∙ sym (under_other es m v.number st ne)));
+            (λ (e : m ≡ v.number).
+            subst (λ k. steps_at (stepped_at v.known v.number st) k ≡ steps_under k (event v.number st ∷ es))
+            (sym e) here)
+            (λ ne.
+            ap (λ (k : Known). k.steps) (stepped_other v.known v.number m st ne)
+            ∙ (knows.whole m (was m h) ∙ sym (under_other es m v.number st ne)));
         width = λ m h. let w = knows.width m (was m h) in (w.0, length-set v.known v.number _ ∙ w.1, w.2);
       }
 
-module _ (plan : Layout) {S : Type 0} (s : State S View) (kept : HasOneHistory plan s) (id : ℕ) (v : View) (at : get_elem? s.views id ≡ some v) where
+module _ (plan : Layout) {S : Type 0} (s : State S View) (kept : HasOneHistory plan s) (id : ℕ) (v : View)
+    (at : get_elem? s.views id ≡ some v) where
   -- no other seat has a number of this one
-  pub not_theirs : (j n : ℕ) (u : View) → j ≢ id → get_elem? s.views j ≡ some u → (known_at v.known n).mine ≡ true → (known_at u.known n).mine ≡ true → ⊥
+  pub not_theirs : (j n : ℕ) (u : View) → j ≢ id → get_elem? s.views j ≡ some u → (known_at v.known n).mine ≡ true →
+      (known_at u.known n).mine ≡ true → ⊥
   not_theirs j n u ne there mine theirs = ne (kept.apart j id n u v there at theirs mine)
 
   pub steps_keep : (st : Step) (ws : List ℕ) (hs : List (Option S)) → (known_at v.known v.number).mine ≡ true
@@ -67,9 +87,16 @@ module _ (plan : Layout) {S : Type 0} (s : State S View) (kept : HasOneHistory p
   steps_keep st ws hs mine fits words =
       let knows = kept.each id v at in
       let i : v.number < length v.known = mine_within v.known v.number mine in
-      let was : (j : ℕ) (u : View) → get_elem? (set s.views id (step_view v st)) j ≡ some u → (old : View) × (get_elem? s.views j ≡ some old) × ((n : ℕ) → (known_at u.known n).mine ≡ true → (known_at old.known n).mine ≡ true)
+      let was : (j : ℕ) (u : View) → get_elem? (set s.views id (step_view v st)) j ≡ some u →
+      (old : View) × (get_elem? s.views j ≡ some old)
+      × ((n : ℕ) → (known_at u.known n).mine ≡ true → (known_at old.known n).mine ≡ true)
       = λ j u e. ⊎_elim
-      (λ (t : (j ≡ id) × (step_view v st ≡ u)). (v, subst (λ k. get_elem? s.views k ≡ some v) (sym t.0) at, λ n h. sym (stepped_mine v.known v.number n st i) ∙ (ap (λ (w : View). (known_at w.known n).mine) t.1 ∙ h)))
+      (λ (t : (j ≡ id) × (step_view v st ≡ u)). (
+        v,
+        subst (λ k. get_elem? s.views k ≡ some v) (sym t.0) at,
+        λ n h.
+            sym (stepped_mine v.known v.number n st i) ∙ (ap (λ (w : View). (known_at w.known n).mine) t.1 ∙ h),
+      ))
       (λ (t : (j ≢ id) × (get_elem? s.views j ≡ some u)). (u, t.1, λ n h. h))
       (at_set s.views id j (step_view v st) u e) in
       record {
@@ -78,8 +105,11 @@ module _ (plan : Layout) {S : Type 0} (s : State S View) (kept : HasOneHistory p
         sound = (kept.sound, (knows.width v.number mine).0, fits);
         words = words;
         each = λ j u e. ⊎_elim
-            (λ (t : (j ≡ id) × (step_view v st ≡ u)). subst (KnowsHistory plan (event v.number st ∷ kept.history)) t.1 (own_known plan kept.history v st knows mine))
-            (λ (t : (j ≢ id) × (get_elem? s.views j ≡ some u)). others_know plan kept.history u st (kept.each j u t.1) v.number (not_theirs j v.number u t.0 t.1 mine))
+            (λ (t : (j ≡ id) × (step_view v st ≡ u)).
+            subst (KnowsHistory plan (event v.number st ∷ kept.history)) t.1
+            (own_known plan kept.history v st knows mine))
+            (λ (t : (j ≢ id) × (get_elem? s.views j ≡ some u)).
+            others_know plan kept.history u st (kept.each j u t.1) v.number (not_theirs j v.number u t.0 t.1 mine))
             (at_set s.views id j (step_view v st) u e);
         apart = λ a b n x y ea eb ma mb.
             let p = was a x ea in let q = was b y eb in

@@ -17,7 +17,8 @@ module _ {A : Type 0} where
   at_within (y ∷ xs) (suc i) x e = let h : i < length xs = at_within xs i x e in omega arith
 
   -- an element of a longer list is one of the list, or the last
-  pub at_push : (xs : List A) (a b : A) (i : ℕ) → get_elem? (xs ++ a ∷ []) i ≡ some b → (get_elem? xs i ≡ some b) ⊎ ((i ≡ length xs) × (a ≡ b))
+  pub at_push : (xs : List A) (a b : A) (i : ℕ) → get_elem? (xs ++ a ∷ []) i ≡ some b →
+      (get_elem? xs i ≡ some b) ⊎ ((i ≡ length xs) × (a ≡ b))
   at_push [] a b zero e = inr (refl, some-injective a b e)
   at_push [] a b (suc i) e = absurd (some-ne-none b (sym e))
   at_push (x ∷ xs) a b zero e = inl e
@@ -29,16 +30,20 @@ mine_within [] n h = absurd (cc)
 mine_within (k ∷ ks) zero h = omega arith
 mine_within (k ∷ ks) (suc n) h = let i : n < length ks = mine_within ks n h in omega arith
 
-pub stepped_here : (ks : List Known) (n : ℕ) (st : Step) → n < length ks → known_at (stepped_at ks n st) n ≡ longer_by (known_at ks n) st
+pub stepped_here : (ks : List Known) (n : ℕ) (st : Step) → n < length ks →
+    known_at (stepped_at ks n st) n ≡ longer_by (known_at ks n) st
 stepped_here ks n st i = get_or-set_same ks n (longer_by (known_at ks n) st) unknown i
 
 pub stepped_other : (ks : List Known) (n m : ℕ) (st : Step) → m ≢ n → known_at (stepped_at ks n st) m ≡ known_at ks m
 stepped_other ks n m st ne = get_or-set_other ks n m (longer_by (known_at ks n) st) unknown ne
 
 -- one more step leaves what is one's own
-pub stepped_mine : (ks : List Known) (n m : ℕ) (st : Step) → n < length ks → (known_at (stepped_at ks n st) m).mine ≡ (known_at ks m).mine
+pub stepped_mine : (ks : List Known) (n m : ℕ) (st : Step) → n < length ks →
+    (known_at (stepped_at ks n st) m).mine ≡ (known_at ks m).mine
 stepped_mine ks n m st i = dite (ℕ_discrete m n)
-    (λ (e : m ≡ n). subst (λ (x : ℕ). (known_at (stepped_at ks n st) x).mine ≡ (known_at ks x).mine) (sym e) (ap (λ (k : Known). k.mine) (stepped_here ks n st i)))
+    (λ (e : m ≡ n).
+    subst (λ (x : ℕ). (known_at (stepped_at ks n st) x).mine ≡ (known_at ks x).mine) (sym e)
+    (ap (λ (k : Known). k.mine) (stepped_here ks n st i)))
     (λ ne. ap (λ (k : Known). k.mine) (stepped_other ks n m st ne))
 
 abbrev pub event : ℕ → Step → Event

@@ -23,7 +23,9 @@ code_back code.Bad = refl
 code_back code.Broken = refl
 code_back code.Reset = refl
 
-parts : (op c size : ℕ) → op < 65535 → c < 256 → size < 2 ^ 32 → let w : ℕ = 1 + op + 65536 * c + 16777216 * size in ((w - 1) % 65536 ≡ op) × ((w - 1) / 65536 % 256 ≡ c) × ((w - 1) / 16777216 % 2 ^ 32 ≡ size)
+parts : (op c size : ℕ) → op < 65535 → c < 256 → size < 2 ^ 32 → let w : ℕ =
+    1 + op + 65536 * c + 16777216 * size in ((w - 1) % 65536 ≡ op) × ((w - 1) / 65536 % 256 ≡ c)
+    × ((w - 1) / 16777216 % 2 ^ 32 ≡ size)
 parts op c size ho hc hs = (omega arith, omega arith, omega arith)
 
 pub note_of-note_word : (note : Note) → IsNote note → note_of (note_word (Some note)) ≡ Some note

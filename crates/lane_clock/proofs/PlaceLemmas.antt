@@ -21,7 +21,8 @@ use Rattle.lane_clock.proofs.CountLemmas.{few_placed}
 use Rattle.lane_clock.proofs.PartLemmas.{places_once, cells_once}
 
 -- what is drawn stands among the steps, and what is put is among what was put
-pub drawn_at : (lane place : ℕ) (ss : List own.Step) → has_drawn lane place ss ≡ true → (i : ℕ) × (get_elem? ss i ≡ some (Place lane place))
+pub drawn_at : (lane place : ℕ) (ss : List own.Step) → has_drawn lane place ss ≡ true →
+    (i : ℕ) × (get_elem? ss i ≡ some (Place lane place))
 drawn_at lane place [] h = absurd (false≢true h)
 drawn_at lane place (s ∷ ss) h = go (drawn_at lane place ss) s (is_place lane place s) refl h
   where
@@ -38,24 +39,32 @@ drawn_at lane place (s ∷ ss) h = go (drawn_at lane place ss) s (is_place lane 
     is_it (Look at p held) e = absurd (false≢true e)
     is_it (Join counts) e = absurd (false≢true e)
 
-    go : (has_drawn lane place ss ≡ true → (i : ℕ) × (get_elem? ss i ≡ some (Place lane place))) → (t : own.Step) (b : Bool) → is_place lane place t ≡ b → (b || has_drawn lane place ss) ≡ true → (i : ℕ) × (get_elem? (t ∷ ss) i ≡ some (Place lane place))
+    go : (has_drawn lane place ss ≡ true → (i : ℕ) × (get_elem? ss i ≡ some (Place lane place))) →
+        (t : own.Step) (b : Bool) → is_place lane place t ≡ b → (b || has_drawn lane place ss) ≡ true →
+        (i : ℕ) × (get_elem? (t ∷ ss) i ≡ some (Place lane place))
     go back t true e q = (0, ap some (is_it t e))
     go back t false e q = let r = back q in (suc r.0, r.1)
 
-pub put_seen : (lane place : ℕ) (note : Note) (ss : List own.Step) (i : ℕ) → get_elem? ss i ≡ some (Put lane place note) → has_put lane place ss ≡ true
+pub put_seen : (lane place : ℕ) (note : Note) (ss : List own.Step) (i : ℕ) →
+    get_elem? ss i ≡ some (Put lane place note) → has_put lane place ss ≡ true
 put_seen lane place note [] i e = absurd (some-ne-none _ (sym e))
-put_seen lane place note (s ∷ ss) Prim.Native.Nat.zero e = ap (λ (t : own.Step). is_put lane place t || has_put lane place ss) (some-injective s (Put lane place note) e) ∙ rw (eq-eqb lane lane refl, eq-eqb place place refl) refl
-put_seen lane place note (s ∷ ss) (suc i) e = ap (λ b. is_put lane place s || b) (put_seen lane place note ss i e) ∙ or_true (is_put lane place s)
+put_seen lane place note (s ∷ ss) Prim.Native.Nat.zero e =
+    ap (λ (t : own.Step). is_put lane place t || has_put lane place ss) (some-injective s (Put lane place note) e)
+    ∙ rw (eq-eqb lane lane refl, eq-eqb place place refl) refl
+put_seen lane place note (s ∷ ss) (suc i) e =
+    ap (λ b. is_put lane place s || b) (put_seen lane place note ss i e) ∙ or_true (is_put lane place s)
   where
     or_true : (b : Bool) → (b || true) ≡ true
     or_true true = refl
     or_true false = refl
 
-pub put_at : (lane place : ℕ) (ss : List own.Step) → has_put lane place ss ≡ true → (i : ℕ) × (note : Note) × (get_elem? ss i ≡ some (Put lane place note))
+pub put_at : (lane place : ℕ) (ss : List own.Step) → has_put lane place ss ≡ true →
+    (i : ℕ) × (note : Note) × (get_elem? ss i ≡ some (Put lane place note))
 put_at lane place [] h = absurd (false≢true h)
 put_at lane place (s ∷ ss) h = go (put_at lane place ss) s (is_put lane place s) refl h
   where
-    same : (at p : ℕ) (note : Note) (b c : Bool) → eqb lane at ≡ b → eqb place p ≡ c → (b && c) ≡ true → Put at p note ≡ Put lane place note
+    same : (at p : ℕ) (note : Note) (b c : Bool) → eqb lane at ≡ b → eqb place p ≡ c → (b && c) ≡ true →
+        Put at p note ≡ Put lane place note
     same at p note true true f g e = λ i. Put (sym (eqb-true lane at f) i) (sym (eqb-true place p g) i) note
     same at p note true false f g e = absurd (false≢true e)
     same at p note false c f g e = absurd (false≢true e)
@@ -68,20 +77,25 @@ put_at lane place (s ∷ ss) h = go (put_at lane place ss) s (is_put lane place 
     is_it (Look at p held) e = absurd (false≢true e)
     is_it (Join counts) e = absurd (false≢true e)
 
-    go : (has_put lane place ss ≡ true → (i : ℕ) × (note : Note) × (get_elem? ss i ≡ some (Put lane place note))) → (t : own.Step) (b : Bool) → is_put lane place t ≡ b → (b || has_put lane place ss) ≡ true → (i : ℕ) × (note : Note) × (get_elem? (t ∷ ss) i ≡ some (Put lane place note))
+    go : (has_put lane place ss ≡ true → (i : ℕ) × (note : Note) × (get_elem? ss i ≡ some (Put lane place note))) →
+        (t : own.Step) (b : Bool) → is_put lane place t ≡ b → (b || has_put lane place ss) ≡ true →
+        (i : ℕ) × (note : Note) × (get_elem? (t ∷ ss) i ≡ some (Put lane place note))
     go back t true e q = let r = is_it t e in (0, r.0, ap some r.1)
     go back t false e q = let r = back q in (suc r.0, r.1, r.2)
 
 -- a cell holds a note that it can hold
-pub held_is : (guards seats lane place : ℕ) (es : List Event) → IsSoundHistory guards seats es → IsHeld (cell_after lane place es)
+pub held_is : (guards seats lane place : ℕ) (es : List Event) → IsSoundHistory guards seats es →
+    IsHeld (cell_after lane place es)
 held_is g s lane place [] sound = tt
 held_is g s lane place (e ∷ es) sound = go e.step sound.2 (held_is g s lane place es sound.0)
   where
-    either : (b : Bool) (note : Note) (held : Option Note) → IsNote note → IsHeld held → IsHeld (cond b (Some note) held)
+    either : (b : Bool) (note : Note) (held : Option Note) → IsNote note → IsHeld held →
+        IsHeld (cond b (Some note) held)
     either true note held h k = h
     either false note held h k = k
 
-    go : (st : own.Step) → Fits g es e.by st → IsHeld (cell_after lane place es) → IsHeld (cell_with lane place st (cell_after lane place es))
+    go : (st : own.Step) → Fits g es e.by st → IsHeld (cell_after lane place es) →
+        IsHeld (cell_with lane place st (cell_after lane place es))
     go (Draw c f) fits h = h
     go (Load f) fits h = h
     go (Place at p) fits h = h
@@ -91,7 +105,9 @@ held_is g s lane place (e ∷ es) sound = go e.step sound.2 (held_is g s lane pl
 
 module _ (plan : Layout) {S : Type 0} (s : State S View) (kept : HasOneHistory plan {S = S} s) where
   -- a cell whose place was drawn under a number and not put under it is empty
-  empty_yet : (n lane place : ℕ) → has_drawn lane place (steps_under n kept.history) ≡ true → has_put lane place (steps_under n kept.history) ≡ false → (held : Option Note) → cell_after lane place kept.history ≡ held → held ≡ None
+  empty_yet : (n lane place : ℕ) → has_drawn lane place (steps_under n kept.history) ≡ true →
+      has_put lane place (steps_under n kept.history) ≡ false → (held : Option Note) →
+      cell_after lane place kept.history ≡ held → held ≡ None
   empty_yet n lane place drew fresh None e = refl
   empty_yet n lane place drew fresh (Some note) e =
       let cells = cells_once plan.guards plan.seats kept.few.1 kept.few.0 kept.history kept.sound in
@@ -104,18 +120,23 @@ module _ (plan : Layout) {S : Type 0} (s : State S View) (kept : HasOneHistory p
       absurd (false≢true (sym fresh ∙ put_seen lane place note (steps_under n kept.history) put.1 here))
 
   -- the next place of a lane wasn't put
-  next_fresh : (n lane : ℕ) (b : Bool) → has_put lane (places_after lane kept.history) (steps_under n kept.history) ≡ b → b ≡ false
+  next_fresh : (n lane : ℕ) (b : Bool) →
+      has_put lane (places_after lane kept.history) (steps_under n kept.history) ≡ b → b ≡ false
   next_fresh n lane false e = refl
   next_fresh n lane true e =
       let next : ℕ = places_after lane kept.history in
       let put = put_at lane next (steps_under n kept.history) e in
-      let placed = (cells_once plan.guards plan.seats kept.few.1 kept.few.0 kept.history kept.sound).placed n put.0 lane next put.1 put.2 in
-      let below : next < next = (places_once plan.guards plan.seats kept.few.1 kept.few.0 kept.history kept.sound).below n placed.0 lane next placed.2 in
+      let placed =
+      (cells_once plan.guards plan.seats kept.few.1 kept.few.0 kept.history kept.sound).placed n put.0 lane next put.1 put.2 in
+      let below : next < next =
+      (places_once plan.guards plan.seats kept.few.1 kept.few.0 kept.history kept.sound).below n placed.0 lane next placed.2 in
       absurd (omega arith)
 
-module _ (plan : Layout) {S : Type 0} (slots id : ℕ) (me : Me S View) (mine : (known_at me.0.known me.0.number).mine ≡ true) where
+module _ (plan : Layout) {S : Type 0} (slots id : ℕ) (me : Me S View)
+    (mine : (known_at me.0.known me.0.number).mine ≡ true) where
   pub may_place : (lane : ℕ) → lane < length plan.cells → counted place_count (steps_at me.0.known me.0.number) < 65536
-      → Allows (λ s. HasOneHistory plan {S = S} s) slots id me (1 + lane) (λ n. (n + 1) % 2 ^ 64) (places (step slots (1 + lane) 1 0 none) me)
+      → Allows (λ s. HasOneHistory plan {S = S} s) slots id me (1 + lane) (λ n. (n + 1) % 2 ^ 64)
+      (places (step slots (1 + lane) 1 0 none) me)
   may_place lane inside room s kept homes at small =
       let found : ℕ = slice_index s.words (1 + lane) in
       let whole = (kept.each id me.0 at).whole me.0.number mine in
@@ -133,26 +154,34 @@ module _ (plan : Layout) {S : Type 0} (slots id : ℕ) (me : Me S View) (mine : 
         (ap (λ x. (step_view me.0 (Place x found), me.1)) (sym back), fresh),
       )
 
-  cell_lane : (lane place : ℕ) → place < slice_index plan.cells lane → lane_of_cell plan.cells (cell_word plan.cells lane place) ≡ lane
+  cell_lane : (lane place : ℕ) → place < slice_index plan.cells lane →
+      lane_of_cell plan.cells (cell_word plan.cells lane place) ≡ lane
   cell_lane lane place inside =
       let k : ℕ = slot plan.cells lane place in
       let e : 1 + length plan.cells + k - (1 + length plan.cells) ≡ k = omega arith in
       ap (slot_lane plan.cells) e ∙ slot_lane-slot plan.cells lane place inside
 
-  cell_place : (lane place : ℕ) → place < slice_index plan.cells lane → place_of_cell plan.cells (cell_word plan.cells lane place) ≡ place
+  cell_place : (lane place : ℕ) → place < slice_index plan.cells lane →
+      place_of_cell plan.cells (cell_word plan.cells lane place) ≡ place
   cell_place lane place inside =
       let k : ℕ = slot plan.cells lane place in
       let e : 1 + length plan.cells + k - (1 + length plan.cells) ≡ k = omega arith in
       ap (slot_place plan.cells) e ∙ slot_place-slot plan.cells lane place inside
 
-  pub may_look : (lane place word : ℕ) → place < slice_index plan.cells lane → word ≡ cell_word plan.cells lane place → me.0.plan ≡ plan
-      → Allows (λ s. HasOneHistory plan {S = S} s) slots id me word (λ n. n) (looks (step slots word 0 0 none) me)
+  pub may_look : (lane place word : ℕ) → place < slice_index plan.cells lane → word ≡ cell_word plan.cells lane place →
+      me.0.plan ≡ plan →
+      Allows (λ s. HasOneHistory plan {S = S} s) slots id me word (λ n. n) (looks (step slots word 0 0 none) me)
   may_look lane place word inside is own s kept homes at small =
       let found : ℕ = slice_index s.words word in
-      let holds : found ≡ note_word (cell_after lane place kept.history) = ap (slice_index s.words) is ∙ kept.words.cells lane place inside in
-      let held : note_of found ≡ cell_after lane place kept.history = ap note_of holds ∙ held_back (cell_after lane place kept.history) (held_is plan.guards plan.seats lane place kept.history kept.sound) in
-      let l : lane_of_cell me.0.plan.cells word ≡ lane = (λ i. lane_of_cell (own i).cells (is i)) ∙ cell_lane lane place inside in
-      let p : place_of_cell me.0.plan.cells word ≡ place = (λ i. place_of_cell (own i).cells (is i)) ∙ cell_place lane place inside in (
+      let holds : found ≡ note_word (cell_after lane place kept.history) =
+      ap (slice_index s.words) is ∙ kept.words.cells lane place inside in
+      let held : note_of found ≡ cell_after lane place kept.history =
+      ap note_of holds
+      ∙ held_back (cell_after lane place kept.history) (held_is plan.guards plan.seats lane place kept.history kept.sound) in
+      let l : lane_of_cell me.0.plan.cells word ≡ lane =
+      (λ i. lane_of_cell (own i).cells (is i)) ∙ cell_lane lane place inside in
+      let p : place_of_cell me.0.plan.cells word ≡ place =
+      (λ i. place_of_cell (own i).cells (is i)) ∙ cell_place lane place inside in (
         step_view me.0 (Look lane place (note_of found)),
         keeps,
         tt,
@@ -161,21 +190,39 @@ module _ (plan : Layout) {S : Type 0} (slots id : ℕ) (me : Me S View) (mine : 
         (λ i. (step_view me.0 (Look (sym l i) (sym p i) (note_of found)), me.1)),
       )
 
-  pub may_put : (lane place word new : ℕ) (note : Note) → place < slice_index plan.cells lane → word ≡ cell_word plan.cells lane place → me.0.plan ≡ plan
-      → IsNote note → new ≡ note_word (Some note)
-      → has_drawn lane place (steps_at me.0.known me.0.number) ≡ true → has_put lane place (steps_at me.0.known me.0.number) ≡ false
-      → Allows (λ s. HasOneHistory plan {S = S} s) slots id me word (λ _. new) (λ _. puts (step slots word new 0 none) me new)
+  pub may_put : (lane place word new : ℕ) (note : Note) → place < slice_index plan.cells lane →
+      word ≡ cell_word plan.cells lane place → me.0.plan ≡ plan → IsNote note → new ≡ note_word (Some note) →
+      has_drawn lane place (steps_at me.0.known me.0.number) ≡ true →
+      has_put lane place (steps_at me.0.known me.0.number) ≡ false →
+      Allows (λ s. HasOneHistory plan {S = S} s) slots id me word (λ _. new)
+      (λ _. puts (step slots word new 0 none) me new)
   may_put lane place word new note inside is own fine made drew fresh s kept homes at small =
       let whole = (kept.each id me.0 at).whole me.0.number mine in
-      let drew' : has_drawn lane place (steps_under me.0.number kept.history) ≡ true = subst (λ ss. has_drawn lane place ss ≡ true) whole drew in
-      let fresh' : has_put lane place (steps_under me.0.number kept.history) ≡ false = subst (λ ss. has_put lane place ss ≡ false) whole fresh in
-      let l : lane_of_cell me.0.plan.cells word ≡ lane = (λ i. lane_of_cell (own i).cells (is i)) ∙ cell_lane lane place inside in
-      let p : place_of_cell me.0.plan.cells word ≡ place = (λ i. place_of_cell (own i).cells (is i)) ∙ cell_place lane place inside in (
+      let drew' : has_drawn lane place (steps_under me.0.number kept.history) ≡ true =
+      subst (λ ss. has_drawn lane place ss ≡ true) whole drew in
+      let fresh' : has_put lane place (steps_under me.0.number kept.history) ≡ false =
+      subst (λ ss. has_put lane place ss ≡ false) whole fresh in
+      let l : lane_of_cell me.0.plan.cells word ≡ lane =
+      (λ i. lane_of_cell (own i).cells (is i)) ∙ cell_lane lane place inside in
+      let p : place_of_cell me.0.plan.cells word ≡ place =
+      (λ i. place_of_cell (own i).cells (is i)) ∙ cell_place lane place inside in (
         step_view me.0 (Put lane place note),
         keeps,
         tt,
-        steps_keep plan s kept id me.0 at (Put lane place note) (set s.words word new) s.homes mine
-            (drawn_at lane place (steps_under me.0.number kept.history) drew', empty_yet plan s kept me.0.number lane place drew' fresh' (cell_after lane place kept.history) refl, fine)
-            (subst (λ (x : ℕ × ℕ). Rattle.lane_clock.specs.History.AreWords plan (Rattle.lane_clock.proofs.KnownLemmas.event me.0.number (Put lane place note) ∷ kept.history) (set s.words x.0 x.1)) (λ i. (sym is i, sym made i)) (put_words plan kept.history s.words kept.words me.0.number lane place note inside)),
-        (note, ap note_of made ∙ note_of-note_word note fine, (λ i. (step_view me.0 (Put (sym l i) (sym p i) note), me.1))),
+        steps_keep plan s kept id me.0 at (Put lane place note) (set s.words word new) s.homes mine (
+          drawn_at lane place (steps_under me.0.number kept.history) drew',
+          empty_yet plan s kept me.0.number lane place drew' fresh' (cell_after lane place kept.history) refl,
+          fine,
+        )
+            (subst
+            (λ (x : ℕ × ℕ).
+            Rattle.lane_clock.specs.History.AreWords plan
+            (Rattle.lane_clock.proofs.KnownLemmas.event me.0.number (Put lane place note) ∷ kept.history)
+            (set s.words x.0 x.1)) (λ i. (sym is i, sym made i))
+            (put_words plan kept.history s.words kept.words me.0.number lane place note inside)),
+        (
+          note,
+          ap note_of made ∙ note_of-note_word note fine,
+          (λ i. (step_view me.0 (Put (sym l i) (sym p i) note), me.1)),
+        ),
       )

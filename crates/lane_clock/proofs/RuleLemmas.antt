@@ -17,26 +17,36 @@ use Rattle.lane_clock.proofs.ClockLemmas.{drawn_grows, word_stays, found_clock, 
 use Rattle.lane_clock.proofs.FindingLemmas.{sound_at, older_tail, draw_clock, load_clock, finding, the_clock, drawn_once}
 
 -- each clock below was drawn
-each_drawn : (guards seats : ℕ) → seats ≤ 2 ^ 15 → (es : List Event) → IsSoundHistory guards seats es → (k : ℕ) → k < drawn es
-    → (m : ℕ) × (i : ℕ) × (change : Change) × (found : Found) × Draws (λ n. steps_under n es) m i change found × (found.clock ≡ k)
+each_drawn : (guards seats : ℕ) → seats ≤ 2 ^ 15 → (es : List Event) → IsSoundHistory guards seats es → (k : ℕ) →
+    k < drawn es →
+    (m : ℕ) × (i : ℕ) × (change : Change) × (found : Found) × Draws (λ n. steps_under n es) m i change found
+    × (found.clock ≡ k)
 each_drawn g s few [] sound k lt = absurd (omega arith)
-each_drawn g s few (e ∷ es) sound k lt = go e.step sound.2 (λ (old : k < drawn es). lift (each_drawn g s few es sound.0 k old)) lt
+each_drawn g s few (e ∷ es) sound k lt =
+    go e.step sound.2 (λ (old : k < drawn es). lift (each_drawn g s few es sound.0 k old)) lt
   where
-    lift : ((m : ℕ) × (i : ℕ) × (change : Change) × (found : Found) × Draws (λ n. steps_under n es) m i change found × (found.clock ≡ k))
-        → (m : ℕ) × (i : ℕ) × (change : Change) × (found : Found) × Draws (λ n. steps_under n (e ∷ es)) m i change found × (found.clock ≡ k)
+    lift : ((m : ℕ) × (i : ℕ) × (change : Change) × (found : Found) × Draws (λ n. steps_under n es) m i change found
+        × (found.clock ≡ k)) →
+        (m : ℕ) × (i : ℕ) × (change : Change) × (found : Found) × Draws (λ n. steps_under n (e ∷ es)) m i change found
+        × (found.clock ≡ k)
     lift h = (h.0, h.1, h.2, h.3, at_later h.0 es (e ∷ es) h.1 (Draw h.2 h.3) (inr (tail_refl es)) h.4, h.5)
 
     go : (st : Step) → Fits g es e.by st
-        → (k < drawn es → (m : ℕ) × (i : ℕ) × (change : Change) × (found : Found) × Draws (λ n. steps_under n (event e.by st ∷ es)) m i change found × (found.clock ≡ k))
+        → (k < drawn es →
+        (m : ℕ) × (i : ℕ) × (change : Change) × (found : Found)
+        × Draws (λ n. steps_under n (event e.by st ∷ es)) m i change found × (found.clock ≡ k))
         → k < Rattle.lane_clock.specs.Steps.draw_count st + drawn es
-        → (m : ℕ) × (i : ℕ) × (change : Change) × (found : Found) × Draws (λ n. steps_under n (event e.by st ∷ es)) m i change found × (found.clock ≡ k)
+        → (m : ℕ) × (i : ℕ) × (change : Change) × (found : Found)
+        × Draws (λ n. steps_under n (event e.by st ∷ es)) m i change found × (found.clock ≡ k)
     go (Draw c f) fits old l = ⊎_elim old
         (λ (ge : drawn es ≤ k). (
           e.by,
           length (steps_under e.by es),
           c,
           f,
-          subst (λ xs. get_elem? xs (length (steps_under e.by es)) ≡ some (Draw c f)) (sym (under_same es e.by (Draw c f))) (at_last (steps_under e.by es) (Draw c f) (length (steps_under e.by es)) refl),
+          subst (λ xs. get_elem? xs (length (steps_under e.by es)) ≡ some (Draw c f))
+              (sym (under_same es e.by (Draw c f)))
+              (at_last (steps_under e.by es) (Draw c f) (length (steps_under e.by es)) refl),
           found_clock g s es few sound.0 f fits.0 ∙ omega arith,
         ))
         (cases_lt k (drawn es))
@@ -46,7 +56,8 @@ each_drawn g s few (e ∷ es) sound k lt = go e.step sound.2 (λ (old : k < draw
     go (Look lane place held) fits old l = old (omega arith)
     go (Join counts) fits old l = old (omega arith)
 
-module _ (guards seats : ℕ) (small : guards < 2 ^ 15) (few : seats ≤ 2 ^ 15) (es : List Event) (sound : IsSoundHistory guards seats es) where
+module _ (guards seats : ℕ) (small : guards < 2 ^ 15) (few : seats ≤ 2 ^ 15) (es : List Event)
+    (sound : IsSoundHistory guards seats es) where
   pub draws_once : DrawsOnce (λ n. steps_under n es) (words_after guards es)
   draws_once =
       let the : clock_in (words_after guards es) ≡ drawn es = the_clock guards seats small few es sound in record {
@@ -60,14 +71,18 @@ module _ (guards seats : ℕ) (small : guards < 2 ^ 15) (few : seats ≤ 2 ^ 15)
         never_falls = λ m i j f g lt hf hg.
             let p = finding guards seats small few es sound m i f hf in
             let q = finding guards seats small few es sound m j g hg in
-            let x : drawn p.moment.older ≤ drawn q.moment.older = drawn_grows _ _ (tail_more p.moment.older (event m p.step) q.moment.older (in_order es m i j p.step q.step p.moment q.moment lt)) in
+            let x : drawn p.moment.older ≤ drawn q.moment.older =
+            drawn_grows _ _
+            (tail_more p.moment.older (event m p.step) q.moment.older
+            (in_order es m i j p.step q.step p.moment q.moment lt)) in
             let y : f.clock ≡ drawn p.moment.older = p.clock in
             let z : g.clock ≡ drawn q.moment.older = q.clock in
             omega arith;
         rises = λ m i j c f g lt hf hg.
             let p = moment_of es m i (Draw c f) hf in
             let q = finding guards seats small few es sound m j g hg in
-            let x : drawn (event m (Draw c f) ∷ p.older) ≤ drawn q.moment.older = drawn_grows _ _ (in_order es m i j (Draw c f) q.step p q.moment lt) in
+            let x : drawn (event m (Draw c f) ∷ p.older) ≤ drawn q.moment.older =
+            drawn_grows _ _ (in_order es m i j (Draw c f) q.step p q.moment lt) in
             let y : f.clock ≡ drawn p.older = draw_clock guards seats small few es sound m i c f p in
             let z : g.clock ≡ drawn q.moment.older = q.clock in
             omega arith;
@@ -76,8 +91,11 @@ module _ (guards seats : ℕ) (small : guards < 2 ^ 15) (few : seats ≤ 2 ^ 15)
   pub changes_add_up : ChangesAddUp (λ n. steps_under n es) (words_after guards es) guards
   changes_add_up =
       let the : clock_in (words_after guards es) ≡ drawn es = the_clock guards seats small few es sound in
-      let word : (m i : ℕ) (c : Change) (f : Found) (p : Moment es m i (Draw c f)) → word_of f ≡ word_after guards p.older
-      = λ m i c f p. let s = sound_at guards seats small few es sound m i (Draw c f) p in found_word guards seats p.older few s.0 small f s.2.0 in record {
+      let word : (m i : ℕ) (c : Change) (f : Found) (p : Moment es m i (Draw c f)) →
+      word_of f ≡ word_after guards p.older
+      = λ m i c f p.
+      let s = sound_at guards seats small few es sound m i (Draw c f) p in
+      found_word guards seats p.older few s.0 small f s.2.0 in record {
         parted = λ m i f h.
             let q = finding guards seats small few es sound m i f h in
             let w : word_after guards q.moment.older < 2 ^ 64 = word_bounded guards small q.moment.older in
@@ -93,16 +111,23 @@ module _ (guards seats : ℕ) (small : guards < 2 ^ 15) (few : seats ≤ 2 ^ 15)
             let k : f.clock ≡ drawn p.older = draw_clock guards seats small few es sound m i c f p in
             let l : g.clock ≡ drawn q.older = draw_clock guards seats small few es sound n j d g q in
             ⊎_elim
-            (λ before. word n j d g q ∙ (sym (word_stays guards (event m (Draw c f) ∷ p.older) q.older before (omega arith)) ∙ ap (λ w. (w + amount c) % 2 ^ 64) (sym (word m i c f p))))
-            (λ more. ⊎_elim
-            (λ after. let x : drawn (event n (Draw d g) ∷ q.older) ≤ drawn p.older = drawn_grows _ _ after in absurd (omega arith))
-            (λ (one : One m i n j (Draw c f) (Draw d g) p.older q.older). let x : drawn p.older ≡ drawn q.older = ap drawn one.older in absurd (omega arith))
-            more)
+            (λ before.
+            word n j d g q
+            ∙ (sym (word_stays guards (event m (Draw c f) ∷ p.older) q.older before (omega arith))
+            ∙ ap (λ w. (w + amount c) % 2 ^ 64) (sym (word m i c f p))))
+            (λ more.
+            ⊎_elim
+            (λ after.
+            let x : drawn (event n (Draw d g) ∷ q.older) ≤ drawn p.older = drawn_grows _ _ after in
+            absurd (omega arith))
+            (λ (one : One m i n j (Draw c f) (Draw d g) p.older q.older).
+            let x : drawn p.older ≡ drawn q.older = ap drawn one.older in absurd (omega arith)) more)
             (order_of es m i n j (Draw c f) (Draw d g) p q);
         last = λ m i c f h e.
             let p = moment_of es m i (Draw c f) h in
             let k : f.clock ≡ drawn p.older = draw_clock guards seats small few es sound m i c f p in
-            sym (word_stays guards (event m (Draw c f) ∷ p.older) es p.tail (omega arith)) ∙ ap (λ w. (w + amount c) % 2 ^ 64) (sym (word m i c f p));
+            sym (word_stays guards (event m (Draw c f) ∷ p.older) es p.tail (omega arith))
+            ∙ ap (λ w. (w + amount c) % 2 ^ 64) (sym (word m i c f p));
       }
     where
       nil_tail : (xs : List Event) → Tail [] xs
@@ -116,7 +141,8 @@ module _ (guards seats : ℕ) (small : guards < 2 ^ 15) (few : seats ≤ 2 ^ 15)
       = λ m i f p. (sound_at guards seats small few es sound m i (Load f) p).2 in record {
         within = λ m i f h.
             let p = moment_of es m i (Load f) h in
-            let x : drawn p.older ≤ drawn es = drawn_grows _ es (older_tail guards seats small few es sound m i (Load f) p) in
+            let x : drawn p.older ≤ drawn es =
+            drawn_grows _ es (older_tail guards seats small few es sound m i (Load f) p) in
             let k : f.clock ≡ drawn p.older = load_clock guards seats small few es sound m i f p in
             omega arith;
         drawn = λ m i n j c f g hf hg e.
@@ -124,17 +150,25 @@ module _ (guards seats : ℕ) (small : guards < 2 ^ 15) (few : seats ≤ 2 ^ 15)
             let q = moment_of es n j (Draw c g) hg in
             let k : f.clock ≡ drawn p.older = load_clock guards seats small few es sound m i f p in
             let l : g.clock ≡ drawn q.older = draw_clock guards seats small few es sound n j c g q in
-            let drew : g ≡ found_of (word_after guards q.older) = (sound_at guards seats small few es sound n j (Draw c g) q).2.0 in
+            let drew : g ≡ found_of (word_after guards q.older) =
+            (sound_at guards seats small few es sound n j (Draw c g) q).2.0 in
             ⊎_elim
-            (λ before. found m i f p ∙ (ap found_of (word_stays guards p.older q.older (tail_more p.older (event m (Load f)) q.older before) (omega arith)) ∙ sym drew))
+            (λ before.
+            found m i f p
+            ∙ (ap found_of (word_stays guards p.older q.older
+            (tail_more p.older (event m (Load f)) q.older before) (omega arith)) ∙ sym drew))
             (λ more. ⊎_elim
-            (λ after. let x : drawn (event n (Draw c g) ∷ q.older) ≤ drawn p.older = drawn_grows _ _ after in absurd (omega arith))
-            (λ (one : One m i n j (Load f) (Draw c g) p.older q.older). found m i f p ∙ (ap (λ x. found_of (word_after guards x)) one.older ∙ sym drew))
+            (λ after.
+            let x : drawn (event n (Draw c g) ∷ q.older) ≤ drawn p.older = drawn_grows _ _ after in
+            absurd (omega arith))
+            (λ (one : One m i n j (Load f) (Draw c g) p.older q.older).
+            found m i f p ∙ (ap (λ x. found_of (word_after guards x)) one.older ∙ sym drew))
             more)
             (order_of es m i n j (Load f) (Draw c g) p q);
         standing = λ m i f h e.
             let p = moment_of es m i (Load f) h in
             let k : f.clock ≡ drawn p.older = load_clock guards seats small few es sound m i f p in
             let s = sound_at guards seats small few es sound m i (Load f) p in
-            found_word guards seats p.older few s.0 small f s.2 ∙ word_stays guards p.older es (older_tail guards seats small few es sound m i (Load f) p) (omega arith);
+            found_word guards seats p.older few s.0 small f s.2
+            ∙ word_stays guards p.older es (older_tail guards seats small few es sound m i (Load f) p) (omega arith);
       }

@@ -14,18 +14,23 @@ use Rattle.lane_clock.specs.Plays.{step_view, draws, loads}
 use Rattle.lane_clock.proofs.KeepLemmas.{steps_keep}
 use Rattle.lane_clock.proofs.WordLemmas.{change_of-amount, loaded, drawn_words}
 
-module _ (plan : Layout) {S : Type 0} (slots id : ℕ) (me : Me S View) (mine : (known_at me.0.known me.0.number).mine ≡ true) where
+module _ (plan : Layout) {S : Type 0} (slots id : ℕ) (me : Me S View)
+    (mine : (known_at me.0.known me.0.number).mine ≡ true) where
   pub may_load : Allows (λ s. HasOneHistory plan {S = S} s) slots id me 0 (λ n. n) (loads (step slots 0 0 0 none) me)
   may_load s kept homes at small =
       let st = Load (found_of (slice_index s.words 0)) in (
         step_view me.0 st,
         keeps,
         tt,
-        steps_keep plan s kept id me.0 at st (set s.words 0 (slice_index s.words 0)) s.homes mine (ap found_of kept.words.clock) (loaded plan kept.history s.words kept.words me.0.number 0 (found_of (slice_index s.words 0))),
+        steps_keep plan s kept id me.0 at st (set s.words 0 (slice_index s.words 0)) s.homes mine
+            (ap found_of kept.words.clock)
+            (loaded plan kept.history s.words kept.words me.0.number 0 (found_of (slice_index s.words 0))),
         refl,
       )
 
-  drawing : (c : Change) → counted draw_count (steps_at me.0.known me.0.number) < 65536 → Allows (λ s. HasOneHistory plan {S = S} s) slots id me 0 (λ n. (n + amount c) % 2 ^ 64) (draws (step slots 0 (amount c) 0 none) me)
+  drawing : (c : Change) → counted draw_count (steps_at me.0.known me.0.number) < 65536 →
+      Allows (λ s. HasOneHistory plan {S = S} s) slots id me 0 (λ n. (n + amount c) % 2 ^ 64)
+      (draws (step slots 0 (amount c) 0 none) me)
   drawing c few s kept homes at small =
       let found = found_of (slice_index s.words 0) in
       let st = Draw c found in
@@ -41,4 +46,8 @@ module _ (plan : Layout) {S : Type 0} (slots id : ℕ) (me : Me S View) (mine : 
 
   pub may_draw : (c : Change) (k : ℕ) → k ≡ amount c → counted draw_count (steps_at me.0.known me.0.number) < 65536
       → Allows (λ s. HasOneHistory plan {S = S} s) slots id me 0 (λ n. (n + k) % 2 ^ 64) (draws (step slots 0 k 0 none) me)
-  may_draw c k e few = subst (λ k. Allows (λ s. HasOneHistory plan {S = S} s) slots id me 0 (λ n. (n + k) % 2 ^ 64) (draws (step slots 0 k 0 none) me)) (sym e) (drawing c few)
+  may_draw c k e few =
+      subst
+      (λ k.
+      Allows (λ s. HasOneHistory plan {S = S} s) slots id me 0 (λ n. (n + k) % 2 ^ 64)
+      (draws (step slots 0 k 0 none) me)) (sym e) (drawing c few)

@@ -35,7 +35,9 @@ stop_of Stop = 1
 
 -- the draws of the clocks below n made these changes
 abbrev pub ChangesAre : (ℕ → List Step) → (ℕ → Change) → ℕ → Type 0
-ChangesAre lists changes n = (k : ℕ) → k < n → (m : ℕ) × (i : ℕ) × (found : Found) × Draws lists m i (changes k) found × (found.clock ≡ k)
+ChangesAre lists changes n =
+    (k : ℕ) → k < n →
+    (m : ℕ) × (i : ℕ) × (found : Found) × Draws lists m i (changes k) found × (found.clock ≡ k)
 
 -- work after the guards and the first n changes
 abbrev pub ups_below : (ℕ → Change) → ℕ → ℕ

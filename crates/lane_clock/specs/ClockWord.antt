@@ -1,5 +1,5 @@
--- The clock word, this project's own: the clock in its low 32 bits, the outstanding work in the next 16, the stops in the
--- high 16.
+-- The clock word, this project's own: the clock in its low 32 bits, the outstanding work in the
+-- next 16, the stops in the high 16.
 use Rattle.std.specs.Prelude.{ℕ, ◌+◌, ◌-◌, ◌*◌, ◌/◌, ◌%◌, ◌^◌, ◌<◌, ◌==◌, if◌then◌else◌}
 use Rattle.lane_clock.specs.declared.found.Found.{Found}
 use Rattle.lane_clock.specs.declared.found.Change.{Change}

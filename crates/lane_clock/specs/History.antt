@@ -1,5 +1,5 @@
--- What the table keeps, this project's own: one history of all steps, the newest first, of which the words and all that
--- seats know are parts. The rule of the clock follows from it.
+-- What the table keeps, this project's own: one history of all steps, the newest first, of which
+-- the words and all that seats know are parts. The rule of the clock follows from it.
 use Rattle.std.specs.Prelude.{◌≡◌, ℕ, ◌+◌, ◌*◌, ◌%◌, ◌^◌, ◌<◌, ◌≤◌, List, [], ◌∷◌, ◌++◌, length, slice_index, slice_set, true, ◌==◌, ◌&&◌, if◌then◌else◌, Option, Some, None, replicate}
 use lib.ListN.{get_elem?}
 use mathlib.Core.Option.{some}
@@ -71,27 +71,37 @@ cell_after lane place (e ∷ es) = cell_with lane place e.step (cell_after lane 
 
 -- The step under the number n may come next: it finds what the words hold
 abbrev pub Fits : ℕ → List Event → ℕ → Step → Type 0
-Fits guards es n (Draw change found) = (found ≡ found_of (word_after guards es)) × MayDraw (steps_under n es)
+Fits guards es n (Draw change found) =
+    (found ≡ found_of (word_after guards es)) × MayDraw (steps_under n es)
 Fits guards es n (Load found) = found ≡ found_of (word_after guards es)
 Fits guards es n (Place lane place) = (place ≡ places_after lane es) × MayPlace (steps_under n es)
-Fits guards es n (Put lane place note) = ((i : ℕ) × (get_elem? (steps_under n es) i ≡ some (Place lane place))) × (cell_after lane place es ≡ None) × IsNote note
+Fits guards es n (Put lane place note) =
+    ((i : ℕ) × (get_elem? (steps_under n es) i ≡ some (Place lane place)))
+    × (cell_after lane place es ≡ None) × IsNote note
 Fits guards es n (Look lane place note) = note ≡ cell_after lane place es
 Fits guards es n (Join counts) = (m : ℕ) → slice_index counts m ≤ length (steps_under m es)
 
 abbrev pub IsSoundHistory : ℕ → ℕ → List Event → Type 0
 IsSoundHistory guards seats [] = Unit {0}
-IsSoundHistory guards seats (e ∷ es) = IsSoundHistory guards seats es × (e.by < seats) × Fits guards es e.by e.step
+IsSoundHistory guards seats (e ∷ es) =
+    IsSoundHistory guards seats es × (e.by < seats) × Fits guards es e.by e.step
 
 -- what the words hold after a history
 abbrev pub words_after : ℕ → List Event → Words
-words_after guards es = record { clock_word = word_after guards es; places = λ lane. places_after lane es; cells = λ lane place. cell_after lane place es }
+words_after guards es = record {
+  clock_word = word_after guards es;
+  places = λ lane. places_after lane es;
+  cells = λ lane place. cell_after lane place es;
+}
 
 -- these words lie in the table
 pub record AreHeld (plan : Layout) (words : Words) (ws : List ℕ) : Type 0 where
   pub count : length ws ≡ 1 + length plan.cells + total plan.cells
   pub clock : slice_index ws 0 ≡ words.clock_word
-  pub places : (lane : ℕ) → lane < length plan.cells → slice_index ws (place_word lane) ≡ words.places lane
-  pub cells : (lane place : ℕ) → place < slice_index plan.cells lane → slice_index ws (cell_word plan.cells lane place) ≡ note_word (words.cells lane place)
+  pub places : (lane : ℕ) → lane < length plan.cells →
+      slice_index ws (place_word lane) ≡ words.places lane
+  pub cells : (lane place : ℕ) → place < slice_index plan.cells lane →
+      slice_index ws (cell_word plan.cells lane place) ≡ note_word (words.cells lane place)
 
 -- the table's words are those of the history
 abbrev pub AreWords : Layout → List Event → List ℕ → Type 0
@@ -101,12 +111,14 @@ AreWords plan es ws = AreHeld plan (words_after plan.guards es) ws
 abbrev pub StartOf : List Step → List Step → Type 0
 StartOf front all = (rest : List Step) × (all ≡ front ++ rest)
 
--- What a view knows of a history: the first steps under each number, and all of those that are its own
+-- What a view knows of a history: the first steps under each number, and all of those that are its
+-- own
 pub record KnowsHistory (plan : Layout) (es : List Event) (v : View) : Type 0 where
   pub short : length v.known ≤ plan.seats
   pub told : (n : ℕ) → StartOf (steps_at v.known n) (steps_under n es)
   pub whole : (n : ℕ) → (known_at v.known n).mine ≡ true → steps_at v.known n ≡ steps_under n es
-  pub width : (n : ℕ) → (known_at v.known n).mine ≡ true → (n < plan.seats) × (length v.known ≡ plan.seats) × (v.plan ≡ plan)
+  pub width : (n : ℕ) → (known_at v.known n).mine ≡ true →
+      (n < plan.seats) × (length v.known ≡ plan.seats) × (v.plan ≡ plan)
 
 -- The fact that each step keeps
 pub record HasOneHistory (plan : Layout) {S : Type 0} (s : State S View) : Type 0 where
@@ -115,7 +127,9 @@ pub record HasOneHistory (plan : Layout) {S : Type 0} (s : State S View) : Type 
   pub sound : IsSoundHistory plan.guards plan.seats history
   pub words : AreWords plan history s.words
   pub each : (i : ℕ) (v : View) → get_elem? s.views i ≡ some v → KnowsHistory plan history v
-  pub apart : (i j n : ℕ) (v w : View) → get_elem? s.views i ≡ some v → get_elem? s.views j ≡ some w → (known_at v.known n).mine ≡ true → (known_at w.known n).mine ≡ true → i ≡ j
+  pub apart : (i j n : ℕ) (v w : View) → get_elem? s.views i ≡ some v →
+      get_elem? s.views j ≡ some w → (known_at v.known n).mine ≡ true →
+      (known_at w.known n).mine ≡ true → i ≡ j
 
 -- the view of the seat that has all numbers below the seats' count to give
 abbrev pub giver : Layout → View
@@ -123,4 +137,5 @@ giver plan = record { plan = plan; number = plan.seats; known = owns_below plan.
 
 -- the words at the start: the guards as work, and nothing else
 abbrev pub first_words : Layout → List ℕ
-first_words plan = slice_set (replicate (1 + length plan.cells + total plan.cells) 0) 0 (plan.guards * 2 ^ 32)
+first_words plan =
+    slice_set (replicate (1 + length plan.cells + total plan.cells) 0) 0 (plan.guards * 2 ^ 32)

@@ -1,4 +1,5 @@
--- What seats know, this project's own: of each number the steps that were made under it, or the first of them.
+-- What seats know, this project's own: of each number the steps that were made under it, or the
+-- first of them.
 use Rattle.std.specs.Prelude.{ℕ, ◌-◌, List, [], ◌∷◌, ◌++◌, map, length, replicate, slice_index_or, slice_set, Bool, true, false, if◌then◌else◌, nat_lt, ◌||◌}
 use Rattle.lane_clock.specs.declared.step.Step.{Step}
 use Rattle.lane_clock.specs.declared.step.Known.{Known}
@@ -31,10 +32,14 @@ copied k = known false k.steps
 abbrev pub copy_of : List Known → List Known
 copy_of ks = map copied ks
 
--- Of two that know steps under one number: what the first knows, where they are its own; else what the second knows, where
--- they are its own; else the more of the two
+-- Of two that know steps under one number: what the first knows, where they are its own; else what
+-- the second knows, where they are its own; else the more of the two
 abbrev pub more_of : Known → Known → Known
-more_of a b = known (a.mine || b.mine) (if a.mine then a.steps else if b.mine then b.steps else if nat_lt (length a.steps) (length b.steps) then b.steps else a.steps)
+more_of a b =
+    known (a.mine || b.mine) (if a.mine then a.steps
+    else if b.mine then b.steps
+    else if nat_lt (length a.steps) (length b.steps) then b.steps
+    else a.steps)
 
 abbrev pub joined : List Known → List Known → List Known
 joined [] bs = bs

@@ -20,28 +20,39 @@ pub record HoldsNow (plan : Layout) (s : State (Unit {0}) View) : Type 0 where
   pub words : Words
   pub held : AreHeld plan words s.words
   pub rule : ClockRule lists words plan.guards
-  pub known : (i n : ℕ) (v : View) → get_elem? s.views i ≡ some v → StartOf (steps_at v.known n) (lists n)
-  pub own : (i n : ℕ) (v : View) → get_elem? s.views i ≡ some v → (known_at v.known n).mine ≡ true → steps_at v.known n ≡ lists n
+  pub known : (i n : ℕ) (v : View) → get_elem? s.views i ≡ some v →
+      StartOf (steps_at v.known n) (lists n)
+  pub own : (i n : ℕ) (v : View) → get_elem? s.views i ≡ some v → (known_at v.known n).mine ≡ true →
+      steps_at v.known n ≡ lists n
 
 -- It does between any two steps
 abbrev pub HoldsBetweenSteps : Type 0
-HoldsBetweenSteps = (plan : Layout) (s : State (Unit {0}) View) → HasOneHistory plan s → HoldsNow plan s
+HoldsBetweenSteps =
+    (plan : Layout) (s : State (Unit {0}) View) → HasOneHistory plan s → HoldsNow plan s
 
 -- The positions drawn are those below the clock at the end, each once
 pub record PositionsOnce (lists : ℕ → List Step) (last : Found) : Type 0 where
-  pub below : (m i : ℕ) (change : Change) (found : Found) → Draws lists m i change found → found.clock < last.clock
-  pub each : (k : ℕ) → k < last.clock → (m : ℕ) × (i : ℕ) × (change : Change) × (found : Found) × Draws lists m i change found × (found.clock ≡ k)
-  pub once : (m i n j : ℕ) (c d : Change) (f g : Found) → Draws lists m i c f → Draws lists n j d g → f.clock ≡ g.clock → (m ≡ n) × (i ≡ j)
+  pub below : (m i : ℕ) (change : Change) (found : Found) → Draws lists m i change found →
+      found.clock < last.clock
+  pub each : (k : ℕ) → k < last.clock →
+      (m : ℕ) × (i : ℕ) × (change : Change) × (found : Found) × Draws lists m i change found
+      × (found.clock ≡ k)
+  pub once : (m i n j : ℕ) (c d : Change) (f g : Found) → Draws lists m i c f →
+      Draws lists n j d g → f.clock ≡ g.clock → (m ≡ n) × (i ≡ j)
 
 abbrev pub PositionsAreOnce : Type 0
-PositionsAreOnce = (lists : ℕ → List Step) (guards : ℕ) (last : Found) → Closed lists guards last → PositionsOnce lists last
+PositionsAreOnce =
+    (lists : ℕ → List Step) (guards : ℕ) (last : Found) → Closed lists guards last →
+    PositionsOnce lists last
 
 -- What a list drew before a place is below what is found after a later place of that lane
 abbrev pub PlacesKeepOrder : Type 0
 PlacesKeepOrder = (lists : ℕ → List Step) (guards : ℕ) (last : Found) → Closed lists guards last
-    → (m i n j lane p q : ℕ) → p < q → Places lists m i lane p → Places lists n j lane q → Precedes lists m i n j
+    → (m i n j lane p q : ℕ) → p < q → Places lists m i lane p → Places lists n j lane q
+    → Precedes lists m i n j
 
--- The list that put a note drew its place before, and what it drew before it put is below what is found after the note was seen
+-- The list that put a note drew its place before, and what it drew before it put is below what is
+-- found after the note was seen
 pub record Noted (lists : ℕ → List Step) (n j lane place : ℕ) (note : Note) : Type 0 where
   pub by : ℕ
   pub drawn : ℕ
@@ -53,30 +64,39 @@ pub record Noted (lists : ℕ → List Step) (n j lane place : ℕ) (note : Note
 
 abbrev pub NotesAreOlder : Type 0
 NotesAreOlder = (lists : ℕ → List Step) (guards : ℕ) (last : Found) → Closed lists guards last
-    → (n j lane place : ℕ) (note : Note) → Looks lists n j lane place (Some note) → Noted lists n j lane place note
+    → (n j lane place : ℕ) (note : Note) → Looks lists n j lane place (Some note)
+    → Noted lists n j lane place note
 
 -- What a list had drawn when it was joined in is below what is found afterwards
 abbrev pub JoinsAreBefore : Type 0
 JoinsAreBefore = (lists : ℕ → List Step) (guards : ℕ) (last : Found) → Closed lists guards last
-    → (n j m : ℕ) (counts : List ℕ) → Joins lists n j counts → Precedes lists m (slice_index counts m) n j
+    → (n j m : ℕ) (counts : List ℕ) → Joins lists n j counts
+    → Precedes lists m (slice_index counts m) n j
 
 -- The changes of the positions below the clock at the end
 abbrev pub ChangesStand : Type 0
-ChangesStand = (lists : ℕ → List Step) (guards : ℕ) (last : Found) → Closed lists guards last → (changes : ℕ → Change) × ChangesAre lists changes last.clock
+ChangesStand =
+    (lists : ℕ → List Step) (guards : ℕ) (last : Found) → Closed lists guards last →
+    (changes : ℕ → Change) × ChangesAre lists changes last.clock
 
--- What finds the clock n finds work and stops of the first n changes, as long as these fit; the word at the end has those of all
-pub record FindsSums (lists : ℕ → List Step) (guards : ℕ) (last : Found) (changes : ℕ → Change) (n : ℕ) : Type 0 where
-  pub found : (m i : ℕ) (found : Found) → Finds lists m i found → found.clock ≡ n → AddsUp guards changes n found
+-- What finds the clock n finds work and stops of the first n changes, as long as these fit; the
+-- word at the end has those of all
+pub record FindsSums (lists : ℕ → List Step) (guards : ℕ) (last : Found) (changes : ℕ → Change)
+    (n : ℕ) : Type 0 where
+  pub found : (m i : ℕ) (found : Found) → Finds lists m i found → found.clock ≡ n →
+      AddsUp guards changes n found
   pub end : last.clock ≡ n → AddsUp guards changes n last
 
 abbrev pub WorkAddsUp : Type 0
 WorkAddsUp = (lists : ℕ → List Step) (guards : ℕ) (last : Found) → Closed lists guards last
-    → (changes : ℕ → Change) (n : ℕ) → ChangesAre lists changes n → n ≤ last.clock → ChangesFit guards changes n → FindsSums lists guards last changes n
+    → (changes : ℕ → Change) (n : ℕ) → ChangesAre lists changes n → n ≤ last.clock
+    → ChangesFit guards changes n → FindsSums lists guards last changes n
 
 -- A cell that was seen empty is put later by the list that looked, and not by what it had joined in
 pub record EmptyYet (lists : ℕ → List Step) (n j lane place : ℕ) : Type 0 where
   pub own : (i : ℕ) (note : Note) → Puts lists n i lane place note → j < i
-  pub joined : (h m i : ℕ) (counts : List ℕ) (note : Note) → Joins lists n h counts → h < j → Puts lists m i lane place note → slice_index counts m ≤ i
+  pub joined : (h m i : ℕ) (counts : List ℕ) (note : Note) → Joins lists n h counts → h < j →
+      Puts lists m i lane place note → slice_index counts m ≤ i
 
 abbrev pub EmptyIsUnput : Type 0
 EmptyIsUnput = (lists : ℕ → List Step) (guards : ℕ) (last : Found) → Closed lists guards last

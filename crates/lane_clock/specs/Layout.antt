@@ -1,5 +1,5 @@
--- How the words of a clock lie, this project's own: the clock word, then a word of places for each lane, then the cells,
--- those of the first lane first.
+-- How the words of a clock lie, this project's own: the clock word, then a word of places for each
+-- lane, then the cells, those of the first lane first.
 use Rattle.std.specs.Prelude.{◌≡◌, ℕ, zero, suc, ◌+◌, ◌-◌, ◌^◌, List, [], ◌∷◌, length, if◌then◌else◌, nat_lt}
 
 pub record Layout : Type 0 where
@@ -15,7 +15,11 @@ most_seats = 2 ^ 15
 
 -- the layout of a clock with these cells, and seats for the lanes, the workers and the opener
 abbrev pub layout : ℕ → List ℕ → ℕ → Layout
-layout guards cells workers = record { guards = guards; seats = length cells + workers + 1; cells = cells }
+layout guards cells workers = record {
+  guards = guards;
+  seats = length cells + workers + 1;
+  cells = cells;
+}
 
 -- how many cells there are
 abbrev pub total : List ℕ → ℕ

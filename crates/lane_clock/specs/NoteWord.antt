@@ -1,5 +1,5 @@
--- The word of a cell, this project's own: 0 where it is empty, and else one more than the operation, the number of the
--- code and the size side by side.
+-- The word of a cell, this project's own: 0 where it is empty, and else one more than the
+-- operation, the number of the code and the size side by side.
 use Rattle.std.specs.Prelude.{ℕ, ◌+◌, ◌-◌, ◌*◌, ◌/◌, ◌%◌, ◌^◌, ◌<◌, ◌==◌, if◌then◌else◌, Option, Some, None}
 use Rattle.asio_types.specs.declared.code.Code.{Code}
 use Rattle.asio_types.specs.declared.code.Code.TheVariants as code
@@ -34,4 +34,8 @@ note_word (Some note) = 1 + note.op + 65536 * code_number note.code + 16777216 *
 abbrev pub note_of : ℕ → Option Note
 note_of w =
     if w == 0 then None else
-    Some record { op = (w - 1) % 65536; code = code_of ((w - 1) / 65536 % 256); size = (w - 1) / 16777216 % 2 ^ 32 }
+    Some record {
+      op = (w - 1) % 65536;
+      code = code_of ((w - 1) / 65536 % 256);
+      size = (w - 1) / 16777216 % 2 ^ 32;
+    }

@@ -28,10 +28,20 @@ copy_view v = view_with v (copy_of v.known)
 
 -- the giver once it gave the number before its own, and the seat with that number
 abbrev pub giver_after : View → View
-giver_after v = record { plan = v.plan; number = v.number - 1; known = slice_set v.known (v.number - 1) unknown }
+giver_after v = record {
+  plan = v.plan;
+  number = v.number - 1;
+  known = slice_set v.known (v.number - 1) unknown;
+}
 
 abbrev pub given : View → View
-given v = record { plan = v.plan; number = v.number - 1; known = slice_set (replicate (length v.known) unknown) (v.number - 1) (known_at v.known (v.number - 1)) }
+given v = record {
+  plan = v.plan;
+  number = v.number - 1;
+  known =
+      slice_set (replicate (length v.known) unknown) (v.number - 1)
+      (known_at v.known (v.number - 1));
+}
 
 -- a seat that was taken in knows nothing
 abbrev pub spent : View
@@ -50,14 +60,23 @@ module _ {S : Type 0} where
 
   -- the place is new to the seat
   abbrev pub places : table.Step S → table.Me S View → ℕ → table.Me S View → Type 0
-  places st me n after = Makes me (Place (lane_of_place st.word) n) after × (has_put (lane_of_place st.word) n (steps_at me.0.known me.0.number) ≡ false)
+  places st me n after =
+      Makes me (Place (lane_of_place st.word) n) after
+      × (has_put (lane_of_place st.word) n (steps_at me.0.known me.0.number) ≡ false)
 
   -- the number is the word that was stored
   abbrev pub puts : table.Step S → table.Me S View → ℕ → table.Me S View → Type 0
-  puts st me n after = (note : Note) × (note_of n ≡ Some note) × Makes me (Put (lane_of_cell me.0.plan.cells st.word) (place_of_cell me.0.plan.cells st.word) note) after
+  puts st me n after =
+      (note : Note) × (note_of n ≡ Some note)
+      × Makes me
+      (Put (lane_of_cell me.0.plan.cells st.word) (place_of_cell me.0.plan.cells st.word) note)
+      after
 
   abbrev pub looks : table.Step S → table.Me S View → ℕ → table.Me S View → Type 0
-  looks st me n after = Makes me (Look (lane_of_cell me.0.plan.cells st.word) (place_of_cell me.0.plan.cells st.word) (note_of n)) after
+  looks st me n after =
+      Makes me
+      (Look (lane_of_cell me.0.plan.cells st.word) (place_of_cell me.0.plan.cells st.word)
+      (note_of n)) after
 
 -- a seat of the table with no slot, whose own steps are all there are under its number
 pub record IsLive (me : table.Me (Unit {0}) View) : Type 0 where

@@ -8,7 +8,9 @@ cells_in rows = map (λ row. row.cells) rows
 
 -- each row begins where its lane's first cell stands
 abbrev pub Starts : List Row → Type 0
-Starts rows = (lane : ℕ) (d : Row) → lane < length rows → (slice_index_or rows lane d).start ≡ slot (cells_in rows) lane 0
+Starts rows =
+    (lane : ℕ) (d : Row) → lane < length rows →
+    (slice_index_or rows lane d).start ≡ slot (cells_in rows) lane 0
 
 -- the rows of so many words
 pub record AreRows (rows : List Row) (count : ℕ) : Type 0 where

@@ -21,7 +21,11 @@ pub record SeatView : Type 0 where
 
 -- the seat of a table with this view
 abbrev pub seen_as : TableId → View → SeatView
-seen_as table v = record { clock = record { table = table; plan = v.plan }; number = v.number; known = v.known }
+seen_as table v = record {
+  clock = record { table = table; plan = v.plan };
+  number = v.number;
+  known = v.known;
+}
 
 abbrev pub new_seat : ClockId → ℕ → SeatView
 new_seat clock n = record { clock = clock; number = n; known = owns_only n clock.plan.seats }
@@ -79,13 +83,20 @@ own seat = steps_at seat.known seat.number
 
 -- the seat after one more step
 abbrev pub after_step : SeatView → Step → SeatView
-after_step seat step = record { clock = seat.clock; number = seat.number; known = stepped_at seat.known seat.number step }
+after_step seat step = record {
+  clock = seat.clock;
+  number = seat.number;
+  known = stepped_at seat.known seat.number step;
+}
 
 -- the seat after it took in what another knows
 abbrev pub after_join : SeatView → List Known → SeatView
-after_join seat others = after_step record { clock = seat.clock; number = seat.number; known = joined seat.known others } (Join (counts others))
+after_join seat others =
+    after_step record { clock = seat.clock; number = seat.number; known = joined seat.known others }
+    (Join (counts others))
 
 -- a place of the lane was drawn that is beyond its cells
 abbrev pub DrawsBeyond : List ℕ → ℕ → SeatView → SeatView → Type 0
 DrawsBeyond cells lane before after =
-    (place : ℕ) × (slice_index cells lane ≤ place) × (after ≡ after_step before (Place lane place)) × (own after ≡ own before ++ Place lane place ∷ [])
+    (place : ℕ) × (slice_index cells lane ≤ place) × (after ≡ after_step before (Place lane place))
+    × (own after ≡ own before ++ Place lane place ∷ [])

@@ -1,4 +1,5 @@
--- What one seat did, this project's own: how often it drew, which places it drew and which cells it put.
+-- What one seat did, this project's own: how often it drew, which places it drew and which cells it
+-- put.
 use Rattle.std.specs.Prelude.{ℕ, ◌+◌, ◌<◌, List, [], ◌∷◌, Bool, false, ◌||◌, ◌&&◌, ◌==◌}
 use Rattle.lane_clock.specs.declared.step.Step.{Step}
 use Rattle.lane_clock.specs.declared.step.Step.TheVariants.{Draw, Load, Place, Put, Look, Join}

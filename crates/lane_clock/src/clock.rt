@@ -48,9 +48,9 @@ fn first_words(alloc: Global, plan: &Plan) -> Result<Vec<u64>, NoMemory>
 }
 
 impl LaneClock {
-    /// A clock whose work is `guards`, with so many cells for each lane, and its seats: one for each lane, then one for
-    /// each worker, then the opener's. Takes memory for a word of each lane and of each cell; `NoMemory` where it is
-    /// refused.
+    /// A clock whose work is `guards`, with so many cells for each lane, and its seats: one for
+    /// each lane, then one for each worker, then the opener's. Takes memory for a word of each lane
+    /// and of each cell; `NoMemory` where it is refused.
     pub fn make(
         alloc: Global,
         cells: &[u32],
@@ -71,7 +71,8 @@ impl LaneClock {
         Ok((LaneClock { table, plan }, list))
     }
 
-    /// Draws a position, which is the clock found, and makes the change, in one step. A seat draws at most 2^16 times.
+    /// Draws a position, which is the clock found, and makes the change, in one step. A seat draws
+    /// at most 2^16 times.
     pub fn draw(&self, seat: &mut LaneSeat, change: Change) -> Found
         requires clock { seat.old.clock ≡ self.now }
         requires room { MayDraw (own seat.old) }
@@ -98,7 +99,8 @@ impl LaneClock {
         Found::of_word(self.table.shared.load::<Loads>(&mut seat.seat, 0))
     }
 
-    /// Draws a place of a lane, `None` exactly where it is beyond the lane's cells. A seat draws at most 2^16 places.
+    /// Draws a place of a lane, `None` exactly where it is beyond the lane's cells. A seat draws at
+    /// most 2^16 places.
     pub fn place_in(&self, seat: &mut LaneSeat, lane: u32) -> Option<u32>
         requires clock { seat.old.clock ≡ self.now }
         requires lane { lane < length self.now.plan.cells }
@@ -163,7 +165,8 @@ impl LaneClock {
         }
     }
 
-    /// Takes in what a seat knew when it was copied. What it had drawn then is below what this seat finds from now on.
+    /// Takes in what a seat knew when it was copied. What it had drawn then is below what this seat
+    /// finds from now on.
     pub fn meet(&self, seat: &mut LaneSeat, copy: LaneCopy)
         requires clock { seat.old.clock ≡ self.now }
         requires same { copy.clock ≡ self.now }
@@ -190,8 +193,8 @@ impl LaneClock {
             .join_seat::<TakesIn>(&mut seat.seat, other.seat);
     }
 
-    /// What the clock word holds at the end, when all other seats were joined in. The steps under all numbers meet the
-    /// rule of the clock.
+    /// What the clock word holds at the end, when all other seats were joined in. The steps under
+    /// all numbers meet the rule of the clock.
     pub fn close(self, seat: LaneSeat) -> Found
         requires clock { seat.clock ≡ self }
         requires all { OwnsAll seat }

@@ -1,8 +1,8 @@
 ghost use Rattle.std.specs.Prelude.{◌≡◌};
 ghost use Rattle.lane_clock.specs.ClockWord.{amount, found_of, IsParted};
 
-/// What a step finds in the clock word: the clock, the outstanding work (Asio reference, `io_context`, "Effect of
-/// exhausting the io_context's work") and the stops so far.
+/// What a step finds in the clock word: the clock, the outstanding work (Asio reference,
+/// `io_context`, "Effect of exhausting the io_context's work") and the stops so far.
 #[derive(Clone, Copy, Debug, PartialEq, Eq)]
 pub struct Found {
     /// How many draws were made before.

@@ -1,4 +1,5 @@
-//! What follows from the rule of a clock, for whoever merges its lists. These functions run nothing.
+//! What follows from the rule of a clock, for whoever merges its lists. These functions run
+//! nothing.
 ghost use Rattle.lane_clock.specs.Laws.{HoldsBetweenSteps, PositionsAreOnce, PlacesKeepOrder, NotesAreOlder, JoinsAreBefore, ChangesStand, WorkAddsUp, EmptyIsUnput};
 
 /// The rule holds between any two steps on a clock, of the steps made so far.
@@ -31,8 +32,8 @@ pub fn changes_stand()
     ensures { ChangesStand }
 {}
 
-/// What finds the clock n finds the work and the stops that the first n changes make of the guards, as long as these fit
-/// their parts of the word.
+/// What finds the clock n finds the work and the stops that the first n changes make of the guards,
+/// as long as these fit their parts of the word.
 pub fn work_adds_up()
     ensures { WorkAddsUp }
 {}

@@ -1,7 +1,8 @@
-//! The clock of the context without a lock. One word gives each event its position, and counts outstanding work and stops
-//! beside it; in each lane, places and cells in which ready operations wait in order. It promises that every step keeps
-//! one rule on all that the seats did (`specs/Rule.antt`), and that no call but `make` takes memory and none waits. The
-//! context without a lock stands on it, and whoever merges its lists reads the rule.
+//! The clock of the context without a lock. One word gives each event its position, and counts
+//! outstanding work and stops beside it; in each lane, places and cells in which ready operations
+//! wait in order. It promises that every step keeps one rule on all that the seats did
+//! (`specs/Rule.antt`), and that no call but `make` takes memory and none waits. The context
+//! without a lock stands on it, and whoever merges its lists reads the rule.
 #![tactic(auto)]
 
 mod clock;

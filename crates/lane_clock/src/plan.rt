@@ -29,7 +29,8 @@ impl Model for Plan {
 
     ghost use Rattle.lane_clock.specs.Rows.{cells_in, AreRows};
 
-    ghost view = { λ p. record { guards = p.guards; seats = p.seats; cells = cells_in p.rows.items } };
+    ghost view = { λ p.
+        record { guards = p.guards; seats = p.seats; cells = cells_in p.rows.items } };
 
     ghost invariant = { λ p. AreRows p.rows.items p.words };
 }
@@ -42,7 +43,8 @@ impl Plan {
         seats: u32,
         guards: u32,
     ) -> Result<Plan, NoMemory>
-        ensures { IfOk result (λ plan. plan ≡ record { guards = guards; seats = seats; cells = cells.now }) }
+        ensures { IfOk result
+            (λ plan. plan ≡ record { guards = guards; seats = seats; cells = cells.now }) }
     {
         let mut rows = Vec::with_capacity(alloc, cells.len())?;
         let mut start: usize = 0;

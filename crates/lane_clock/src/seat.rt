@@ -7,8 +7,8 @@ use asio_types::NoMemory;
 use std::alloc::Global;
 use std::marker::Model;
 
-/// A seat of a clock, with which one thread at a time steps. It has no bytes. Contracts see its number, its own steps, and
-/// what it knows of the steps under the other numbers.
+/// A seat of a clock, with which one thread at a time steps. It has no bytes. Contracts see its
+/// number, its own steps, and what it knows of the steps under the other numbers.
 #[derive(Drop)]
 pub struct LaneSeat {
     pub(crate) seat: TableSeat,
@@ -42,8 +42,8 @@ impl Model for LaneCopy {
     ghost invariant = { λ s. s.seat.me.1 ≡ [] };
 }
 
-/// The seats of a clock that weren't given yet, in the order in which they were made: one for each lane, then one for each
-/// worker, then the opener's.
+/// The seats of a clock that weren't given yet, in the order in which they were made: one for each
+/// lane, then one for each worker, then the opener's.
 #[derive(Drop)]
 pub struct SeatList {
     // The last is the next.
@@ -75,7 +75,8 @@ impl SeatList {
         requires words { 0 < table.now.shared.table_id.words }
         requires giver { (giver.me.0 ≡ giver_of table.now.shared.key) × (giver.me.1 ≡ []) }
         requires seats { table.now.shared.key.seats ≡ seats }
-        ensures { IfOk result (λ list. list ≡ all_left (clock_id table.now.shared.table_id table.now.shared.key)) }
+        ensures { IfOk result
+            (λ list. list ≡ all_left (clock_id table.now.shared.table_id table.now.shared.key)) }
     {
         let mut list = Vec::new(alloc);
         let mut left = seats;

@@ -159,11 +159,13 @@ fn play_two<R: Threads + Sync>(
     join(
         rt,
         || -> Report
-            requires { (one.clock ≡ clock.now) × (0 < length clock.now.plan.cells) × (own one ≡ []) }
+            requires { (one.clock ≡ clock.now) × (0 < length clock.now.plan.cells)
+                × (own one ≡ []) }
             ensures { (result.seat.clock ≡ clock.entry.now) × Keeps one result.seat }
         { play(clock, one) },
         || -> Report
-            requires { (two.clock ≡ clock.now) × (0 < length clock.now.plan.cells) × (own two ≡ []) }
+            requires { (two.clock ≡ clock.now) × (0 < length clock.now.plan.cells)
+                × (own two ≡ []) }
             ensures { (result.seat.clock ≡ clock.entry.now) × Keeps two result.seat }
         { play(clock, two) },
     )
@@ -185,12 +187,16 @@ fn four_threads_share_a_lane(rt: HostRuntime) -> Result<(), Fail> {
     let ((a, b), (c, d)) = join(
         &rt,
         || -> (Report, Report)
-            requires { (a.clock ≡ clock) × (own a ≡ []) × (b.clock ≡ clock) × (own b ≡ []) × (0 < length clock.plan.cells) }
-            ensures { (result.0.seat.clock ≡ clock) × (result.1.seat.clock ≡ clock) × Keeps a result.0.seat × Keeps b result.1.seat }
+            requires { (a.clock ≡ clock) × (own a ≡ []) × (b.clock ≡ clock) × (own b ≡ [])
+                × (0 < length clock.plan.cells) }
+            ensures { (result.0.seat.clock ≡ clock) × (result.1.seat.clock ≡ clock)
+                × Keeps a result.0.seat × Keeps b result.1.seat }
         { play_two(&rt, &clock, a, b) },
         || -> (Report, Report)
-            requires { (c.clock ≡ clock) × (own c ≡ []) × (d.clock ≡ clock) × (own d ≡ []) × (0 < length clock.plan.cells) }
-            ensures { (result.0.seat.clock ≡ clock) × (result.1.seat.clock ≡ clock) × Keeps c result.0.seat × Keeps d result.1.seat }
+            requires { (c.clock ≡ clock) × (own c ≡ []) × (d.clock ≡ clock) × (own d ≡ [])
+                × (0 < length clock.plan.cells) }
+            ensures { (result.0.seat.clock ≡ clock) × (result.1.seat.clock ≡ clock)
+                × Keeps c result.0.seat × Keeps d result.1.seat }
         { play_two(&rt, &clock, c, d) },
     );
     let drawn = [

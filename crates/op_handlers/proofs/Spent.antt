@@ -11,9 +11,11 @@ Ran-set : IsSet Ran
 Ran-set = hlevel props
 
 -- a job answers by its marks
-pub answer-AnswersMarks : {pre : Spend → Type 0} {post : Spend → Ran → Type 0} (h : AnswersMarks pre post) (s : Spend) (r : Ran) → IsSpend s → post s r → r ≡ answer h.0 s
+pub answer-AnswersMarks : {pre : Spend → Type 0} {post : Spend → Ran → Type 0} (h : AnswersMarks pre post) (s : Spend)
+    (r : Ran) → IsSpend s → post s r → r ≡ answer h.0 s
 answer-AnswersMarks h s r n p = ∥∥₁_elim h.1 (Ran-set r (answer h.0 s)) (λ a. a.only s r n p)
 
 -- the marks of a job are any by which it answers
-pub marks-AnswersMarks : {pre : Spend → Type 0} {post : Spend → Ran → Type 0} (h : AnswersMarks pre post) (m : Marks) → AnswersBy pre post m → h.0 ≡ m
+pub marks-AnswersMarks : {pre : Spend → Type 0} {post : Spend → Ran → Type 0} (h : AnswersMarks pre post) (m : Marks) →
+    AnswersBy pre post m → h.0 ≡ m
 marks-AnswersMarks h m b = ∥∥₁_elim h.1 (Marks-set h.0 m) (λ a. marks-unique h.0 m a b)

@@ -8,4 +8,6 @@ pub record Marks : Type 0 where
   pub drop : ℕ
 
 abbrev pub marks_code : Coded Marks
-marks_code = code_by (ℕ × ℕ) (coded× coded_ℕ coded_ℕ) (λ m. (m.run, m.drop)) (λ p. record { run = p.0; drop = p.1 }) (λ _. refl)
+marks_code =
+    code_by (ℕ × ℕ) (coded× coded_ℕ coded_ℕ) (λ m. (m.run, m.drop))
+    (λ p. record { run = p.0; drop = p.1 }) (λ _. refl)

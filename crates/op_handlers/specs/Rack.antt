@@ -27,4 +27,6 @@ IsWholeRack rack = All IsSome (handlers_in rack)
 
 -- each handler is there, and number n has the marks that `named` gives for n
 abbrev pub HaveMarks : {H : Type 0} → (H → Marks) → (ℕ → Marks) → List (Option H) → Type 0
-HaveMarks marks named handlers = (n : ℕ) → n < length handlers → option_map marks (option_flatten (slice_get handlers n)) ≡ Some (named n)
+HaveMarks marks named handlers =
+    (n : ℕ) → n < length handlers →
+    option_map marks (option_flatten (slice_get handlers n)) ≡ Some (named n)

@@ -1,7 +1,7 @@
 use asio_types::{Class, Code, OpNo};
 
-/// How an operation completed: the arguments of its handler (Asio reference, "Requirements on asynchronous
-/// operations", the completion signature).
+/// How an operation completed: the arguments of its handler (Asio reference, "Requirements on
+/// asynchronous operations", the completion signature).
 #[derive(Clone, Copy, Debug, PartialEq, Eq)]
 pub struct Call {
     /// The operation that completed.

@@ -5,8 +5,9 @@ ghost use Rattle.op_handlers.specs.Marks.{Marks};
 use crate::call::{Call, Ran};
 use crate::handler::Handler;
 
-/// A handler that is spent once, for code that is generic in it: a type over a bound whose facts name that bound's
-/// members holds an `H: CompletionHandler`, where it could not hold the boxed `Handler` itself.
+/// A handler that is spent once, for code that is generic in it: a type over a bound whose facts
+/// name that bound's members holds an `H: CompletionHandler`, where it could not hold the boxed
+/// `Handler` itself.
 pub trait CompletionHandler {
     /// The run mark and the drop mark.
     ghost marks: { Self → Marks };

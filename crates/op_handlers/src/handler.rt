@@ -2,8 +2,8 @@ ghost use Rattle.op_handlers.specs.Job.{AnswersMarks, AnswersMarks-prop};
 
 use crate::call::{Call, Ran, Spend};
 
-/// A completion handler: called at most once, or destroyed without a call (Asio reference, "Requirements on
-/// asynchronous operations"). It must be spent.
+/// A completion handler: called at most once, or destroyed without a call (Asio reference,
+/// "Requirements on asynchronous operations"). It must be spent.
 ///
 /// It is seen as its marks, two numbers. No field holds them: they are what the job answers.
 pub struct Handler {
@@ -21,8 +21,9 @@ impl Handler {
 
     /// The handler that does this job when it is spent. It takes no memory.
     ///
-    /// The job may be called either way, and its contract names its two marks: executed it answers the run mark, the
-    /// class of the code and the position of the begin, discarded the drop mark, `Ok` and 0.
+    /// The job may be called either way, and its contract names its two marks: executed it answers
+    /// the run mark, the class of the code and the position of the begin, discarded the drop mark,
+    /// `Ok` and 0.
     pub fn of(job: Box<dyn FnOnce(Spend) -> Ran + Send>) -> Handler
         requires { (marks : Marks) × AnswersBy (pre job) (post job) marks }
         ensures { (marks : Marks) → AnswersBy (pre job) (post job) marks → marks_of result ≡ marks }
@@ -30,7 +31,8 @@ impl Handler {
         Handler { job }
     }
 
-    /// Executes the handler: it answers its run mark, the class of the code and the position of its begin.
+    /// Executes the handler: it answers its run mark, the class of the code and the position of its
+    /// begin.
     pub fn call(self, call: Call) -> Ran
         ensures mark { result.mark ≡ (marks_of self).run }
         ensures class { result.class ≡ class_of_code call.code }

@@ -5,7 +5,8 @@ use crate::completion::CompletionHandler;
 use crate::handler::Handler;
 use asio_types::ActNo;
 
-/// The handlers of a session: number n is the handler of act n, or nothing where it was taken. It must be spent.
+/// The handlers of a session: number n is the handler of act n, or nothing where it was taken. It
+/// must be spent.
 ///
 /// It is seen as that list, and by the marks of its handlers as a list of marks.
 pub struct Rack<H = Handler> {
@@ -40,7 +41,8 @@ impl<H> Rack<H> {
         self.slots.iter().all(|slot| slot.is_some())
     }
 
-    /// Takes the handler of an act: `None` exactly where the number is not below the count or was taken.
+    /// Takes the handler of an act: `None` exactly where the number is not below the count or was
+    /// taken.
     pub fn take(&mut self, a: ActNo) -> Option<H>
         ensures taken { result ≡ handler_at self.old a }
         ensures after { handlers_in self.new ≡ slice_set (handlers_in self.old) a None }
@@ -68,7 +70,8 @@ impl<H> Rack<H> {
 impl<H: CompletionHandler> Rack<H> {
     ghost use Rattle.op_handlers.specs.Rack.{AllTaken};
 
-    /// Discards the handlers that are left, in rising number, and executes none. The numbers stay, with nothing at any.
+    /// Discards the handlers that are left, in rising number, and executes none. The numbers stay,
+    /// with nothing at any.
     pub fn discard_rest(&mut self)
         ensures { AllTaken self.old self.new }
     {

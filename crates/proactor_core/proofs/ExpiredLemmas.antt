@@ -25,34 +25,47 @@ abbrev HasExpiry : List ℕ → List ℕ → Entry → Type 0
 HasExpiry expiries timers e = expiry_in expiries (wait_of timers e) ≡ e.expiry
 
 -- what those tell that have expired, as the queue has them
-tells : (now : ℕ) (expiries timers : List ℕ) (q : List Entry) → sorted_by expiry_of_entry (sorted_by serial_of q) ≡ q → All (HasExpiry expiries timers) q → map waited (sorted_by (expiry_in expiries) (filter (has_expired now expiries) (waits_of timers q))) ≡ map waited (map (wait_of timers) (filter (has_come now expiries timers) q))
+tells : (now : ℕ) (expiries timers : List ℕ) (q : List Entry) → sorted_by expiry_of_entry (sorted_by serial_of q) ≡ q →
+    All (HasExpiry expiries timers) q →
+    map waited (sorted_by (expiry_in expiries) (filter (has_expired now expiries) (waits_of timers q)))
+    ≡ map waited (map (wait_of timers) (filter (has_come now expiries timers) q))
 tells now expiries timers q in_order each =
     let sorted : List Entry = sorted_by serial_of q in
     let come : List Entry = filter (has_come now expiries timers) sorted in
-    let all : All (HasExpiry expiries timers) come = All-filter (has_come now expiries timers) (HasExpiry expiries timers) sorted (All-sorted_by serial_of (HasExpiry expiries timers) q each) in
+    let all : All (HasExpiry expiries timers) come =
+    All-filter (has_come now expiries timers) (HasExpiry expiries timers) sorted
+    (All-sorted_by serial_of (HasExpiry expiries timers) q each) in
     ap (λ ws. map waited (sorted_by (expiry_in expiries) ws)) (filter-map (has_expired now expiries) (wait_of timers) sorted)
     ∙ ap (map waited) (sym (map-sorted_by expiry_of_entry (expiry_in expiries) (wait_of timers) come all))
-    ∙ ap (λ es. map waited (map (wait_of timers) es)) (sym (filter-sorted_by expiry_of_entry (has_come now expiries timers) sorted) ∙ ap (filter (has_come now expiries timers)) in_order)
+    ∙ ap (λ es. map waited (map (wait_of timers) es)) (sym (filter-sorted_by expiry_of_entry
+    (has_come now expiries timers) sorted) ∙ ap (filter (has_come now expiries timers)) in_order)
 
-come-at : (now : ℕ) (expiries timers : List ℕ) (e : Entry) → HasExpiry expiries timers e → e.expiry ≤ now → has_come now expiries timers e ≡ true
+come-at : (now : ℕ) (expiries timers : List ℕ) (e : Entry) → HasExpiry expiries timers e → e.expiry ≤ now →
+    has_come now expiries timers e ≡ true
 come-at now expiries timers e is due = grind (arith, nat_tests)
 
-late-at : (now : ℕ) (expiries timers : List ℕ) (e : Entry) → HasExpiry expiries timers e → now < e.expiry → has_come now expiries timers e ≡ false
+late-at : (now : ℕ) (expiries timers : List ℕ) (e : Entry) → HasExpiry expiries timers e → now < e.expiry →
+    has_come now expiries timers e ≡ false
 late-at now expiries timers e is late = grind (arith, nat_tests)
 
 -- none has expired
-pub none-come : (now : ℕ) (expiries timers : List ℕ) (q : List Entry) → All (HasExpiry expiries timers) q → All (λ e. now < e.expiry) q → filter (has_expired now expiries) (waits_of timers q) ≡ []
+pub none-come : (now : ℕ) (expiries timers : List ℕ) (q : List Entry) → All (HasExpiry expiries timers) q →
+    All (λ e. now < e.expiry) q → filter (has_expired now expiries) (waits_of timers q) ≡ []
 none-come now expiries timers q each late =
-    filter-waits timers (has_expired now expiries) q ∙ ap (waits_of timers) (filter-none (has_come now expiries timers) q (λ k d b. late-at now expiries timers (get_or q k d) (each k d b) (late k d b)))
+    filter-waits timers (has_expired now expiries) q
+    ∙ ap (waits_of timers) (filter-none (has_come now expiries timers) q
+    (λ k d b. late-at now expiries timers (get_or q k d) (each k d b) (late k d b)))
 
 -- of one timer's entries, the first by expiry is the first by acceptance
-later-serial : (expiries timers : List ℕ) (w e : Entry) → HasExpiry expiries timers w → HasExpiry expiries timers e → IsBefore w e → is_wait_of (get_or timers w.op 0) (wait_of timers e) ≡ true → w.serial ≤ e.serial
+later-serial : (expiries timers : List ℕ) (w e : Entry) → HasExpiry expiries timers w → HasExpiry expiries timers e →
+    IsBefore w e → is_wait_of (get_or timers w.op 0) (wait_of timers e) ≡ true → w.serial ≤ e.serial
 later-serial expiries timers w e first other before same =
     let timer : get_or timers e.op 0 ≡ get_or timers w.op 0 = grind (arith, nat_tests) in
     let equal : e.expiry ≡ w.expiry = sym other ∙ ap (λ t. get_or expiries t 0) timer ∙ first in
     grind arith
 
-module _ (expiries timers : List ℕ) (w : Entry) (q : List Entry) (first : HasExpiry expiries timers w) (each : All (HasExpiry expiries timers) q) (before : All (IsBefore w) q) where
+module _ (expiries timers : List ℕ) (w : Entry) (q : List Entry) (first : HasExpiry expiries timers w)
+    (each : All (HasExpiry expiries timers) q) (before : All (IsBefore w) q) where
   pub ops-first : ops_of (get_or timers w.op 0) timers (w ∷ q) ≡ w.op ∷ ops_of (get_or timers w.op 0) timers q
   ops-first =
       let t : ℕ = get_or timers w.op 0 in
@@ -62,24 +75,33 @@ module _ (expiries timers : List ℕ) (w : Entry) (q : List Entry) (first : HasE
       let passes = filter_passes test q in
       let expiries_of = All-filter test (HasExpiry expiries timers) q each in
       let after = All-filter test (IsBefore w) q before in
-      let least : All (λ e. w.serial ≤ e.serial) rest = λ k d b. later-serial expiries timers w (get_or rest k d) first (expiries_of k d b) (after k d b) (passes k d b) in
-      let head : sorted_by serial_of (w ∷ rest) ≡ w ∷ sorted_by serial_of rest = put_by-least serial_of w (sorted_by serial_of rest) (All-sorted_by serial_of (λ e. w.serial ≤ e.serial) rest least) in
-      ap (map (λ wait. wait.op)) (filter-waits timers (is_wait_of t) (w ∷ q) ∙ ap (waits_of timers) (filter-yes test w q own) ∙ ap (map (wait_of timers)) head ∙ ap (λ ws. wait_of timers w ∷ ws) (sym (filter-waits timers (is_wait_of t) q)))
+      let least : All (λ e. w.serial ≤ e.serial) rest = λ k d b.
+      later-serial expiries timers w (get_or rest k d) first (expiries_of k d b) (after k d b) (passes k d b) in
+      let head : sorted_by serial_of (w ∷ rest) ≡ w ∷ sorted_by serial_of rest =
+      put_by-least serial_of w (sorted_by serial_of rest) (All-sorted_by serial_of (λ e. w.serial ≤ e.serial) rest least) in
+      ap (map (λ wait. wait.op)) (filter-waits timers (is_wait_of t) (w ∷ q)
+      ∙ ap (waits_of timers) (filter-yes test w q own) ∙ ap (map (wait_of timers)) head
+      ∙ ap (λ ws. wait_of timers w ∷ ws) (sym (filter-waits timers (is_wait_of t) q)))
 
   pub ops-apart : (n : ℕ) → n ≢ get_or timers w.op 0 → ops_of n timers (w ∷ q) ≡ ops_of n timers q
   ops-apart n other =
       let test : Entry → Bool = λ e. is_wait_of n (wait_of timers e) in
       let fails : test w ≡ false = grind (arith, nat_tests) in
-      ap (map (λ wait. wait.op)) (filter-waits timers (is_wait_of n) (w ∷ q) ∙ ap (waits_of timers) (filter-no test w q fails) ∙ sym (filter-waits timers (is_wait_of n) q))
+      ap (map (λ wait. wait.op)) (filter-waits timers (is_wait_of n) (w ∷ q)
+      ∙ ap (waits_of timers) (filter-no test w q fails) ∙ sym (filter-waits timers (is_wait_of n) q))
 
-  pub order-rest : sorted_by expiry_of_entry (sorted_by serial_of (w ∷ q)) ≡ w ∷ q → sorted_by expiry_of_entry (sorted_by serial_of q) ≡ q
+  pub order-rest : sorted_by expiry_of_entry (sorted_by serial_of (w ∷ q)) ≡ w ∷ q →
+      sorted_by expiry_of_entry (sorted_by serial_of q) ≡ q
   order-rest in_order =
       let sorted : List Entry = sorted_by serial_of q in
-      let split : w ∷ q ≡ w ∷ sorted_by expiry_of_entry sorted = sym in_order ∙ expiry-first w sorted (All-sorted_by serial_of (IsBefore w) q before) in
+      let split : w ∷ q ≡ w ∷ sorted_by expiry_of_entry sorted =
+      sym in_order ∙ expiry-first w sorted (All-sorted_by serial_of (IsBefore w) q before) in
       cc
 
 -- a queue whose first entry has left
-module _ (expiries timers : List ℕ) (queue : Timers) (queues : List (List ℕ)) (accepted pending : ℕ) (is : IsWaits expiries timers queue queues accepted pending) (w : Entry) (q : List Entry) (leaves : queue.waits ≡ w ∷ q) (before : All (IsBefore w) q) where
+module _ (expiries timers : List ℕ) (queue : Timers) (queues : List (List ℕ)) (accepted pending : ℕ)
+    (is : IsWaits expiries timers queue queues accepted pending) (w : Entry) (q : List Entry)
+    (leaves : queue.waits ≡ w ∷ q) (before : All (IsBefore w) q) where
   split : IsWaits expiries timers (record { waits = w ∷ q; spare = queue.spare }) queues accepted pending
   split =
       let P : Timers → Type 0 = λ t. IsWaits expiries timers t queues accepted pending in
@@ -98,19 +120,27 @@ module _ (expiries timers : List ℕ) (queue : Timers) (queues : List (List ℕ)
   first-timer = let b = first-each.timer in let long = is.lengths in omega arith
 
   pub first-ops : get_or queues (get_or timers w.op 0) [] ≡ w.op ∷ ops_of (get_or timers w.op 0) timers q
-  first-ops = split.listed (get_or timers w.op 0) first-timer ∙ ops-first expiries timers w q first-each.expiry rest-expiries before
+  first-ops =
+      split.listed (get_or timers w.op 0) first-timer
+      ∙ ops-first expiries timers w q first-each.expiry rest-expiries before
 
   pub some-pending : 1 ≤ pending
   some-pending = let count = split.count in omega arith
 
-  less-once : (n : ℕ) (s : Bool) → length (cond s (w ∷ filter (is_entry_for n) q) (filter (is_entry_for n) q)) ≤ 1 → length (filter (is_entry_for n) q) ≤ 1
+  less-once : (n : ℕ) (s : Bool) → length (cond s (w ∷ filter (is_entry_for n) q) (filter (is_entry_for n) q)) ≤ 1 →
+      length (filter (is_entry_for n) q) ≤ 1
   less-once n true most = omega arith
   less-once n false most = most
 
-  pub popped : (after : Timers) (new : List ℕ) (left : List (List ℕ)) → after.waits ≡ q → after.spare ≡ queue.spare + 1 → new ≡ ops_of (get_or timers w.op 0) timers q → left ≡ set queues (get_or timers w.op 0) new → IsWaits expiries timers after left accepted (pending - 1)
+  pub popped : (after : Timers) (new : List ℕ) (left : List (List ℕ)) → after.waits ≡ q →
+      after.spare ≡ queue.spare + 1 → new ≡ ops_of (get_or timers w.op 0) timers q →
+      left ≡ set queues (get_or timers w.op 0) new → IsWaits expiries timers after left accepted (pending - 1)
   popped after new left waits spare ops written =
       let t : ℕ = get_or timers w.op 0 in
-      let listed = listed-set queues t new (λ n. ops_of n timers q) first-timer ops (λ n other b. split.listed n b ∙ ops-apart expiries timers w q first-each.expiry rest-expiries before n other) in
+      let listed =
+      listed-set queues t new (λ n. ops_of n timers q) first-timer ops
+      (λ n other b. split.listed n b ∙ ops-apart expiries timers w q first-each.expiry rest-expiries before n other)
+      in
       let long : length left ≡ length queues = ap length written ∙ length-set queues t new in
       let count = split.count in
       let room = is.room in
@@ -131,14 +161,30 @@ module _ (expiries timers : List ℕ) (queue : Timers) (queues : List (List ℕ)
       })
 
   -- what is seen of it
-  pub takes-expired : (now op : ℕ) (after : List Entry) (acts : ℕ) (rooms left : List ℕ) → w.op ≡ op → w.expiry ≤ now → after ≡ q → left ≡ rooms → TakesExpired now op (record { expiries = expiries; waits = waits_of timers queue.waits; accepted = accepted; rooms = rooms; acts = acts }) (record { expiries = expiries; waits = waits_of timers after; accepted = accepted; rooms = left; acts = acts })
+  pub takes-expired : (now op : ℕ) (after : List Entry) (acts : ℕ) (rooms left : List ℕ) → w.op ≡ op → w.expiry ≤ now →
+      after ≡ q → left ≡ rooms →
+      TakesExpired now op
+      (record {
+        expiries = expiries;
+        waits = waits_of timers queue.waits;
+        accepted = accepted;
+        rooms = rooms;
+        acts = acts;
+      })
+      (record { expiries = expiries; waits = waits_of timers after; accepted = accepted; rooms = left; acts = acts })
   takes-expired now op after acts rooms left of due waits kept =
       let come : Entry → Bool = has_come now expiries timers in
       let here : come w ≡ true = come-at now expiries timers w first-each.expiry due in
       let late : Wait → Bool = λ wait. not (has_expired now expiries wait) in
       let late_one : late (wait_of timers w) ≡ false = ap not here in
       let told : ℕ → Wait = λ n. record { op = n; timer = 0 } in
-      let tell : List Wait → List ℕ → Waiting = λ ws rs. record { expiries = expiries; waits = ws; accepted = accepted; rooms = rs; acts = acts } in
+      let tell : List Wait → List ℕ → Waiting = λ ws rs. record {
+        expiries = expiries;
+        waits = ws;
+        accepted = accepted;
+        rooms = rs;
+        acts = acts;
+      } in
       let old_long = length-waits timers queue.waits in
       let new_long = length-waits timers after in
       let old_count : length queue.waits ≡ suc (length q) = ap length leaves in
@@ -151,7 +197,8 @@ module _ (expiries timers : List ℕ) (queue : Timers) (queues : List (List ℕ)
             ∙ tells now expiries timers (w ∷ q) split.in_order (λ k d b. (split.each k d b).expiry)
             ∙ ap (λ es. map waited (map (wait_of timers) es)) (filter-yes come w q here)
             ∙ ap (λ n. waited (told n) ∷ map waited (map (wait_of timers) (filter come q))) of
-            ∙ ap (λ cs. waited (told op) ∷ cs) (sym (tells now expiries timers q (order-rest expiries timers w q first-each.expiry rest-expiries before split.in_order) rest-expiries))
+            ∙ ap (λ cs. waited (told op) ∷ cs) (sym (tells now expiries timers q
+            (order-rest expiries timers w q first-each.expiry rest-expiries before split.in_order) rest-expiries))
             ∙ ap (λ ws. waited (told op) ∷ expired now (tell ws left)) (sym left_seen);
         same = ap (tell (waits_of timers after)) kept;
         others =

@@ -26,7 +26,9 @@ abbrev Allows : (Code → ℕ → Bool) → Option Outcome → Type 0
 Allows may None = Unit {0}
 Allows may (Some outcome) = may outcome.0 outcome.1 ≡ true
 
-some-allowed : (size : ℕ) (may : Code → ℕ → Bool) (end : Code) (answer : Moved) → ((n : ℕ) → 1 ≤ n → n ≤ size → may code.Ok n ≡ true) → may end 0 ≡ true → may code.Reset 0 ≡ true → 1 ≤ size → IsCountWithin size answer → Allows may (some_of size (moved_count answer) (told_code end answer)).outcome
+some-allowed : (size : ℕ) (may : Code → ℕ → Bool) (end : Code) (answer : Moved) →
+    ((n : ℕ) → 1 ≤ n → n ≤ size → may code.Ok n ≡ true) → may end 0 ≡ true → may code.Reset 0 ≡ true → 1 ≤ size →
+    IsCountWithin size answer → Allows may (some_of size (moved_count answer) (told_code end answer)).outcome
 some-allowed size may end (moved.Took count) counts at_end at_reset asked within =
     let counted : 1 ≤ min size count = omega (arith, within.0) in
     let least : min size count ≤ size = omega arith in
@@ -35,17 +37,25 @@ some-allowed size may end moved.End counts at_end at_reset asked within = at_end
 some-allowed size may end moved.NotYet counts at_end at_reset asked within = tt
 some-allowed size may end moved.Reset counts at_end at_reset asked within = at_reset
 
-all-took : (size before count : ℕ) (may : Code → ℕ → Bool) (test : Bool) → nat_le size (before + count) ≡ test → may code.Ok size ≡ true → Allows may (all_of size before count None).outcome
+all-took : (size before count : ℕ) (may : Code → ℕ → Bool) (test : Bool) → nat_le size (before + count) ≡ test →
+    may code.Ok size ≡ true → Allows may (all_of size before count None).outcome
 all-took size before count may true is whole = rw is whole
 all-took size before count may false is whole = rw is tt
 
-all-allowed : (size before : ℕ) (may : Code → ℕ → Bool) (end : Code) (answer : Moved) → may code.Ok size ≡ true → may end before ≡ true → may code.Reset before ≡ true → before < size → Allows may (all_of size before (moved_count answer) (told_code end answer)).outcome
-all-allowed size before may end (moved.Took count) whole at_end at_reset missing = all-took size before count may (nat_le size (before + count)) refl whole
-all-allowed size before may end moved.End whole at_end at_reset missing = rw (all-nothing size before 0 (Some end) missing refl) at_end
-all-allowed size before may end moved.NotYet whole at_end at_reset missing = rw (all-nothing size before 0 None missing refl) tt
-all-allowed size before may end moved.Reset whole at_end at_reset missing = rw (all-nothing size before 0 (Some code.Reset) missing refl) at_reset
+all-allowed : (size before : ℕ) (may : Code → ℕ → Bool) (end : Code) (answer : Moved) → may code.Ok size ≡ true →
+    may end before ≡ true → may code.Reset before ≡ true → before < size →
+    Allows may (all_of size before (moved_count answer) (told_code end answer)).outcome
+all-allowed size before may end (moved.Took count) whole at_end at_reset missing =
+    all-took size before count may (nat_le size (before + count)) refl whole
+all-allowed size before may end moved.End whole at_end at_reset missing =
+    rw (all-nothing size before 0 (Some end) missing refl) at_end
+all-allowed size before may end moved.NotYet whole at_end at_reset missing =
+    rw (all-nothing size before 0 None missing refl) tt
+all-allowed size before may end moved.Reset whole at_end at_reset missing =
+    rw (all-nothing size before 0 (Some code.Reset) missing refl) at_reset
 
-until-allowed : (least max : ℕ) (answer : Moved) → Allows (may_give_until least max) (ended_by (told_code code.Eof answer) 0)
+until-allowed : (least max : ℕ) (answer : Moved) →
+    Allows (may_give_until least max) (ended_by (told_code code.Eof answer) 0)
 until-allowed least max (moved.Took count) = tt
 until-allowed least max moved.End = refl
 until-allowed least max moved.NotYet = tt
@@ -63,31 +73,41 @@ is-between least most n h k =
     let high : nat_le n most ≡ true = grind (arith, nat_tests) in
     rw (low, high)
 
-answer-allowed : (asks : Asking) (before : ℕ) (answer : Moved) → before < size_of asks → MovedBefore asks before → IsCountWithin (size_of asks - before) answer → Allows (may_give asks) (asking_outcome asks before answer)
+answer-allowed : (asks : Asking) (before : ℕ) (answer : Moved) → before < size_of asks → MovedBefore asks before →
+    IsCountWithin (size_of asks - before) answer → Allows (may_give asks) (asking_outcome asks before answer)
 answer-allowed (Reads (Some_bytes size)) before answer missing fresh within =
     let all : size - before ≡ size = omega arith in
-    some-allowed size (may_give_some size is_read_mark) code.Eof answer (is-between 1 size) refl refl (omega arith) (rw all at within)
+    some-allowed size (may_give_some size is_read_mark) code.Eof answer (is-between 1 size) refl refl (omega arith)
+    (rw all at within)
 answer-allowed (Reads (All_bytes size)) before answer missing fresh within =
-    all-allowed size before (may_give_all size is_read_mark) code.Eof answer (is-itself size) (is-below before size missing) (is-below before size missing) missing
-answer-allowed (Reads (Until delimiter max)) before answer missing fresh within = until-allowed (length delimiter) max answer
+    all-allowed size before (may_give_all size is_read_mark) code.Eof answer (is-itself size)
+    (is-below before size missing) (is-below before size missing) missing
+answer-allowed (Reads (Until delimiter max)) before answer missing fresh within =
+    until-allowed (length delimiter) max answer
 answer-allowed (Writes (Some_of bytes)) before answer missing fresh within =
     let size = length bytes in
     let all : size - before ≡ size = omega arith in
-    some-allowed size (may_give_some size is_write_mark) code.Broken answer (is-between 1 size) refl refl (omega arith) (rw all at within)
+    some-allowed size (may_give_some size is_write_mark) code.Broken answer (is-between 1 size) refl refl (omega arith)
+    (rw all at within)
 answer-allowed (Writes (All_of bytes)) before answer missing fresh within =
     let size = length bytes in
-    all-allowed size before (may_give_all size is_write_mark) code.Broken answer (is-itself size) (is-below before size missing) (is-below before size missing) missing
+    all-allowed size before (may_give_all size is_write_mark) code.Broken answer (is-itself size)
+    (is-below before size missing) (is-below before size missing) missing
 
-outcome-allowed : (asks : Asking) (outcome : Option Outcome) → Allows (may_give asks) outcome → IsAllowed asks (round_of (step_of outcome))
+outcome-allowed : (asks : Asking) (outcome : Option Outcome) → Allows (may_give asks) outcome →
+    IsAllowed asks (round_of (step_of outcome))
 outcome-allowed asks None allowed = tt
 outcome-allowed asks (Some (code, size)) allowed = allowed
 
 -- what an operation gives by an answer
-pub gives-allowed : (progress : Progress) (answer : Moved) → IsUnderWay progress → FitsMove progress answer → IsAllowed progress.asks (round_of (step_of (outcome_by progress answer)))
+pub gives-allowed : (progress : Progress) (answer : Moved) → IsUnderWay progress → FitsMove progress answer →
+    IsAllowed progress.asks (round_of (step_of (outcome_by progress answer)))
 gives-allowed progress answer under_way fits =
-    outcome-allowed progress.asks (outcome_by progress answer) (answer-allowed progress.asks progress.moved answer under_way.missing under_way.before fits)
+    outcome-allowed progress.asks (outcome_by progress answer)
+    (answer-allowed progress.asks progress.moved answer under_way.missing under_way.before fits)
 
-full-allowed : (least max size there : ℕ) (ended : Code) (test : Bool) → nat_le max there ≡ test → (until_found None max there None).outcome ≡ Some (ended, size) → may_give_until least max ended size ≡ true
+full-allowed : (least max size there : ℕ) (ended : Code) (test : Bool) → nat_le max there ≡ test →
+    (until_found None max there None).outcome ≡ Some (ended, size) → may_give_until least max ended size ≡ true
 full-allowed least max size there ended true full is =
     let found : (until_found None max there None).outcome ≡ Some (code.NotFound, 0) = rw full refl in
     let both : Some (code.NotFound, 0) ≡ Some (ended, size) = sym found ∙ is in
@@ -96,37 +116,48 @@ full-allowed least max size there ended true full is =
 full-allowed least max size there ended false full is =
     let none : (until_found None max there None).outcome ≡ None = rw full refl in absurd (cc)
 
-found-allowed : (delimiter held : List ℕ) (max size : ℕ) (ended : Code) (found : Option ℕ) → first_end delimiter (take max held) ≡ found → (until_found found max (length held) None).outcome ≡ Some (ended, size) → may_give_until (length delimiter) max ended size ≡ true
+found-allowed : (delimiter held : List ℕ) (max size : ℕ) (ended : Code) (found : Option ℕ) →
+    first_end delimiter (take max held) ≡ found →
+    (until_found found max (length held) None).outcome ≡ Some (ended, size) →
+    may_give_until (length delimiter) max ended size ≡ true
 found-allowed delimiter held max size ended (Some count) at is =
     let ends = first_end-ends delimiter (take max held) count at in
     let begins = ends.begins in
     let within : count ≤ max = omega (arith, ends.within, length-take max held) in
     let same : (code.Ok, count) ≡ (ended, size) = cc in
-    subst (λ (o : Outcome). may_give_until (length delimiter) max o.0 o.1 ≡ true) same (is-between (length delimiter) max count begins within)
+    subst (λ (o : Outcome). may_give_until (length delimiter) max o.0 o.1 ≡ true) same
+    (is-between (length delimiter) max count begins within)
 found-allowed delimiter held max size ended None at is =
     full-allowed (length delimiter) max size (length held) ended (nat_le max (length held)) refl is
 
-want-finish : (outcome : Option Outcome) (more size : ℕ) (ended : Code) → until_want outcome more ≡ want.Finish ended size → outcome ≡ Some (ended, size)
+want-finish : (outcome : Option Outcome) (more size : ℕ) (ended : Code) →
+    until_want outcome more ≡ want.Finish ended size → outcome ≡ Some (ended, size)
 want-finish None more size ended is = absurd (cc)
 want-finish (Some (c, n)) more size ended is =
     let code_same : c ≡ ended = cc in
     let size_same : n ≡ size = cc in
     rw (code_same, size_same)
 
-counted-finish : (missing size : ℕ) (held : List ℕ) (ended : Code) → counted_want missing held ≡ want.Finish ended size → ⊥
+counted-finish : (missing size : ℕ) (held : List ℕ) (ended : Code) →
+    counted_want missing held ≡ want.Finish ended size → ⊥
 counted-finish missing size [] ended is = cc
 counted-finish missing size (b ∷ held) ended is = cc
 
 -- what a read gives that completes on the held bytes
-pub finish-allowed : (asks : Asking) (before size : ℕ) (held : List ℕ) (ended : Code) → asking_want asks before held ≡ want.Finish ended size → may_give asks ended size ≡ true
-finish-allowed (Reads (Some_bytes most)) before size held ended is = absurd (counted-finish (most - before) size held ended is)
-finish-allowed (Reads (All_bytes most)) before size held ended is = absurd (counted-finish (most - before) size held ended is)
+pub finish-allowed : (asks : Asking) (before size : ℕ) (held : List ℕ) (ended : Code) →
+    asking_want asks before held ≡ want.Finish ended size → may_give asks ended size ≡ true
+finish-allowed (Reads (Some_bytes most)) before size held ended is =
+    absurd (counted-finish (most - before) size held ended is)
+finish-allowed (Reads (All_bytes most)) before size held ended is =
+    absurd (counted-finish (most - before) size held ended is)
 finish-allowed (Reads (Until delimiter max)) before size held ended is =
-    found-allowed delimiter held max size ended (first_end delimiter (take max held)) refl (want-finish (served_read (Until delimiter max) before held None).outcome (max - length held) size ended is)
+    found-allowed delimiter held max size ended (first_end delimiter (take max held)) refl
+    (want-finish (served_read (Until delimiter max) before held None).outcome (max - length held) size ended is)
 finish-allowed (Writes writing) before size held ended is = absurd (cc)
 
 -- a call moves no more than it asks for, which is no more than is missing
-pub fits-within : (missing most : ℕ) (answer : Moved) → most ≤ missing → IsMoveWithin most answer → IsCountWithin missing answer
+pub fits-within : (missing most : ℕ) (answer : Moved) → most ≤ missing → IsMoveWithin most answer →
+    IsCountWithin missing answer
 fits-within missing most (moved.Took count) asks within = (within.0, omega (arith, within.1))
 fits-within missing most moved.End asks within = tt
 fits-within missing most moved.NotYet asks within = tt

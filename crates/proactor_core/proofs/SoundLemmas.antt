@@ -17,7 +17,8 @@ use Rattle.proactor_core.specs.Streams.{StreamView, pending_in_all}
 use Rattle.proactor_core.specs.Tables.{TableState, left_by, slot_left}
 
 -- 32 bits count what is pending
-pub counts-fit : (script : ScriptModel) (s : TableState) (streams : List StreamView) → HasRoomForActs script s streams → length s.waiting.waits + pending_in_all streams + length s.due.coming < 2 ^ 32
+pub counts-fit : (script : ScriptModel) (s : TableState) (streams : List StreamView) → HasRoomForActs script s streams →
+    length s.waiting.waits + pending_in_all streams + length s.due.coming < 2 ^ 32
 counts-fit script s streams room =
     let spare = room.tables.spare in
     let due = room.within.due in
@@ -25,7 +26,9 @@ counts-fit script s streams room =
     omega arith
 
 -- a completion that was told leaves its room
-pub told-room : (script : ScriptModel) (streams : List StreamView) (s : TableState) (due : Due) (head : Completion) → s.due.coming ≡ head ∷ due.coming → due.spare ≡ s.due.spare + 1 → HasRoomForActs script s streams → HasRoomForActs script (record s { due = due }) streams
+pub told-room : (script : ScriptModel) (streams : List StreamView) (s : TableState) (due : Due) (head : Completion) →
+    s.due.coming ≡ head ∷ due.coming → due.spare ≡ s.due.spare + 1 → HasRoomForActs script s streams →
+    HasRoomForActs script (record s { due = due }) streams
 told-room script streams s due head coming spare room =
     let left = room.tables in
     let before = left.spare in
@@ -33,14 +36,24 @@ told-room script streams s due head coming spare room =
     let long = ap length coming in
     record {
       fit = room.fit;
-      tables = record { acts = left.acts; waits_taken = left.waits_taken; rooms = left.rooms; counted = left.counted; accepted = left.accepted; spare = omega arith };
+      tables =
+          record {
+            acts = left.acts;
+            waits_taken = left.waits_taken;
+            rooms = left.rooms;
+            counted = left.counted;
+            accepted = left.accepted;
+            spare = omega arith;
+          };
       queues = room.queues;
       connected = room.connected;
-      within = record { due = omega (arith, long, most, spare); now = room.within.now; expiries = room.within.expiries };
+      within =
+          record { due = omega (arith, long, most, spare); now = room.within.now; expiries = room.within.expiries };
       working = room.working;
     }
 
-left-connected : (script : ScriptModel) (op : ℕ) (there : Option Connection) → IsConnected script there → IsConnected script (left_by op there)
+left-connected : (script : ScriptModel) (op : ℕ) (there : Option Connection) → IsConnected script there →
+    IsConnected script (left_by op there)
 left-connected script op None is = tt
 left-connected script op (Some there) is = cond-connected (there.op == op)
   where
@@ -48,25 +61,49 @@ left-connected script op (Some there) is = cond-connected (there.op == op)
     cond-connected true = tt
     cond-connected false = is
 
-pub connected-at : (script : ScriptModel) (slots : List (Option Connection)) (slot : ℕ) → All (IsConnected script) slots → IsConnected script (connection_of slots slot)
+pub connected-at : (script : ScriptModel) (slots : List (Option Connection)) (slot : ℕ) →
+    All (IsConnected script) slots → IsConnected script (connection_of slots slot)
 connected-at script slots slot all =
     let is : get_or slots slot None ≡ connection_of slots slot = sym (unwrap_or-slice_get slots slot None) in
     elim (cases_lt slot (length slots)) [
       | inl there ↦ subst (IsConnected script) is (all slot None there)
-      | inr past ↦ subst (IsConnected script) is (let none = get_or_past slots slot None (omega arith) in subst (IsConnected script) (sym none) tt)
+      | inr past ↦
+          subst (IsConnected script) is
+          (let none = get_or_past slots slot None (omega arith) in subst (IsConnected script) (sym none) tt)
     ]
 
 -- an operation that leaves its slot leaves the room
-pub left-room : (script : ScriptModel) (streams : List StreamView) (s : TableState) (slot : Option ℕ) (op : ℕ) → HasRoomForActs script s streams → HasRoomForActs script (slot_left slot op s) streams
+pub left-room : (script : ScriptModel) (streams : List StreamView) (s : TableState) (slot : Option ℕ) (op : ℕ) →
+    HasRoomForActs script s streams → HasRoomForActs script (slot_left slot op s) streams
 left-room script streams s None op room = room
 left-room script streams s (Some slot) op room =
     let fit = room.fit in
     let left = room.tables in
     record {
-      fit = record { most = fit.most; few = fit.few; taken = fit.taken; expiries = fit.expiries; slots = length-set s.slots slot (left_by op (connection_of s.slots slot)) ∙ fit.slots; guards = fit.guards; streams = fit.streams };
-      tables = record { acts = left.acts; waits_taken = left.waits_taken; rooms = left.rooms; counted = left.counted; accepted = left.accepted; spare = left.spare };
+      fit =
+          record {
+            most = fit.most;
+            few = fit.few;
+            taken = fit.taken;
+            expiries = fit.expiries;
+            slots = length-set s.slots slot (left_by op (connection_of s.slots slot)) ∙ fit.slots;
+            guards = fit.guards;
+            streams = fit.streams;
+          };
+      tables =
+          record {
+            acts = left.acts;
+            waits_taken = left.waits_taken;
+            rooms = left.rooms;
+            counted = left.counted;
+            accepted = left.accepted;
+            spare = left.spare;
+          };
       queues = room.queues;
-      connected = All-set (IsConnected script) s.slots slot (left_by op (connection_of s.slots slot)) (left-connected script op (connection_of s.slots slot) (connected-at script s.slots slot room.connected)) room.connected;
+      connected =
+          All-set (IsConnected script) s.slots slot (left_by op (connection_of s.slots slot))
+          (left-connected script op (connection_of s.slots slot) (connected-at script s.slots slot room.connected))
+          room.connected;
       within = room.within;
       working = room.working;
     }
@@ -75,19 +112,36 @@ left-room script streams s (Some slot) op room =
 abbrev pub after_telling : {X : Type 0} → ProactorView X → Option ℕ → ℕ → Due → ProactorView X
 after_telling view slot op due = record view { tables = slot_left slot op (record view.tables { due = due }) }
 
-pub sound-told : {X : Type 0} (state : X → ReactorState) (told : X → Option Outside) (view : ProactorView X) (slot : Option ℕ) (head : Completion) (due : Due) → view.tables.due.coming ≡ head ∷ due.coming → due.spare ≡ view.tables.due.spare + 1 → IsSound state told view → IsSound state told (after_telling view slot head.op due)
+pub sound-told : {X : Type 0} (state : X → ReactorState) (told : X → Option Outside) (view : ProactorView X)
+    (slot : Option ℕ) (head : Completion) (due : Due) → view.tables.due.coming ≡ head ∷ due.coming →
+    due.spare ≡ view.tables.due.spare + 1 → IsSound state told view →
+    IsSound state told (after_telling view slot head.op due)
 sound-told state told view None head due coming spare sound = record {
   turning = record {
     room = told-room view.script view.streams view.tables due head coming spare sound.turning.room;
-    step = record { now = sound.turning.step.now; times = sound.turning.step.times; last = sound.turning.step.last; servable = sound.turning.step.servable };
+    step =
+        record {
+          now = sound.turning.step.now;
+          times = sound.turning.step.times;
+          last = sound.turning.step.last;
+          servable = sound.turning.step.servable;
+        };
   };
   ahead = sound.ahead;
   drained = sound.drained;
 }
 sound-told state told view (Some slot) head due coming spare sound = record {
   turning = record {
-    room = left-room view.script view.streams (record view.tables { due = due }) (Some slot) head.op (told-room view.script view.streams view.tables due head coming spare sound.turning.room);
-    step = record { now = sound.turning.step.now; times = sound.turning.step.times; last = sound.turning.step.last; servable = sound.turning.step.servable };
+    room =
+        left-room view.script view.streams (record view.tables { due = due }) (Some slot) head.op
+        (told-room view.script view.streams view.tables due head coming spare sound.turning.room);
+    step =
+        record {
+          now = sound.turning.step.now;
+          times = sound.turning.step.times;
+          last = sound.turning.step.last;
+          servable = sound.turning.step.servable;
+        };
   };
   ahead = sound.ahead;
   drained = sound.drained;

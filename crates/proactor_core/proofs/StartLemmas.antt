@@ -43,13 +43,15 @@ unfolding limits_of
 streams-below version = grind (arith, common_steps)
 
 -- where all streams have the same of something
-map-alike : {A : Type 0} (f : StreamView → A) (a : A) (streams : List StreamView) → ((n : ℕ) → n < length streams → f (stream_in streams n) ≡ a) → map f streams ≡ replicate (length streams) a
+map-alike : {A : Type 0} (f : StreamView → A) (a : A) (streams : List StreamView) →
+    ((n : ℕ) → n < length streams → f (stream_in streams n) ≡ a) → map f streams ≡ replicate (length streams) a
 map-alike f a [] all = refl
 map-alike f a (view ∷ views) all =
     let first : f view ≡ a = all 0 (omega arith) in
     ap (λ x. x ∷ map f views) first ∙ ap (λ xs. a ∷ xs) (map-alike f a views (λ n b. all (suc n) (omega arith)))
 
-none-pending : (streams : List StreamView) → ((n : ℕ) → n < length streams → pending_on (stream_in streams n) ≡ 0) → pending_in_all streams ≡ 0
+none-pending : (streams : List StreamView) → ((n : ℕ) → n < length streams → pending_on (stream_in streams n) ≡ 0) →
+    pending_in_all streams ≡ 0
 none-pending [] all = refl
 none-pending (view ∷ views) all =
     let first : pending_on view ≡ 0 = all 0 (omega arith) in
@@ -62,11 +64,13 @@ op-none : (script : ScriptModel) (there : Option Connection) → op_in there ≡
 op-none script None none = tt
 op-none script (Some there) none = absurd (cc)
 
-none-connected : (script : ScriptModel) (slots : List (Option Connection)) (n : ℕ) → map op_in slots ≡ replicate n None → All (IsConnected script) slots
+none-connected : (script : ScriptModel) (slots : List (Option Connection)) (n : ℕ) →
+    map op_in slots ≡ replicate n None → All (IsConnected script) slots
 none-connected script slots n none = λ k d b.
     let long = ap length none ∙ length-replicate n None in
     let count = length-map slots op_in in
-    op-none script (get_or slots k d) (sym (get_or-map op_in slots k d None b) ∙ ap (λ (xs : List (Option ℕ)). get_or xs k None) none ∙ get_or-replicate n k None None (omega arith))
+    op-none script (get_or slots k d) (sym (get_or-map op_in slots k d None b)
+    ∙ ap (λ (xs : List (Option ℕ)). get_or xs k None) none ∙ get_or-replicate n k None None (omega arith))
 
 module _ (script : ScriptModel) (s : TableState) (streams : List StreamView) (new : AreAtStart script s streams) where
   half : with_tables s (first_reactor script true) ≡ first_reactor script true
@@ -75,19 +79,27 @@ module _ (script : ScriptModel) (s : TableState) (streams : List StreamView) (ne
   taken : s.taken ≡ replicate (length script.acts) false
   taken = ap (λ (h : ReactorHalf). h.taken) half
 
-  view-at : (n : ℕ) → n < length streams → stream_in streams n ≡ new_stream_view (stream_in streams n).room (stream_in streams n).reads_room (stream_in streams n).writes_room
+  view-at : (n : ℕ) → n < length streams →
+      stream_in streams n
+      ≡ new_stream_view (stream_in streams n).room (stream_in streams n).reads_room (stream_in streams n).writes_room
   view-at n b = new.opened n (omega (arith, b, new.count))
 
   queues-first : map queues_in streams ≡ replicate script.world.streams no_queues
-  queues-first = map-alike queues_in no_queues streams (λ n b. ap queues_in (view-at n b)) ∙ ap (λ n. replicate n no_queues) new.count
+  queues-first =
+      map-alike queues_in no_queues streams (λ n b. ap queues_in (view-at n b))
+      ∙ ap (λ n. replicate n no_queues) new.count
 
   closed-first : map (λ view. view.closed) streams ≡ replicate script.world.streams false
-  closed-first = map-alike (λ view. view.closed) false streams (λ n b. ap (λ (v : StreamView). v.closed) (view-at n b)) ∙ ap (λ n. replicate n false) new.count
+  closed-first =
+      map-alike (λ view. view.closed) false streams (λ n b. ap (λ (v : StreamView). v.closed) (view-at n b))
+      ∙ ap (λ n. replicate n false) new.count
 
   -- the works are those of the first half, whatever its streams are
-  pub works-first : (telling : Bool) → with_works s streams (first_reactor script telling) ≡ first_reactor script telling
+  pub works-first : (telling : Bool) →
+      with_works s streams (first_reactor script telling) ≡ first_reactor script telling
   works-first telling =
-      ap (λ (h : ReactorHalf). let changed : ReactorHalf = record h { queues = map queues_in streams } in changed) (new.half telling)
+      ap (λ (h : ReactorHalf). let changed : ReactorHalf = record h { queues = map queues_in streams } in changed)
+      (new.half telling)
       ∙ ap (λ q. let changed : ReactorHalf = record (first_reactor script telling) { queues = q } in changed) queues-first
 
   pub room-first : IsWellFormed script → HasRoomForActs script s streams
@@ -104,7 +116,11 @@ module _ (script : ScriptModel) (s : TableState) (streams : List StreamView) (ne
       let declared = formed.streams in
       let none = none-pending streams (λ n b. ap pending_on (view-at n b)) in
       let left = new.room in
-      let untaken : (test : Act → Bool) → untaken_below test script s.taken (length s.taken) ≡ acts_below test script (length script.acts) = λ test. ap (λ t. untaken_below test script t (length t)) taken ∙ ap (untaken_below test script (replicate (length script.acts) false)) (length-replicate (length script.acts) false) ∙ untaken-none test script (length script.acts) (length script.acts) (omega arith) in
+      let untaken : (test : Act → Bool) →
+      untaken_below test script s.taken (length s.taken) ≡ acts_below test script (length script.acts) = λ test.
+      ap (λ t. untaken_below test script t (length t)) taken
+      ∙ ap (untaken_below test script (replicate (length script.acts) false)) (length-replicate (length script.acts) false)
+      ∙ untaken-none test script (length script.acts) (length script.acts) (omega arith) in
       record {
         fit = record {
           most = omega (arith, most, acts);
@@ -118,11 +134,13 @@ module _ (script : ScriptModel) (s : TableState) (streams : List StreamView) (ne
         tables = subst (λ n. HasRoomLeft script n s) (sym none) new.room;
         queues = record {
           reads = λ n b.
-              let none : length (stream_in streams n).reads ≡ 0 = ap (λ (v : StreamView). length v.reads) (view-at n b) in
+              let none : length (stream_in streams n).reads ≡ 0 =
+              ap (λ (v : StreamView). length v.reads) (view-at n b) in
               let rooms = new.reads n (omega (arith, b, new.count)) in
               omega (arith, none, rooms, untaken (is_on_side side.Reads n));
           writes = λ n b.
-              let none : length (stream_in streams n).writes ≡ 0 = ap (λ (v : StreamView). length v.writes) (view-at n b) in
+              let none : length (stream_in streams n).writes ≡ 0 =
+              ap (λ (v : StreamView). length v.writes) (view-at n b) in
               let rooms = new.writes n (omega (arith, b, new.count)) in
               omega (arith, none, rooms, untaken (is_on_side side.Writes n));
           sizes = λ a n act b is. new.sizes a n act (omega (arith, b, new.count)) is;
@@ -131,30 +149,49 @@ module _ (script : ScriptModel) (s : TableState) (streams : List StreamView) (ne
         within = record {
           due = let none = ap length coming in omega (arith, none, new.spare);
           now = omega (arith, time);
-          expiries = subst (All (λ expiry. expiry ≤ latest s.accepted)) (sym expiries) (λ k d b. let none = get_or-replicate {A = ℕ} script.timers k 0 d (omega (arith, b, length-replicate {A = ℕ} script.timers 0)) in omega (arith, none));
+          expiries =
+              subst (All (λ expiry. expiry ≤ latest s.accepted)) (sym expiries)
+              (λ k d b.
+              let none =
+              get_or-replicate {A = ℕ} script.timers k 0 d
+              (omega (arith, b, length-replicate {A = ℕ} script.timers 0)) in
+              omega (arith, none));
         };
         working = ap (λ (h : ReactorHalf). h.failed) half;
       }
 
   -- what a reactor tells that was just set up
-  tells-first : (before : Option Outside) → Tells (option_map (λ _. outside_ready script.world) before) streams (first_reactor script (tells before)).streams (lines_after 0 script.world.lines)
-  tells-first None = record { count = length-replicate script.world.streams new_stream ∙ sym new.count; told_count = tt; bytes = λ n b. tt; to_come = tt }
+  tells-first : (before : Option Outside) →
+      Tells (option_map (λ _. outside_ready script.world) before) streams (first_reactor script (tells before)).streams
+      (lines_after 0 script.world.lines)
+  tells-first None = record {
+    count = length-replicate script.world.streams new_stream ∙ sym new.count;
+    told_count = tt;
+    bytes = λ n b. tt;
+    to_come = tt;
+  }
   tells-first (Some outside) =
-      let count : length (first_streams script.world) ≡ length streams = length-perform_lines (lines_at 0 script.world.lines) (replicate script.world.streams new_stream) ∙ length-replicate script.world.streams new_stream ∙ sym new.count in
+      let count : length (first_streams script.world) ≡ length streams =
+      length-perform_lines (lines_at 0 script.world.lines) (replicate script.world.streams new_stream)
+      ∙ length-replicate script.world.streams new_stream ∙ sym new.count in
       record {
         count = count;
         told_count = count;
-        bytes = λ n b. ap (λ (v : StreamView). whole v.held (stream_at (first_streams script.world) n)) (sym (view-at n b));
+        bytes = λ n b.
+            ap (λ (v : StreamView). whole v.held (stream_at (first_streams script.world) n)) (sym (view-at n b));
         to_come = refl;
       }
     where
       whole : List ℕ → Stream → Stream
       whole held s = record s { arrived = held ++ s.arrived }
 
-  there-first : (before : Option Outside) → IfSome (option_map (λ _. outside_ready script.world) before) (λ outside. length outside.streams ≡ length streams)
+  there-first : (before : Option Outside) →
+      IfSome (option_map (λ _. outside_ready script.world) before) (λ outside. length outside.streams ≡ length streams)
   there-first before = (tells-first before).told_count
 
-  module _ {X : Type 0} (state : X → ReactorState) (told : X → Option Outside) (old reactor : X) (ready : state reactor ≡ state_ready script.world) (told_ready : told reactor ≡ option_map (λ _. outside_ready script.world) (told old)) where
+  module _ {X : Type 0} (state : X → ReactorState) (told : X → Option Outside) (old reactor : X)
+      (ready : state reactor ≡ state_ready script.world)
+      (told_ready : told reactor ≡ option_map (λ _. outside_ready script.world) (told old)) where
     abbrev pub view : ProactorView X
     view = record { script = script; tables = s; streams = streams; reactor = reactor }
 
@@ -168,12 +205,15 @@ module _ (script : ScriptModel) (s : TableState) (streams : List StreamView) (ne
             room = room-first formed;
             step = record {
               now = ap (λ (t : ReactorState). t.now) ready ∙ sym time;
-              times = ap (λ (t : ReactorState). t.times) ready ∙ ap (λ now. times_after now script.world.lines) (sym time);
+              times =
+                  ap (λ (t : ReactorState). t.times) ready ∙ ap (λ now. times_after now script.world.lines) (sym time);
               last = ap (λ (t : ReactorState). t.last) ready ∙ sym last;
               servable = record {
                 up = subst (λ (t : ReactorState). IsTrue t.up) (sym ready) refl;
                 closed = ap (λ (t : ReactorState). t.closed) ready ∙ sym closed-first;
-                there = subst (λ (t : Option Outside). IfSome t (λ outside. length outside.streams ≡ length streams)) (sym told_ready) (there-first (told old));
+                there =
+                    subst (λ (t : Option Outside). IfSome t (λ outside. length outside.streams ≡ length streams))
+                    (sym told_ready) (there-first (told old));
               };
             };
           };
@@ -186,9 +226,19 @@ module _ (script : ScriptModel) (s : TableState) (streams : List StreamView) (ne
         let time : s.time ≡ 0 = ap (λ (h : ReactorHalf). h.now) half in
         let half_streams = (first_reactor script (tells (told old))).streams in
         let lines = lines_after s.time script.world.lines in
-        let is = subst (λ (now : ℕ). Tells (option_map (λ _. outside_ready script.world) (told old)) streams half_streams (lines_after now script.world.lines)) (sym time) (tells-first (told old)) in
+        let is =
+        subst
+        (λ (now : ℕ).
+        Tells (option_map (λ _. outside_ready script.world) (told old)) streams half_streams
+        (lines_after now script.world.lines)) (sym time) (tells-first (told old)) in
         let here = subst (λ (t : Option Outside). Tells t streams half_streams lines) (sym told_ready) is in
-        record { works = works-first (tells (told old)); count = here.count; told_count = here.told_count; bytes = here.bytes; lines = here.to_come }
+        record {
+          works = works-first (tells (told old));
+          count = here.count;
+          told_count = here.told_count;
+          bytes = here.bytes;
+          lines = here.to_come;
+        }
 
     pub follows-first : Follows told view (first_reactor script (tells (told old)))
     follows-first = record {
@@ -198,6 +248,8 @@ module _ (script : ScriptModel) (s : TableState) (streams : List StreamView) (ne
           record {
             mid = first_reactor script (tells (told old));
             is_at = at-first;
-            untold = subst (λ t. IsUntoldOf script (first_reactor script t) (first_reactor script t)) (sym was) (untold-begins script (first_reactor script false).streams);
+            untold =
+                subst (λ t. IsUntoldOf script (first_reactor script t) (first_reactor script t)) (sym was)
+                (untold-begins script (first_reactor script false).streams);
           };
     }

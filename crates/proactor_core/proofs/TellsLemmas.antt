@@ -19,16 +19,21 @@ is-told None is p = absurd (cc)
 is-told (Some outside) is p = p
 
 -- it tells as many streams
-pub counts-as : (told : Option Outside) (a b : ℕ) → a ≡ b → IfSome told (λ outside. length outside.streams ≡ a) → IfSome told (λ outside. length outside.streams ≡ b)
+pub counts-as : (told : Option Outside) (a b : ℕ) → a ≡ b → IfSome told (λ outside. length outside.streams ≡ a) →
+    IfSome told (λ outside. length outside.streams ≡ b)
 counts-as None a b same count = tt
 counts-as (Some outside) a b same count = count ∙ same
 
 -- as the streams of a history have it, which are there only where bytes are told
-pub some-count : (told : Option Outside) (n : ℕ) → tells told ≡ true → IfSome told (λ outside. length outside.streams ≡ n) → option_map (λ (outside : Outside). length outside.streams) told ≡ Some n
+pub some-count : (told : Option Outside) (n : ℕ) → tells told ≡ true →
+    IfSome told (λ outside. length outside.streams ≡ n) →
+    option_map (λ (outside : Outside). length outside.streams) told ≡ Some n
 some-count None n is count = absurd (cc)
 some-count (Some outside) n is count = ap Some count
 
-pub if-count : (told : Option Outside) (n : ℕ) → option_map (λ (outside : Outside). length outside.streams) told ≡ Some n → IfSome told (λ outside. length outside.streams ≡ n)
+pub if-count : (told : Option Outside) (n : ℕ) →
+    option_map (λ (outside : Outside). length outside.streams) told ≡ Some n →
+    IfSome told (λ outside. length outside.streams ≡ n)
 if-count None n count = tt
 if-count (Some outside) n count = let same : length outside.streams ≡ n = cc in same
 
@@ -42,7 +47,8 @@ tells-changed n None new change = ap tells change
 tells-changed n (Some outside) new change = ap tells change
 
 -- a call that changes what it tells, or fails and leaves it
-pub tells-called : {T F : Type 0} (result : Result T F) (f : T → Outside → Outside) (old new : Option Outside) → IfOk result (λ moved. new ≡ option_map (f moved) old) → OnErr result (new ≡ old) → tells new ≡ tells old
+pub tells-called : {T F : Type 0} (result : Result T F) (f : T → Outside → Outside) (old new : Option Outside) →
+    IfOk result (λ moved. new ≡ option_map (f moved) old) → OnErr result (new ≡ old) → tells new ≡ tells old
 tells-called (Ok moved) f old new changed same = ap tells changed ∙ tells-mapped (f moved) old
 tells-called (Err failed) f old new changed same = ap tells same
 

@@ -55,8 +55,8 @@ stream-gives last number old new told left due later within at =
     }
 
 -- there are as many streams as before
-pub served-count : {last : Bool} {number : ℕ} {old new : List StreamView} {told left : Option Outside} {due later : Due} →
-    AreServedBelow last number old new told left due later → length new ≡ length old
+pub served-count : {last : Bool} {number : ℕ} {old new : List StreamView} {told left : Option Outside}
+    {due later : Due} → AreServedBelow last number old new told left due later → length new ≡ length old
 served-count none_served = refl
 served-count (one_served {number = number} {old = old} {new = new} below at) =
     let after = stream_in new number in

@@ -180,7 +180,8 @@ module _ (script : ScriptModel) (mid : ReactorHalf) (streams : List Stream) (que
       let done_is : done ≡ head = cc in
       let given_is : given ≡ rest = cc in
       let now = queues_of_view queues stream in
-      let first_is = subst (λ (qs : List StreamQueues). IsFirstGiven may_give_read (queues_of_view qs stream).reads head)
+      let first_is =
+      subst (λ (qs : List StreamQueues). IsFirstGiven may_give_read (queues_of_view qs stream).reads head)
       is (subst (IsFirstGiven may_give_read (queues_of_view first stream).reads) done_is gave) in
       let behind = subst (λ (g : List Completion). AreGiven (reading_place stream)
       (without_read stream queues) g place (map unmoved_queues mid.queues)) given_is

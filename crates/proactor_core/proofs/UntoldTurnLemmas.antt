@@ -17,7 +17,8 @@ pub untold-turns : UntoldTurns
 untold-turns script mid half last number reached streams old new told left due later unserved queued listed few served under_way =
     let queues = map queues_in new in
     let below = streams-give-below last number old new told left due later few served in
-    let from = subst (λ (qs : List StreamQueues). AreGivenBelow number qs queues due.coming later.coming) (sym queued) below in
+    let from =
+    subst (λ (qs : List StreamQueues). AreGivenBelow number qs queues due.coming later.coming) (sym queued) below in
     let after = subst (λ (d : List Completion). AreGivenBelow number mid.queues queues d later.coming) listed from in
     untold-settles script mid half number reached streams queues later.coming unserved after
     (All-map AreUnderWay queues_in new under_way)
@@ -29,7 +30,11 @@ emptied-below : {last : Bool} {number : ℕ} {old new : List StreamView} {told l
 emptied-below is none_served k below = absurd (omega arith)
 emptied-below is (one_served {number = n} {old = old} {new = new} lower at) k below =
     let after = stream_in new n in
-    let changed : StreamView = record (stream_in old n) { held = after.held; reads = after.reads; writes = after.writes } in
+    let changed : StreamView = record (stream_in old n) {
+      held = after.held;
+      reads = after.reads;
+      writes = after.writes;
+    } in
     elim (cases_lt k n) [
       | inl less ↦
           let differ : k ≢ n = λ same. absurd (omega arith) in

@@ -17,17 +17,21 @@ pub All-from_map : {X Y : Type 0} (P : Y → Type 0) (f : X → Y) (xs : List X)
 All-from_map P f xs all = λ k d b. subst P (get_or-map f xs k d (f d) b) (all k (f d) (rw (length-map xs f) b))
 
 module _ (timers : List ℕ) where
-  pub filter-waits : (keep : Wait → Bool) (q : List Entry) → filter keep (waits_of timers q) ≡ waits_of timers (filter (λ e. keep (wait_of timers e)) q)
+  pub filter-waits : (keep : Wait → Bool) (q : List Entry) →
+      filter keep (waits_of timers q) ≡ waits_of timers (filter (λ e. keep (wait_of timers e)) q)
   filter-waits keep q =
-      filter-map keep (wait_of timers) (sorted_by serial_of q) ∙ ap (map (wait_of timers)) (filter-sorted_by serial_of (λ e. keep (wait_of timers e)) q)
+      filter-map keep (wait_of timers) (sorted_by serial_of q)
+      ∙ ap (map (wait_of timers)) (filter-sorted_by serial_of (λ e. keep (wait_of timers e)) q)
 
   pub length-waits : (q : List Entry) → length (waits_of timers q) ≡ length q
   length-waits q = length-map (sorted_by serial_of q) (wait_of timers) ∙ length-sorted_by serial_of q
 
   pub All-waits : (P : Wait → Type 0) (q : List Entry) → All (λ e. P (wait_of timers e)) q → All P (waits_of timers q)
-  All-waits P q all = All-map P (wait_of timers) (sorted_by serial_of q) (All-sorted_by serial_of (λ e. P (wait_of timers e)) q all)
+  All-waits P q all =
+      All-map P (wait_of timers) (sorted_by serial_of q) (All-sorted_by serial_of (λ e. P (wait_of timers e)) q all)
 
-  pub All-from_waits : (P : Wait → Type 0) (q : List Entry) → All P (waits_of timers q) → All (λ e. P (wait_of timers e)) q
+  pub All-from_waits : (P : Wait → Type 0) (q : List Entry) → All P (waits_of timers q) →
+      All (λ e. P (wait_of timers e)) q
   All-from_waits P q all =
       All-from_sorted_by serial_of (λ e. P (wait_of timers e)) q (All-from_map P (wait_of timers) (sorted_by serial_of q) all)
 
@@ -35,28 +39,36 @@ module _ (timers : List ℕ) where
   pub timer-waits : (q : List Entry) → All (λ wait. wait.timer ≡ get_or timers wait.op 0) (waits_of timers q)
   timer-waits q = All-waits (λ wait. wait.timer ≡ get_or timers wait.op 0) q (λ k d b. refl)
 
-  pub once-waits : (q : List Entry) → ((op : ℕ) → length (filter (is_entry_for op) q) ≤ 1) → (op : ℕ) → length (filter (is_wait_for op) (waits_of timers q)) ≤ 1
+  pub once-waits : (q : List Entry) → ((op : ℕ) → length (filter (is_entry_for op) q) ≤ 1) → (op : ℕ) →
+      length (filter (is_wait_for op) (waits_of timers q)) ≤ 1
   once-waits q once op =
       let same = ap length (filter-waits (is_wait_for op) q) ∙ length-waits (filter (is_entry_for op) q) in
       let most = once op in
       omega arith
 
 -- a queue is written where it has what its timer's operations are
-pub listed-set : (queues : List (List ℕ)) (t : ℕ) (new : List ℕ) (ops : ℕ → List ℕ) → t < length queues → new ≡ ops t → ((n : ℕ) → n ≢ t → n < length queues → get_or queues n [] ≡ ops n) → (n : ℕ) → n < length queues → get_or (set queues t new) n [] ≡ ops n
+pub listed-set : (queues : List (List ℕ)) (t : ℕ) (new : List ℕ) (ops : ℕ → List ℕ) → t < length queues → new ≡ ops t →
+    ((n : ℕ) → n ≢ t → n < length queues → get_or queues n [] ≡ ops n) → (n : ℕ) → n < length queues →
+    get_or (set queues t new) n [] ≡ ops n
 listed-set queues t new ops within here others n b =
     elim (cases_eq n t) [
-      | inl same ↦ ap (λ m. get_or (set queues t new) m []) same ∙ get_or-set_same queues t new [] within ∙ here ∙ ap ops (sym same)
+      | inl same ↦
+          ap (λ m. get_or (set queues t new) m []) same ∙ get_or-set_same queues t new [] within ∙ here
+          ∙ ap ops (sym same)
       | inr other ↦ get_or-set_other queues t n new [] other ∙ others n other b
     ]
 
 -- what is written has the same image
-pub map-set_same : {X Y : Type 0} (f : X → Y) (xs : List X) (i : ℕ) (x : X) → i < length xs → f x ≡ f (get_or xs i x) → map f (set xs i x) ≡ map f xs
+pub map-set_same : {X Y : Type 0} (f : X → Y) (xs : List X) (i : ℕ) (x : X) → i < length xs → f x ≡ f (get_or xs i x) →
+    map f (set xs i x) ≡ map f xs
 map-set_same f xs i x b e =
     map-set f xs i x ∙ ap (set (map f xs) i) (e ∙ sym (get_or-map f xs i x (f x) b)) ∙ set-get_or (map f xs) i (f x)
 
-pub same-timers : (a : Timers) (ws : List Entry) (n : ℕ) → a.waits ≡ ws → a.spare ≡ n → a ≡ record { waits = ws; spare = n }
+pub same-timers : (a : Timers) (ws : List Entry) (n : ℕ) → a.waits ≡ ws → a.spare ≡ n →
+    a ≡ record { waits = ws; spare = n }
 same-timers a ws n e f = rw (← e, ← f) refl
 
 -- what a queue that was read has
-pub read-at : {X : Type 0} (items : X → List ℕ) (xs : List X) (i : ℕ) (x : X) → i < length xs → x ≡ get_or xs i x → items x ≡ get_or (map items xs) i []
+pub read-at : {X : Type 0} (items : X → List ℕ) (xs : List X) (i : ℕ) (x : X) → i < length xs → x ≡ get_or xs i x →
+    items x ≡ get_or (map items xs) i []
 read-at items xs i x b e = ap items e ∙ sym (get_or-map items xs i x [] b)

@@ -1,4 +1,5 @@
--- What is cancelled in the queues of a stream (Asio reference, Overview, "Per-Operation Cancellation"; basic_stream_socket::close).
+-- What is cancelled in the queues of a stream (Asio reference, Overview, "Per-Operation
+-- Cancellation"; basic_stream_socket::close).
 use Rattle.std.specs.Prelude.{ℕ, ◌≡◌, ◌==◌, nat_lt, Bool, true, false, List, [], ◌∷◌, map}
 use Rattle.stream_rules.specs.declared.queue.Completion.{Completion}
 use Rattle.history_book.specs.Performing.{aborted, all_of_stream}
@@ -19,6 +20,9 @@ pending_reads_go_first (read ∷ reads) [] = true
 pending_reads_go_first (read ∷ reads) (write ∷ writes) = nat_lt read.accepted write.accepted
 
 -- this operation comes before all others of a stream, which has these left then
-abbrev pub IsFirstPending : PendingOp → List PendingOp → List PendingOp → List PendingOp → List PendingOp → Type 0
+abbrev pub IsFirstPending : PendingOp → List PendingOp → List PendingOp → List PendingOp →
+    List PendingOp → Type 0
 IsFirstPending first reads writes reads_left writes_left =
-    all_of_stream (map pending_read reads) (map pending_write writes) ≡ abort_of_pending first ∷ all_of_stream (map pending_read reads_left) (map pending_write writes_left)
+    all_of_stream (map pending_read reads) (map pending_write writes)
+    ≡ abort_of_pending first
+    ∷ all_of_stream (map pending_read reads_left) (map pending_write writes_left)

@@ -9,4 +9,7 @@ pub record Due : Type 0 where
 
 -- these are to be told after the others
 abbrev pub listed : List Completion → Due → Due
-listed completed due = record { coming = due.coming ++ completed; spare = due.spare - length completed }
+listed completed due = record {
+  coming = due.coming ++ completed;
+  spare = due.spare - length completed;
+}

@@ -1,5 +1,5 @@
--- The bytes of a stream that were read and not consumed (Asio reference, async_read_until: what stands behind the delimiter stays
--- for the next read).
+-- The bytes of a stream that were read and not consumed (Asio reference, async_read_until: what
+-- stands behind the delimiter stays for the next read).
 use Rattle.std.specs.Prelude.{ℕ, List, [], ◌++◌, drop}
 
 -- the bytes, and how many of them there may be at once

@@ -1,5 +1,5 @@
--- The operations of one side of a stream, and what serving them leaves (Asio reference, async_read and async_write: here they queue
--- in order of acceptance).
+-- The operations of one side of a stream, and what serving them leaves (Asio reference, async_read
+-- and async_write: here they queue in order of acceptance).
 use Rattle.std.specs.Prelude.{ℕ, ◌≡◌, ◌≤◌, ⊤, Bool, true, All, List, [], ◌∷◌, map}
 use Rattle.asio_types.specs.declared.code.Code.{Code}
 use Rattle.stream_rules.specs.declared.queue.Completion.{Completion}
@@ -55,7 +55,8 @@ pub record IsNewRead (buffer room : ℕ) (progress : Progress) : Type 0 where
 abbrev pub AreReads : ℕ → HeldBytes → List PendingOp → Type 0
 AreReads buffer held [] = ⊤
 AreReads buffer held (head ∷ queue) =
-    MayRead buffer held (progress_in head) × All (λ pending. IsNewRead buffer held.room (progress_in pending)) queue
+    MayRead buffer held (progress_in head)
+    × All (λ pending. IsNewRead buffer held.room (progress_in pending)) queue
 
 abbrev pub AreWrites : List PendingOp → Type 0
 AreWrites queue = All (λ pending. MayWrite (progress_in pending)) queue
@@ -64,21 +65,26 @@ AreWrites queue = All (λ pending. MayWrite (progress_in pending)) queue
 abbrev pub unmoved : {Asks : Type 0} → Pending Asks → Pending Asks
 unmoved pending = record pending { moved = 0 }
 
--- the heads of a queue complete in order, each as it may where bytes aren't told, and the others stay, whatever they moved
-abbrev pub GivesInOrder : {Asks : Type 0} → (Asks → Code → ℕ → Bool) → List (Pending Asks) → List (Pending Asks) → List Completion → Type 0
+-- the heads of a queue complete in order, each as it may where bytes aren't told, and the others
+-- stay, whatever they moved
+abbrev pub GivesInOrder : {Asks : Type 0} → (Asks → Code → ℕ → Bool) → List (Pending Asks) →
+    List (Pending Asks) → List Completion → Type 0
 GivesInOrder may queue staying [] = map unmoved queue ≡ map unmoved staying
 GivesInOrder may [] staying (given ∷ completed) = ⊥
 GivesInOrder may (head ∷ queue) staying (given ∷ completed) =
-    (given.op ≡ head.op) × (may head.asks given.outcome.0 given.outcome.1 ≡ true) × GivesInOrder may queue staying completed
+    (given.op ≡ head.op) × (may head.asks given.outcome.0 given.outcome.1 ≡ true)
+    × GivesInOrder may queue staying completed
 
 -- what completed is due
-pub record GivesDue {Asks : Type 0} (may : Asks → Code → ℕ → Bool) (queue staying : List (Pending Asks)) (old new : Due) : Type 0 where
+pub record GivesDue {Asks : Type 0} (may : Asks → Code → ℕ → Bool)
+    (queue staying : List (Pending Asks)) (old new : Due) : Type 0 where
   pub completed : List Completion
   pub due : new ≡ listed completed old
   pub in_order : GivesInOrder may queue staying completed
 
 -- the queue was served by the rules of streams
-pub record IsServedBy {Asks : Type 0} (side : Side Asks) (queue staying : List (Pending Asks)) (there left : Stream) (old new : Due) : Type 0 where
+pub record IsServedBy {Asks : Type 0} (side : Side Asks) (queue staying : List (Pending Asks))
+    (there left : Stream) (old new : Due) : Type 0 where
   pub due : new ≡ listed (served_queue side queue there).completed old
   pub stays : staying ≡ (served_queue side queue there).staying
   pub stream : left ≡ (served_queue side queue there).stream

@@ -1,5 +1,5 @@
--- A read at the head of its queue: the bytes that are held for it, and those behind them that its reactor tells (Asio reference,
--- async_read_some, async_read, async_read_until).
+-- A read at the head of its queue: the bytes that are held for it, and those behind them that its
+-- reactor tells (Asio reference, async_read_some, async_read, async_read_until).
 use Rattle.std.specs.Prelude.{ℕ, ◌≡◌, ◌≤◌, ◌-◌, ◌⊎◌, ⊤, Bool, true, List, [], Option, None, Some, length}
 use Rattle.asio_types.specs.declared.code.Code.{Code}
 use Rattle.stream_rules.specs.Serving.{Outcome, Some_bytes, All_bytes, Until}
@@ -16,7 +16,11 @@ use Rattle.proactor_core.specs.declared.round.Round.TheVariants as round
 
 -- an operation, the bytes that are held, and its stream as a reactor tells it
 abbrev pub exchange_at : Progress → List ℕ → Option Outside → ℕ → Exchange
-exchange_at progress held told number = record { progress = progress; held = held; stream = told_stream told number }
+exchange_at progress held told number = record {
+  progress = progress;
+  held = held;
+  stream = told_stream told number;
+}
 
 abbrev pub AsksToRead : Asking → Type 0
 AsksToRead (Reads reading) = ⊤
@@ -30,10 +34,12 @@ pub record MayRead (buffer : ℕ) (held : HeldBytes) (progress : Progress) : Typ
   pub fits : size_of progress.asks ≤ buffer
   pub holds : size_of progress.asks ≤ held.room
 
--- how serving an operation ends, by the rules of streams: where it stays, with the bytes that it moved
+-- how serving an operation ends, by the rules of streams: where it stays, with the bytes that it
+-- moved
 abbrev pub Ends : Exchange → Exchange → Option Outcome → Type 0
 Ends before after None = course_of before ≡ course_at after None
-Ends before after (Some outcome) = ((course_of before).outcome ≡ Some outcome) × ((course_of before).stream ≡ whole_stream after)
+Ends before after (Some outcome) =
+    ((course_of before).outcome ≡ Some outcome) × ((course_of before).stream ≡ whole_stream after)
 
 -- what one call for it does
 abbrev pub IsRound : Exchange → Exchange → Round → Type 0

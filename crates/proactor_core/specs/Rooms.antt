@@ -23,4 +23,5 @@ waits_for timer _ = false
 abbrev pub untaken_below : (Act → Bool) → ScriptModel → List Bool → ℕ → ℕ
 untaken_below test script taken zero = 0
 untaken_below test script taken (suc a) =
-    untaken_below test script taken a + (if slice_index_or taken a true then 0 else one_if test (act_of script a))
+    untaken_below test script taken a
+    + (if slice_index_or taken a true then 0 else one_if test (act_of script a))

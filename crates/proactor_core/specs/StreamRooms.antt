@@ -1,4 +1,5 @@
--- How many operations of each stream a script has, and how many bytes its reads ask for, which is the room that they can need.
+-- How many operations of each stream a script has, and how many bytes its reads ask for, which is
+-- the room that they can need.
 use Rattle.std.specs.Prelude.{ℕ, ◌==◌, Bool, false, Option, Some, None, if◌then◌else◌}
 use Rattle.session_script.specs.declared.act.Act.{Act}
 use Rattle.session_script.specs.declared.act.Act.TheVariants as act
@@ -31,9 +32,12 @@ is_on_side side stream act = is_stream stream (stream_on side act)
 
 -- the most bytes that an act reads of this stream
 abbrev pub bytes_asked_at : ℕ → Act → ℕ
-bytes_asked_at stream (act.ReadSome other size strand slot filter) = if other == stream then size else 0
-bytes_asked_at stream (act.ReadAll other size strand slot filter) = if other == stream then size else 0
-bytes_asked_at stream (act.Until other delimiter max strand slot filter) = if other == stream then max else 0
+bytes_asked_at stream (act.ReadSome other size strand slot filter) =
+    if other == stream then size else 0
+bytes_asked_at stream (act.ReadAll other size strand slot filter) =
+    if other == stream then size else 0
+bytes_asked_at stream (act.Until other delimiter max strand slot filter) =
+    if other == stream then max else 0
 bytes_asked_at stream _ = 0
 
 -- the same of a stream with a size, if there is one

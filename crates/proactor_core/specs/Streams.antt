@@ -1,5 +1,5 @@
--- The streams of a proactor: for each the bytes that are held and the operations that haven't completed (Asio reference,
--- basic_stream_socket).
+-- The streams of a proactor: for each the bytes that are held and the operations that haven't
+-- completed (Asio reference, basic_stream_socket).
 use Rattle.std.specs.Prelude.{ℕ, ◌≡◌, ◌+◌, Bool, true, false, not, Option, List, [], ◌∷◌, ◌++◌, filter, length, map, sum_by, IfSome, IsTrue, if◌then◌else◌}
 use Rattle.std.specs.List.{slice_index_or, slice_set}
 use Rattle.std.specs.Option.{option_map}
@@ -49,11 +49,13 @@ pending_on view = length view.reads + length view.writes
 -- an operation that is accepted completes at once where the stream is closed
 abbrev pub read_begun : ℕ → ℕ → Reading → StreamView → StreamView
 read_begun op accepted reading view =
-    if view.closed then view else record view { reads = view.reads ++ new_pending op accepted reading ∷ [] }
+    if view.closed then view
+    else record view { reads = view.reads ++ new_pending op accepted reading ∷ [] }
 
 abbrev pub write_begun : ℕ → ℕ → Writing → StreamView → StreamView
 write_begun op accepted writing view =
-    if view.closed then view else record view { writes = view.writes ++ new_pending op accepted writing ∷ [] }
+    if view.closed then view
+    else record view { writes = view.writes ++ new_pending op accepted writing ∷ [] }
 
 abbrev pub bad_if_closed : ℕ → StreamView → Due → Due
 bad_if_closed op view due = if view.closed then listed (bad op ∷ []) due else due
@@ -66,7 +68,8 @@ without_op op view = record view {
 }
 
 abbrev pub aborts_of_op : ℕ → StreamView → List Completion
-aborts_of_op op view = all_aborted (filter (is_of op) view.reads) ++ all_aborted (filter (is_of op) view.writes)
+aborts_of_op op view =
+    all_aborted (filter (is_of op) view.reads) ++ all_aborted (filter (is_of op) view.writes)
 
 -- a closed stream holds nothing
 abbrev pub closed_view : StreamView → StreamView
@@ -79,7 +82,8 @@ pub record StreamGives (before after : StreamView) (old new : Due) : Type 0 wher
   pub writes : GivesDue may_give_write before.writes after.writes between new
 
 -- where bytes are told: the stream was served as in a history
-pub record IsStreamServed (before after : StreamView) (there left : Stream) (old new : Due) : Type 0 where
+pub record IsStreamServed (before after : StreamView) (there left : Stream) (old new : Due)
+    : Type 0 where
   pub due : new ≡ listed (served_stream there (queues_in before)).completed old
   pub queues : queues_in after ≡ (served_stream there (queues_in before)).queues
   pub stream : left ≡ (served_stream there (queues_in before)).stream
@@ -101,7 +105,8 @@ closes_told true number told = told
 closes_told false number told = option_map (outside_closed number) told
 
 -- what serving a stream does: to the streams, to what the reactor tells, and to what is due
-pub record IsServedAt (last : Bool) (number : ℕ) (old new : List StreamView) (told left : Option Outside) (due later : Due) : Type 0 where
+pub record IsServedAt (last : Bool) (number : ℕ) (old new : List StreamView)
+    (told left : Option Outside) (due later : Due) : Type 0 where
   pub others : new ≡ with_stream_in number (λ view. record view {
     held = (stream_in new number).held;
     reads = (stream_in new number).reads;
@@ -109,18 +114,28 @@ pub record IsServedAt (last : Bool) (number : ℕ) (old new : List StreamView) (
   }) old
   pub changes : ChangesOne number told left
   pub gives : StreamGives (stream_in old number) (stream_in new number) due later
-  pub served : IfSome told (λ _. IsStreamServed (stream_in old number) (stream_in new number) (whole_told (stream_in old number).held told number) (whole_told (stream_in new number).held left number) due later)
+  pub served : IfSome told (λ _.
+      IsStreamServed (stream_in old number) (stream_in new number)
+      (whole_told (stream_in old number).held told number)
+      (whole_told (stream_in new number).held left number) due later)
   -- after the last time point everything completes
   pub reads_after_last : IsTrue last → (stream_in new number).reads ≡ []
   pub writes_after_last : IsTrue last → (stream_in new number).writes ≡ []
 
 -- the first streams are served, by rising number
-pub data AreServedBelow (last : Bool) : ℕ → List StreamView → List StreamView → Option Outside → Option Outside → Due → Due → Type 0 where
-  none_served : {streams : List StreamView} {told : Option Outside} {due : Due} → AreServedBelow last 0 streams streams told told due due
-  one_served : {number : ℕ} {first old new : List StreamView} {before told left : Option Outside} {start due later : Due} → AreServedBelow last number first old before told start due → IsServedAt last number old new told left due later → AreServedBelow last (number + 1) first new before left start later
+pub data AreServedBelow (last : Bool)
+    : ℕ → List StreamView → List StreamView → Option Outside → Option Outside → Due → Due → Type 0
+  where
+    none_served : {streams : List StreamView} {told : Option Outside} {due : Due} →
+        AreServedBelow last 0 streams streams told told due due
+    one_served : {number : ℕ} {first old new : List StreamView} {before told left : Option Outside}
+        {start due later : Due} → AreServedBelow last number first old before told start due →
+        IsServedAt last number old new told left due later →
+        AreServedBelow last (number + 1) first new before left start later
 
 -- each open stream of the reactor may be read and written
-pub record AreServable (streams : List StreamView) (state : ReactorState) (told : Option Outside) : Type 0 where
+pub record AreServable (streams : List StreamView) (state : ReactorState) (told : Option Outside)
+    : Type 0 where
   pub up : IsTrue state.up
   pub closed : state.closed ≡ map (λ view. view.closed) streams
   pub there : IfSome told (λ outside. length outside.streams ≡ length streams)

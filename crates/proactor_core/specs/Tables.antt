@@ -1,5 +1,5 @@
--- What a proactor keeps apart from its streams, and what its calls make of that (Asio reference, steady_timer; cancellation_slot;
--- executor_work_guard; Overview, "The Proactor Design Pattern").
+-- What a proactor keeps apart from its streams, and what its calls make of that (Asio reference,
+-- steady_timer; cancellation_slot; executor_work_guard; Overview, "The Proactor Design Pattern").
 use Rattle.std.specs.Prelude.{ℕ, ◌+◌, ◌∷◌, ◌++◌, ◌==◌, Bool, true, false, List, [], Option, Some, None, find, length, map, if◌then◌else◌}
 use Rattle.std.specs.List.{slice_set}
 use Rattle.std.specs.Option.{option_map}
@@ -45,12 +45,15 @@ wait_begun op timer s = record s {
 -- an operation is connected to its slot with these cancellation types, if it has one
 abbrev pub slot_taken : Option ℕ → ℕ → ℕ → TableState → TableState
 slot_taken None op types s = s
-slot_taken (Some slot) op types s = record s { slots = slice_set s.slots slot (Some (record { op = op; supported = types })) }
+slot_taken (Some slot) op types s =
+    record s { slots = slice_set s.slots slot (Some (record { op = op; supported = types })) }
 
 -- a timer gets this expiry
 abbrev pub timer_set : ℕ → ℕ → TableState → TableState
 timer_set timer expiry s = record s {
-  waiting = record (without (is_wait_of timer) s.waiting) { expiries = slice_set s.waiting.expiries timer expiry };
+  waiting =
+      record (without (is_wait_of timer) s.waiting)
+      { expiries = slice_set s.waiting.expiries timer expiry };
   due = listed (aborts (is_wait_of timer) s.waiting) s.due;
 }
 
@@ -103,11 +106,15 @@ left_by op (Some there) = if there.op == op then None else Some there
 -- an operation leaves its slot, unless another has replaced it there
 abbrev pub slot_left : Option ℕ → ℕ → TableState → TableState
 slot_left None op s = s
-slot_left (Some slot) op s = record s { slots = slice_set s.slots slot (left_by op (connection_of s.slots slot)) }
+slot_left (Some slot) op s =
+    record s { slots = slice_set s.slots slot (left_by op (connection_of s.slots slot)) }
 
 -- the reactor has failed, and nothing of its turn is told
 abbrev pub reactor_lost : TableState → TableState
-reactor_lost s = record s { failed = true; due = record { coming = []; spare = s.due.spare + length s.due.coming } }
+reactor_lost s = record s {
+  failed = true;
+  due = record { coming = []; spare = s.due.spare + length s.due.coming };
+}
 
 abbrev pub op_in : Option Connection → Option ℕ
 op_in there = option_map (λ (c : Connection). c.op) there

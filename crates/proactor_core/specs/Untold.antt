@@ -1,6 +1,7 @@
--- A proactor beside a history whose bytes are untold. Both have a reactor's half of a state. The proactor's is called mid
--- here: it serves the streams, so it knows what each operation moved and what each stream gave. The history's is called
--- half, and serves no stream: there an operation stays in its queue, unmoved, until its completion is told.
+-- A proactor beside a history whose bytes are untold. Both have a reactor's half of a state. The
+-- proactor's is called mid here: it serves the streams, so it knows what each operation moved and
+-- what each stream gave. The history's is called half, and serves no stream: there an operation
+-- stays in its queue, unmoved, until its completion is told.
 use Rattle.std.specs.Prelude.{◌≡◌, ◌≤◌, ◌<◌, ℕ, ◌+◌, ⊤, Bool, true, false, All, List, [], ◌∷◌, ◌++◌, Option, Some, None, length, map, drop, count_by}
 use Rattle.std.specs.List.{slice_get, slice_index_or, slice_set}
 use Rattle.asio_types.specs.declared.code.Code.{Code}
@@ -44,8 +45,8 @@ AreToldBy script (own ∷ due) (told ∷ fixed) = IsToldBy script own told × Ar
 AreToldBy script due fixed = ⊥
 
 -- the first operation of a queue completes as it may where bytes are untold
-pub record IsFirstGiven {Asks : Type 0} (may : Asks → Code → ℕ → Bool) (queue : List (Pending Asks)) (done : Completion) :
-    Type 0 where
+pub record IsFirstGiven {Asks : Type 0} (may : Asks → Code → ℕ → Bool) (queue : List (Pending Asks))
+    (done : Completion) : Type 0 where
   pub head : Pending Asks
   pub first : slice_get queue 0 ≡ Some head
   pub is_op : done.op ≡ head.op
@@ -62,22 +63,25 @@ without_write stream queues =
     let one = queues_of_view queues stream in
     slice_set queues stream (record one { writes = drop 1 one.writes })
 
--- from one place in a turn to another operations complete: each is the first of its side, and no side gives once a later
--- one has given. The last queues are what is left of the first
+-- from one place in a turn to another operations complete: each is the first of its side, and no
+-- side gives once a later one has given. The last queues are what is left of the first
 pub data AreGiven : ℕ → List StreamQueues → List Completion → ℕ → List StreamQueues → Type 0 where
-  none_given : {from to : ℕ} {queues : List StreamQueues} → from ≤ to → AreGiven from queues [] to queues
-  read_given : {from to : ℕ} {queues left : List StreamQueues} {done : Completion} {given : List Completion} (stream : ℕ) →
-      from ≤ reading_place stream → IsFirstGiven may_give_read (queues_of_view queues stream).reads done →
+  none_given : {from to : ℕ} {queues : List StreamQueues} → from ≤ to →
+      AreGiven from queues [] to queues
+  read_given : {from to : ℕ} {queues left : List StreamQueues} {done : Completion}
+      {given : List Completion} (stream : ℕ) → from ≤ reading_place stream →
+      IsFirstGiven may_give_read (queues_of_view queues stream).reads done →
       AreGiven (reading_place stream) (without_read stream queues) given to left →
       AreGiven from queues (done ∷ given) to left
-  write_given : {from to : ℕ} {queues left : List StreamQueues} {done : Completion} {given : List Completion} (stream : ℕ) →
-      from ≤ writing_place stream → IsFirstGiven may_give_write (queues_of_view queues stream).writes done →
+  write_given : {from to : ℕ} {queues left : List StreamQueues} {done : Completion}
+      {given : List Completion} (stream : ℕ) → from ≤ writing_place stream →
+      IsFirstGiven may_give_write (queues_of_view queues stream).writes done →
       AreGiven (writing_place stream) (without_write stream queues) given to left →
       AreGiven from queues (done ∷ given) to left
 
 -- the operation of a queue is an act of the script that asks this of this stream
-pub record IsKnown {Asks : Type 0} (script : ScriptModel) (asks_of : Act → Option Asks) (stream : ℕ) (pending : Pending Asks) :
-    Type 0 where
+pub record IsKnown {Asks : Type 0} (script : ScriptModel) (asks_of : Act → Option Asks) (stream : ℕ)
+    (pending : Pending Asks) : Type 0 where
   pub act : Act
   pub is_act : act_of script pending.op ≡ Some act
   pub asks : asks_of act ≡ Some pending.asks
@@ -92,7 +96,8 @@ AreKnown script queues = (stream : ℕ) → AreKnownAt script stream (queues_of_
 
 -- a history that knows nothing of what an operation moved lets its abort tell this
 abbrev pub MayAbort : {Asks : Type 0} → ScriptModel → Pending Asks → Type 0
-MayAbort script pending = may_have_moved (act_of script pending.op) code.Aborted 0 pending.moved ≡ true
+MayAbort script pending =
+    may_have_moved (act_of script pending.op) code.Aborted 0 pending.moved ≡ true
 
 pub record MayAbortAt (script : ScriptModel) (queues : StreamQueues) : Type 0 where
   pub reads : All (MayAbort script) queues.reads
@@ -102,10 +107,15 @@ abbrev pub MayAbortAll : ScriptModel → List StreamQueues → Type 0
 MayAbortAll script queues = (stream : ℕ) → MayAbortAt script (queues_of_view queues stream)
 
 abbrev pub unmoved_queues : StreamQueues → StreamQueues
-unmoved_queues queues = record queues { reads = map unmoved queues.reads; writes = map unmoved queues.writes }
+unmoved_queues queues = record queues {
+  reads = map unmoved queues.reads;
+  writes = map unmoved queues.writes;
+}
 
--- half is what a history with untold bytes has where the proactor has mid, and where streams have given these
-pub record IsUntoldWith (script : ScriptModel) (given : List Completion) (mid half : ReactorHalf) : Type 0 where
+-- half is what a history with untold bytes has where the proactor has mid, and where streams have
+-- given these
+pub record IsUntoldWith (script : ScriptModel) (given : List Completion) (mid half : ReactorHalf)
+    : Type 0 where
   -- what is due for the history too
   pub fixed : List Completion
   pub due : mid.due ≡ fixed ++ given
@@ -116,7 +126,9 @@ pub record IsUntoldWith (script : ScriptModel) (given : List Completion) (mid ha
   pub known : AreKnown script half.queues
   pub aborts : MayAbortAll script mid.queues
   -- all else is the same but for the streams, of which neither is told anything
-  pub others : half ≡ record mid { streams = half.streams; queues = half.queues; due = half.due; reached = half.reached }
+  pub others : half
+      ≡ record mid
+      { streams = half.streams; queues = half.queues; due = half.due; reached = half.reached }
 
 abbrev pub IsUntoldOf : ScriptModel → ReactorHalf → ReactorHalf → Type 0
 IsUntoldOf script mid half = (given : List Completion) × IsUntoldWith script given mid half
@@ -125,8 +137,10 @@ IsUntoldOf script mid half = (given : List Completion) × IsUntoldWith script gi
 abbrev pub IsUnservedOf : ScriptModel → ReactorHalf → ReactorHalf → Type 0
 IsUnservedOf script mid half = IsUntoldWith script [] mid half
 
--- what serving a stream does to the queues and to what is due: the reads complete as they may, and then the writes
-pub record IsGivenAt (stream : ℕ) (old new : List StreamQueues) (due later : List Completion) : Type 0 where
+-- what serving a stream does to the queues and to what is due: the reads complete as they may, and
+-- then the writes
+pub record IsGivenAt (stream : ℕ) (old new : List StreamQueues) (due later : List Completion)
+    : Type 0 where
   pub within : stream < length old
   pub reads : List Completion
   pub writes : List Completion
@@ -136,13 +150,17 @@ pub record IsGivenAt (stream : ℕ) (old new : List StreamQueues) (due later : L
     writes = (queues_of_view new stream).writes;
   })
   pub reads_in_order :
-      GivesInOrder may_give_read (queues_of_view old stream).reads (queues_of_view new stream).reads reads
+      GivesInOrder may_give_read (queues_of_view old stream).reads (queues_of_view new stream).reads
+      reads
   pub writes_in_order :
-      GivesInOrder may_give_write (queues_of_view old stream).writes (queues_of_view new stream).writes writes
+      GivesInOrder may_give_write (queues_of_view old stream).writes
+      (queues_of_view new stream).writes writes
 
 -- the first streams are served, by rising number
-pub data AreGivenBelow : ℕ → List StreamQueues → List StreamQueues → List Completion → List Completion → Type 0 where
-  none_below : {queues : List StreamQueues} {due : List Completion} → AreGivenBelow 0 queues queues due due
+pub data AreGivenBelow
+    : ℕ → List StreamQueues → List StreamQueues → List Completion → List Completion → Type 0 where
+  none_below : {queues : List StreamQueues} {due : List Completion} →
+      AreGivenBelow 0 queues queues due due
   one_below : {number : ℕ} {first old new : List StreamQueues} {start due later : List Completion} →
       AreGivenBelow number first old start due → IsGivenAt number old new due later →
       AreGivenBelow (number + 1) first new start later
@@ -151,9 +169,11 @@ pub data AreGivenBelow : ℕ → List StreamQueues → List StreamQueues → Lis
 abbrev pub UntoldBegins : Type 0
 UntoldBegins =
     (script : ScriptModel) (streams : List Stream) →
-    IsUntoldOf script (record (first_reactor script false) { streams = streams }) (first_reactor script false)
+    IsUntoldOf script (record (first_reactor script false) { streams = streams })
+    (first_reactor script false)
 
--- where nothing is due to the proactor nothing is due to the history, and nothing is pending there that isn't here
+-- where nothing is due to the proactor nothing is due to the history, and nothing is pending there
+-- that isn't here
 pub record RestAlike (script : ScriptModel) (mid half : ReactorHalf) : Type 0 where
   pub unserved : IsUnservedOf script mid half
   pub due : half.due ≡ []
@@ -174,29 +194,35 @@ UntoldPerforms =
 -- time moves, and the last time point passes
 abbrev pub UntoldTicks : Type 0
 UntoldTicks =
-    (script : ScriptModel) (given : List Completion) (now : ℕ) (streams : List Stream) (mid half : ReactorHalf) →
+    (script : ScriptModel) (given : List Completion) (now : ℕ) (streams : List Stream)
+    (mid half : ReactorHalf) →
     IsUntoldWith script given mid half →
-    IsUntoldWith script given (record mid { now = now; streams = streams }) (at_time script false now half)
+    IsUntoldWith script given (record mid { now = now; streams = streams })
+    (at_time script false now half)
 
 abbrev pub UntoldEnds : Type 0
 UntoldEnds =
-    (script : ScriptModel) (given : List Completion) (streams : List Stream) (mid half : ReactorHalf) →
+    (script : ScriptModel) (given : List Completion) (streams : List Stream)
+    (mid half : ReactorHalf) →
     IsUntoldWith script given mid half →
     IsUntoldWith script given (record mid { last = true; streams = streams }) (at_last false half)
 
 -- an operation of a queue has something left to move
 abbrev pub IsReadUnderWay : Pending Reading → Type 0
-IsReadUnderWay read = IsUnderWay (record { asks = Reads read.asks; moved = read.moved; latest = None })
+IsReadUnderWay read =
+    IsUnderWay (record { asks = Reads read.asks; moved = read.moved; latest = None })
 
 abbrev pub IsWriteUnderWay : Pending Writing → Type 0
-IsWriteUnderWay write = IsUnderWay (record { asks = Writes write.asks; moved = write.moved; latest = None })
+IsWriteUnderWay write =
+    IsUnderWay (record { asks = Writes write.asks; moved = write.moved; latest = None })
 
 pub record AreUnderWay (queues : StreamQueues) : Type 0 where
   pub reads : All IsReadUnderWay queues.reads
   pub writes : All IsWriteUnderWay queues.writes
 
 -- the waits have completed, and then the streams have left these queues and all of this due
-abbrev pub turned : List Stream → List StreamQueues → List Completion → ℕ → ReactorHalf → ReactorHalf
+abbrev pub turned : List Stream → List StreamQueues → List Completion → ℕ → ReactorHalf →
+    ReactorHalf
 turned streams served due reached mid = record (with_waits_served mid) {
   streams = streams;
   queues = served;
@@ -205,19 +231,22 @@ turned streams served due reached mid = record (with_waits_served mid) {
   reached = reached;
 }
 
--- a turn in which streams give what they may, and each operation that stays has something left to move
+-- a turn in which streams give what they may, and each operation that stays has something left to
+-- move
 abbrev pub UntoldSettles : Type 0
 UntoldSettles =
     (script : ScriptModel) (mid half : ReactorHalf) (count reached : ℕ) (streams : List Stream)
     (served : List StreamQueues) (due : List Completion) →
-    IsUnservedOf script mid half → AreGivenBelow count mid.queues served (with_waits_served mid).due due →
+    IsUnservedOf script mid half →
+    AreGivenBelow count mid.queues served (with_waits_served mid).due due →
     All AreUnderWay served →
     IsUntoldOf script (turned streams served due reached mid) (settled false half)
 
 -- the streams of a proactor give so
 abbrev pub StreamsGiveBelow : Type 0
 StreamsGiveBelow =
-    (last : Bool) (number : ℕ) (old new : List StreamView) (told left : Option Outside) (due later : Due) →
+    (last : Bool) (number : ℕ) (old new : List StreamView) (told left : Option Outside)
+    (due later : Due) →
     number ≤ length old → AreServedBelow last number old new told left due later →
     AreGivenBelow number (map queues_in old) (map queues_in new) due.coming later.coming
 
@@ -226,28 +255,38 @@ abbrev pub WorkIsUnderWay : Type 0
 WorkIsUnderWay =
     (buffer : ℕ) (held : HeldBytes) (closed : Bool) (reads writes : List PendingOp) →
     AreReads buffer held reads → AreWrites writes →
-    AreUnderWay (record { closed = closed; reads = map pending_read reads; writes = map pending_write writes })
+    AreUnderWay (record {
+      closed = closed;
+      reads = map pending_read reads;
+      writes = map pending_write writes;
+    })
 
 -- so a turn of a proactor leaves the history beside it
 abbrev pub UntoldTurns : Type 0
 UntoldTurns =
-    (script : ScriptModel) (mid half : ReactorHalf) (last : Bool) (number reached : ℕ) (streams : List Stream)
+    (script : ScriptModel) (mid half : ReactorHalf) (last : Bool) (number reached : ℕ)
+    (streams : List Stream)
     (old new : List StreamView) (told left : Option Outside) (due later : Due) →
-    IsUnservedOf script mid half → mid.queues ≡ map queues_in old → due.coming ≡ (with_waits_served mid).due →
+    IsUnservedOf script mid half → mid.queues ≡ map queues_in old →
+    due.coming ≡ (with_waits_served mid).due →
     number ≤ length old → AreServedBelow last number old new told left due later →
     All (λ view. AreUnderWay (queues_in view)) new →
-    IsUntoldOf script (turned streams (map queues_in new) later.coming reached mid) (settled false half)
+    IsUntoldOf script (turned streams (map queues_in new) later.coming reached mid)
+    (settled false half)
 
 -- after the last time point it leaves no operation in a queue
 abbrev pub LastTurnsDrain : Type 0
 LastTurnsDrain =
     (last : Bool) (old new : List StreamView) (told left : Option Outside) (due later : Due) →
-    AreServedBelow last (length old) old new told left due later → last ≡ true → All IsEmptied (map queues_in new)
+    AreServedBelow last (length old) old new told left due later → last ≡ true →
+    All IsEmptied (map queues_in new)
 
 -- the next completion of the proactor may be told in the history, which leaves both alike
-pub record TellAlike (script : ScriptModel) (head : Completion) (mid half : ReactorHalf) : Type 0 where
+pub record TellAlike (script : ScriptModel) (head : Completion) (mid half : ReactorHalf)
+    : Type 0 where
   pub told : MayTell script false half head.op head.outcome.0 head.outcome.1
-  pub after : IsUntoldOf script (reactor_after_done script mid head.op) (reactor_after_done script half head.op)
+  pub after : IsUntoldOf script (reactor_after_done script mid head.op)
+      (reactor_after_done script half head.op)
 
 abbrev pub UntoldTells : Type 0
 UntoldTells =
@@ -266,4 +305,5 @@ pub record AnswerAlike (script : ScriptModel) (mid half : ReactorHalf) : Type 0 
 
 abbrev pub UntoldAnswers : Type 0
 UntoldAnswers =
-    (script : ScriptModel) (mid half : ReactorHalf) → IsUntoldOf script mid half → AnswerAlike script mid half
+    (script : ScriptModel) (mid half : ReactorHalf) → IsUntoldOf script mid half →
+    AnswerAlike script mid half

@@ -1,4 +1,5 @@
--- The waits of all timers (Asio reference, steady_timer::async_wait, ::cancel, ::cancel_one and ::expires_after).
+-- The waits of all timers (Asio reference, steady_timer::async_wait, ::cancel, ::cancel_one and
+-- ::expires_after).
 use Rattle.std.specs.Prelude.{◌≡◌, ◌<◌, ◌≤◌, ◌^◌, ℕ, ◌+◌, ◌==◌, All, Bool, not, nat_le, List, [], ◌∷◌, Option, Some, None, length, map, filter, replicate}
 use Rattle.std.specs.List.{slice_index_or}
 use Rattle.stream_rules.specs.declared.queue.Completion.{Completion}
@@ -24,7 +25,13 @@ pub record Waiting : Type 0 where
 
 -- timers with these rooms, all with expiry 0, and no waits
 abbrev pub no_waits : List ℕ → ℕ → Waiting
-no_waits rooms acts = record { expiries = replicate (length rooms) 0; waits = []; accepted = 0; rooms = rooms; acts = acts }
+no_waits rooms acts = record {
+  expiries = replicate (length rooms) 0;
+  waits = [];
+  accepted = 0;
+  rooms = rooms;
+  acts = acts;
+}
 
 -- the waits that pass the test are gone
 abbrev pub without : (Wait → Bool) → Waiting → Waiting
@@ -50,21 +57,25 @@ has_expired now expiries wait = nat_le (expiry_in expiries wait) now
 
 -- what the waits tell whose timers have expired by now, by expiry and then by acceptance
 abbrev pub expired : ℕ → Waiting → List Completion
-expired now w = map waited (sorted_by (expiry_in w.expiries) (filter (has_expired now w.expiries) w.waits))
+expired now w =
+    map waited (sorted_by (expiry_in w.expiries) (filter (has_expired now w.expiries) w.waits))
 
 -- the wait of this operation is the first of its timer, and only it has left
 pub record TakesFirstOf (timer op : ℕ) (old new : Waiting) : Type 0 where
-  pub first : filter (is_wait_of timer) old.waits ≡ record { op = op; timer = timer } ∷ filter (is_wait_of timer) new.waits
+  pub first : filter (is_wait_of timer) old.waits
+      ≡ record { op = op; timer = timer } ∷ filter (is_wait_of timer) new.waits
   pub only : new ≡ without (is_wait_for op) old
   pub once : aborts (is_wait_for op) old ≡ aborted op 0 ∷ []
-  pub others : filter (λ wait. not (is_wait_of timer wait)) new.waits ≡ filter (λ wait. not (is_wait_of timer wait)) old.waits
+  pub others : filter (λ wait. not (is_wait_of timer wait)) new.waits
+      ≡ filter (λ wait. not (is_wait_of timer wait)) old.waits
   pub fewer : length new.waits + 1 ≡ length old.waits
 
 -- the wait of this operation expires first of those that have expired by now, and only it has left
 pub record TakesExpired (now op : ℕ) (old new : Waiting) : Type 0 where
   pub first : expired now old ≡ waited (record { op = op; timer = 0 }) ∷ expired now new
   pub same : new ≡ record old { waits = new.waits }
-  pub others : filter (λ wait. not (has_expired now old.expiries wait)) new.waits ≡ filter (λ wait. not (has_expired now old.expiries wait)) old.waits
+  pub others : filter (λ wait. not (has_expired now old.expiries wait)) new.waits
+      ≡ filter (λ wait. not (has_expired now old.expiries wait)) old.waits
   pub fewer : length new.waits + 1 ≡ length old.waits
 
 -- What follows is for this crate alone: how the waits lie in a queue of timers.
@@ -88,7 +99,8 @@ waits_of timers entries = map (wait_of timers) (sorted_by serial_of entries)
 
 -- the operations of a timer that are pending, in order of acceptance
 abbrev pub ops_of : ℕ → List ℕ → List Entry → List ℕ
-ops_of timer timers entries = map (λ wait. wait.op) (filter (is_wait_of timer) (waits_of timers entries))
+ops_of timer timers entries =
+    map (λ wait. wait.op) (filter (is_wait_of timer) (waits_of timers entries))
 
 -- an entry that was accepted, of an operation of a timer, with that timer's expiry
 pub record IsAccepted (expiries timers : List ℕ) (accepted : ℕ) (entry : Entry) : Type 0 where
@@ -98,13 +110,15 @@ pub record IsAccepted (expiries timers : List ℕ) (accepted : ℕ) (entry : Ent
   pub expiry : expiry_in expiries (wait_of timers entry) ≡ entry.expiry
 
 -- the entries are in order, each of another operation, and each timer's queue has its operations
-pub record IsWaits (expiries timers : List ℕ) (queue : Timers) (queues : List (List ℕ)) (accepted pending : ℕ) : Type 0 where
+pub record IsWaits (expiries timers : List ℕ) (queue : Timers) (queues : List (List ℕ))
+    (accepted pending : ℕ) : Type 0 where
   pub in_order : sorted_by expiry_of_entry (sorted_by serial_of queue.waits) ≡ queue.waits
   pub each : All (IsAccepted expiries timers accepted) queue.waits
   pub once : (op : ℕ) → length (filter (is_entry_for op) queue.waits) ≤ 1
   pub count : length queue.waits ≡ pending
   pub room : queue.spare + pending ≡ length timers
-  pub listed : (timer : ℕ) → timer < length queues → slice_index_or queues timer [] ≡ ops_of timer timers queue.waits
+  pub listed : (timer : ℕ) → timer < length queues →
+      slice_index_or queues timer [] ≡ ops_of timer timers queue.waits
   pub lengths : length queues ≡ length expiries
   pub fewer : pending ≤ accepted
   pub few : accepted ≤ length timers

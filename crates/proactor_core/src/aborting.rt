@@ -23,7 +23,8 @@ fn abort_of(pending: &PendingOp) -> Completion
 /// Lists an operation where it is in the queue.
 fn list_abort<'a>(op: OpNo, queue: &VecDeque<PendingOp<'a>>, due: &mut DueList)
     requires { deque_len queue.now ≤ due.old.spare }
-    ensures coming { due.new.coming ≡ due.old.coming ++ map abort_of_pending (filter (is_pending_op op) queue.now.items) }
+    ensures coming { due.new.coming
+        ≡ due.old.coming ++ map abort_of_pending (filter (is_pending_op op) queue.now.items) }
     ensures room { due.new.spare + length due.new.coming ≡ due.old.spare + length due.old.coming }
 {
     for pending in queue.iter() {
@@ -36,8 +37,10 @@ fn list_abort<'a>(op: OpNo, queue: &VecDeque<PendingOp<'a>>, due: &mut DueList)
 /// An operation of a queue is cancelled. Costs the length of the queue.
 pub(crate) fn abort_in<'a>(op: OpNo, queue: &mut VecDeque<PendingOp<'a>>, due: &mut DueList)
     requires { deque_len queue.old ≤ due.old.spare }
-    ensures queue { queue.new.items ≡ filter (λ pending. not (is_pending_op op pending)) queue.old.items }
-    ensures coming { due.new.coming ≡ due.old.coming ++ map abort_of_pending (filter (is_pending_op op) queue.old.items) }
+    ensures queue { queue.new.items
+        ≡ filter (λ pending. not (is_pending_op op pending)) queue.old.items }
+    ensures coming { due.new.coming
+        ≡ due.old.coming ++ map abort_of_pending (filter (is_pending_op op) queue.old.items) }
     ensures room { due.new.spare + length due.new.coming ≡ due.old.spare + length due.old.coming }
     ensures queue_room { deque_capacity queue.new ≡ deque_capacity queue.old }
 {
@@ -63,8 +66,11 @@ fn pop_first<'a>(
 ) -> Option<PendingOp<'a>>
     ensures none { IfNone result ((reads.old.items ≡ []) × (writes.old.items ≡ [])) }
     ensures none_left { IfNone result ((reads.new.items ≡ []) × (writes.new.items ≡ [])) }
-    ensures first { IfSome result (λ first. IsFirstPending first reads.old.items writes.old.items reads.new.items writes.new.items) }
-    ensures count { IfSome result (λ _. deque_len reads.new + deque_len writes.new + 1 ≡ deque_len reads.old + deque_len writes.old) }
+    ensures first { IfSome result (λ first.
+        IsFirstPending first reads.old.items writes.old.items reads.new.items writes.new.items) }
+    ensures count { IfSome result (λ _.
+        deque_len reads.new + deque_len writes.new + 1
+        ≡ deque_len reads.old + deque_len writes.old) }
     ensures reads_room { deque_capacity reads.new ≡ deque_capacity reads.old }
     ensures writes_room { deque_capacity writes.new ≡ deque_capacity writes.old }
 {
@@ -82,7 +88,9 @@ pub(crate) fn abort_all<'a>(
     due: &mut DueList,
 )
     requires { deque_len reads.old + deque_len writes.old ≤ due.old.spare }
-    ensures coming { due.new.coming ≡ due.old.coming ++ all_of_stream (map pending_read reads.old.items) (map pending_write writes.old.items) }
+    ensures coming { due.new.coming
+        ≡ due.old.coming
+        ++ all_of_stream (map pending_read reads.old.items) (map pending_write writes.old.items) }
     ensures room { due.new.spare + length due.new.coming ≡ due.old.spare + length due.old.coming }
     ensures reads { reads.new.items ≡ [] }
     ensures writes { writes.new.items ≡ [] }

@@ -7,9 +7,9 @@ use std::collections::VecDeque;
 use std::marker::Model;
 use stream_rules::Completion;
 
-/// What has completed and wasn't told yet, in room that is reserved once. Contracts see the completions in the order in
-/// which they are told, and how many more there is room for. Every call but `with_room` takes constant time and no
-/// memory.
+/// What has completed and wasn't told yet, in room that is reserved once. Contracts see the
+/// completions in the order in which they are told, and how many more there is room for. Every call
+/// but `with_room` takes constant time and no memory.
 #[derive(Drop)]
 pub(crate) struct DueList {
     queue: VecDeque<Completion>,
@@ -22,7 +22,8 @@ impl Model for DueList {
 
     ghost Value = { Due };
 
-    ghost view = { λ d. record { coming = d.queue.items; spare = deque_capacity d.queue - deque_len d.queue } };
+    ghost view = { λ d.
+        record { coming = d.queue.items; spare = deque_capacity d.queue - deque_len d.queue } };
 }
 
 impl DueList {

@@ -5,9 +5,9 @@ use asio_types::NoMemory;
 use std::alloc::Global;
 use std::marker::Model;
 
-/// The bytes of a stream that were read from the reactor and not consumed, as a read until a delimiter leaves them. Contracts
-/// see these, and how many there may be at once. No call but `with_room` takes memory; a byte is moved at most once
-/// for each byte that is consumed.
+/// The bytes of a stream that were read from the reactor and not consumed, as a read until a
+/// delimiter leaves them. Contracts see these, and how many there may be at once. No call but
+/// `with_room` takes memory; a byte is moved at most once for each byte that is consumed.
 #[derive(Drop)]
 pub(crate) struct Held {
     /// The bytes that were consumed, and then those that are held.
@@ -47,7 +47,8 @@ fn drop_front(bytes: &mut Vec<u8>, count: usize)
 }
 
 impl Held {
-    /// None is held, with room for so many. Takes memory for twice as many; `NoMemory` where it is refused.
+    /// None is held, with room for so many. Takes memory for twice as many; `NoMemory` where it is
+    /// refused.
     pub(crate) fn with_room(alloc: Global, room: u32) -> Result<Held, NoMemory>
         ensures { IfOk result (λ held. held ≡ none_held room) }
     {

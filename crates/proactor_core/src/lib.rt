@@ -1,6 +1,6 @@
-//! The proactor: what waits for the outside, and what completes. It promises that each call does to its tables exactly
-//! what the definitions of a history say of the reactor's half, and that nothing takes memory once they are made. The
-//! contexts stand on it.
+//! The proactor: what waits for the outside, and what completes. It promises that each call does to
+//! its tables exactly what the definitions of a history say of the reactor's half, and that nothing
+//! takes memory once they are made. The contexts stand on it.
 #![tactic(auto)]
 
 mod aborting;

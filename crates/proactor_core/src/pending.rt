@@ -27,8 +27,8 @@ pub(crate) struct PendingOp<'a> {
     pub(crate) machine: Machine<'a>,
 }
 
-/// Serves the reads of a stream from the head, as long as the head completes, and lists what completed. A head that stays
-/// keeps what it consumed.
+/// Serves the reads of a stream from the head, as long as the head completes, and lists what
+/// completed. A head that stays keeps what it consumed.
 pub(crate) fn serve_reads<'a, X: Reactor>(
     queue: &mut VecDeque<PendingOp<'a>>,
     held: &mut Held,
@@ -48,12 +48,13 @@ pub(crate) fn serve_reads<'a, X: Reactor>(
     ensures told { OnOk result (ChangesOne stream (X.told reactor.old) (X.told reactor.new)) }
     ensures queue_room { deque_capacity queue.new ≡ deque_capacity queue.old }
     ensures reads { AreReads (length buffer.old) held.new queue.new.items }
-    ensures gives { OnOk result
-        (GivesDue may_give_read (map pending_read queue.old.items) (map pending_read queue.new.items) due.old due.new) }
-    ensures served { OnOk result (IfSome (X.told reactor.old) (λ _. IsServedBy reading_side
-        (map pending_read queue.old.items) (map pending_read queue.new.items)
-        (whole_told held.old.bytes (X.told reactor.old) stream) (whole_told held.new.bytes (X.told reactor.new) stream)
-        due.old due.new)) }
+    ensures gives { OnOk result (GivesDue may_give_read (map pending_read queue.old.items)
+        (map pending_read queue.new.items) due.old due.new) }
+    ensures served { OnOk result (IfSome (X.told reactor.old) (λ _.
+        IsServedBy reading_side (map pending_read queue.old.items)
+        (map pending_read queue.new.items)
+        (whole_told held.old.bytes (X.told reactor.old) stream)
+        (whole_told held.new.bytes (X.told reactor.new) stream) due.old due.new)) }
     ensures after_last { IsTrue (X.state reactor.old).last → OnOk result (queue.new.items ≡ []) }
 {
     while let Some(mut head) = queue.pop_front() {
@@ -88,12 +89,13 @@ pub(crate) fn serve_writes<'a, X: Reactor>(
     ensures told { OnOk result (ChangesOne stream (X.told reactor.old) (X.told reactor.new)) }
     ensures queue_room { deque_capacity queue.new ≡ deque_capacity queue.old }
     ensures writes { AreWrites queue.new.items }
-    ensures gives { OnOk result
-        (GivesDue may_give_write (map pending_write queue.old.items) (map pending_write queue.new.items) due.old due.new) }
-    ensures served { OnOk result ((held : List ℕ) → IfSome (X.told reactor.old) (λ _. IsServedBy writing_side
-        (map pending_write queue.old.items) (map pending_write queue.new.items)
-        (whole_told held (X.told reactor.old) stream) (whole_told held (X.told reactor.new) stream)
-        due.old due.new)) }
+    ensures gives { OnOk result (GivesDue may_give_write (map pending_write queue.old.items)
+        (map pending_write queue.new.items) due.old due.new) }
+    ensures served { OnOk result ((held : List ℕ) →
+        IfSome (X.told reactor.old) (λ _.
+        IsServedBy writing_side (map pending_write queue.old.items)
+        (map pending_write queue.new.items) (whole_told held (X.told reactor.old) stream)
+        (whole_told held (X.told reactor.new) stream) due.old due.new)) }
     ensures after_last { IsTrue (X.state reactor.old).last → OnOk result (queue.new.items ≡ []) }
 {
     while let Some(mut head) = queue.pop_front() {

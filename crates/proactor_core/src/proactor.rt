@@ -35,9 +35,9 @@ pub struct TickFault {
     pub moved: Option<Point>,
 }
 
-/// What an io_context has under way (Asio reference, Overview, "The Proactor Design Pattern"): timers and their waits,
-/// cancellation slots, guards, streams with their operations, and what completed and wasn't told yet. No call but `start`
-/// takes memory.
+/// What an io_context has under way (Asio reference, Overview, "The Proactor Design Pattern"):
+/// timers and their waits, cancellation slots, guards, streams with their operations, and what
+/// completed and wasn't told yet. No call but `start` takes memory.
 #[derive(Drop)]
 pub struct Proactor<'a, X: Reactor> {
     pub(crate) script: &'a Script,
@@ -69,8 +69,8 @@ fn parts_of<'a>(alloc: Global, script: &'a Script) -> Result<(Tables, Streams<'a
 }
 
 impl<'a, X: Reactor> Proactor<'a, X> {
-    /// A proactor of a script before anything was taken, over a reactor that is set up once. Where that is refused it
-    /// gives the reactor back. Takes memory for each act once.
+    /// A proactor of a script before anything was taken, over a reactor that is set up once. Where
+    /// that is refused it gives the reactor back. Takes memory for each act once.
     pub fn start(
         alloc: Global,
         script: &'a Script,
@@ -78,16 +78,20 @@ impl<'a, X: Reactor> Proactor<'a, X> {
     ) -> Result<Proactor<'a, X>, (SetupFault, X)>
         ensures script { IfOk result (λ made. made.script ≡ script.now) }
         ensures sound { IfOk result (IsSound X.state X.told) }
-        ensures taken { IfOk result (λ made. made.tables.taken ≡ replicate (length script.now.acts) false) }
+        ensures taken { IfOk result
+            (λ made. made.tables.taken ≡ replicate (length script.now.acts) false) }
         ensures nothing_due { IfOk result (λ made. made.tables.due.coming ≡ []) }
         ensures working { IfOk result (λ made. made.tables.failed ≡ false) }
         ensures tells { IfOk result (λ made. tells (X.told made.reactor) ≡ tells (X.told reactor)) }
-        ensures follows { IfOk result (λ made. Follows X.told made (first_reactor script.now (tells (X.told reactor)))) }
+        ensures follows { IfOk result
+            (λ made. Follows X.told made (first_reactor script.now (tells (X.told reactor)))) }
         ensures ready { IfOk result (λ made. X.state made.reactor ≡ state_ready script.now.world) }
         ensures counted { IfOk result (λ made. X.faults made.reactor ≡ X.faults reactor) }
-        ensures refused { IfErr result (λ refusal. SetupIsRefused refusal.0 (X.state reactor) (X.state refusal.1)) }
+        ensures refused { IfErr result
+            (λ refusal. SetupIsRefused refusal.0 (X.state reactor) (X.state refusal.1)) }
         ensures told_refused { IfErr result (λ refusal. X.told refusal.1 ≡ X.told reactor) }
-        ensures counts { IfErr result (λ refusal. CountsRefusal refusal.0 (X.faults reactor) (X.faults refusal.1)) }
+        ensures counts { IfErr result
+            (λ refusal. CountsRefusal refusal.0 (X.faults reactor) (X.faults refusal.1)) }
     {
         scripts_are_well_formed(script);
         let (tables, streams) = match parts_of(alloc, script) {
@@ -105,8 +109,8 @@ impl<'a, X: Reactor> Proactor<'a, X> {
         }
     }
 
-    /// Takes a request: performs it, and lists what completes by it. Where the reactor fails, nothing of the turn is told.
-    /// A second close of a stream has no effect.
+    /// Takes a request: performs it, and lists what completes by it. Where the reactor fails,
+    /// nothing of the turn is told. A second close of a stream has no effect.
     pub fn take(&mut self, a: ActNo) -> Result<(), Fault>
         requires sound { IsSound X.state X.told self.old }
         requires nothing_due { self.old.tables.due.coming ≡ [] }
@@ -115,7 +119,8 @@ impl<'a, X: Reactor> Proactor<'a, X> {
         ensures taken { self.new.tables.taken ≡ slice_set self.old.tables.taken a true }
         ensures tells { tells (X.told self.new.reactor) ≡ tells (X.told self.old.reactor) }
         ensures sound { OnOk result (IsSound X.state X.told self.new) }
-        ensures follows { OnOk result ((half : ReactorHalf) → Follows X.told self.old half → Follows X.told self.new
+        ensures follows { OnOk result ((half : ReactorHalf) → Follows X.told self.old half →
+            Follows X.told self.new
             (reactor_after_take self.old.script (tells (X.told self.old.reactor)) half a)) }
         ensures now { (X.state self.new.reactor).now ≡ (X.state self.old.reactor).now }
         ensures up { IsTrue (X.state self.new.reactor).up }
@@ -131,8 +136,9 @@ impl<'a, X: Reactor> Proactor<'a, X> {
         self.settle()
     }
 
-    /// Moves time to the next time point, which it answers: the least of the expiries of pending waits and of the times of
-    /// the world above now. Lists what completes there. Where the reactor fails, nothing of the turn is told.
+    /// Moves time to the next time point, which it answers: the least of the expiries of pending
+    /// waits and of the times of the world above now. Lists what completes there. Where the reactor
+    /// fails, nothing of the turn is told.
     pub fn tick(&mut self) -> Result<Point, TickFault>
         requires sound { IsSound X.state X.told self.old }
         requires nothing_due { self.old.tables.due.coming ≡ [] }
@@ -145,9 +151,12 @@ impl<'a, X: Reactor> Proactor<'a, X> {
         ensures point { IfOk result (λ point. point ≡ point_ahead self.old.script self.old.tables) }
         ensures next { IfOk result (λ point. (half : ReactorHalf) → Follows X.told self.old half →
             next_time self.old.script half ≡ point) }
-        ensures follows { IfOk result (λ point. (half : ReactorHalf) → Follows X.told self.old half → Follows X.told self.new
+        ensures follows { IfOk result (λ point.
+            (half : ReactorHalf) → Follows X.told self.old half →
+            Follows X.told self.new
             (after_point self.old.script (tells (X.told self.old.reactor)) point half)) }
-        ensures state { IfOk result (λ point. X.state self.new.reactor ≡ state_at point (X.state self.old.reactor)) }
+        ensures state { IfOk result
+            (λ point. X.state self.new.reactor ≡ state_at point (X.state self.old.reactor)) }
         ensures counted { OnOk result (X.faults self.new.reactor ≡ X.faults self.old.reactor) }
         ensures rose { OnErr result (Rose (X.faults self.old.reactor) (X.faults self.new.reactor)) }
         ensures later { X.faults self.old.reactor ≤ X.faults self.new.reactor }
@@ -157,8 +166,10 @@ impl<'a, X: Reactor> Proactor<'a, X> {
             moved_state fault.moved (X.state self.old.reactor)) }
         ensures to { IfErr result (λ fault. IfSome fault.moved (λ point.
             point ≡ point_ahead self.old.script self.old.tables)) }
-        ensures to_next { IfErr result (λ fault. IfSome fault.moved (λ point.
-            (half : ReactorHalf) → Follows X.told self.old half → next_time self.old.script half ≡ point)) }
+        ensures to_next { IfErr result (λ fault.
+            IfSome fault.moved (λ point.
+            (half : ReactorHalf) → Follows X.told self.old half →
+            next_time self.old.script half ≡ point)) }
     {
         let point = match self.reactor.advance(self.tables.next_expiry()) {
             Ok(point) => point,
@@ -175,23 +186,32 @@ impl<'a, X: Reactor> Proactor<'a, X> {
         }
     }
 
-    /// Takes the completion out that is told next, and its operation leaves its slot; `None` exactly where none is due.
+    /// Takes the completion out that is told next, and its operation leaves its slot; `None`
+    /// exactly where none is due.
     pub fn next_due(&mut self) -> Option<(OpNo, Code, u32)>
         requires sound { IsSound X.state X.told self.old }
         ensures sound { IsSound X.state X.told self.new }
         ensures none { IfNone result (self.old.tables.due.coming ≡ []) }
         ensures unchanged { IfNone result (self.new ≡ self.old) }
-        ensures over { IfNone result ((half : ReactorHalf) → Follows X.told self.old half → half.due ≡ []) }
-        ensures drained { IfNone result ((half : ReactorHalf) → Follows X.told self.old half → IsDrained half) }
+        ensures over { IfNone result
+            ((half : ReactorHalf) → Follows X.told self.old half → half.due ≡ []) }
+        ensures drained { IfNone result
+            ((half : ReactorHalf) → Follows X.told self.old half → IsDrained half) }
         ensures head { IfSome result (λ done. self.old.tables.due.coming ≡
             record { op = done.0; outcome = (done.1, done.2) } ∷ self.new.tables.due.coming) }
-        ensures others { IfSome result (λ done. self.new ≡ record self.old {
-          tables =
-              slot_left (slot_in (act_of self.old.script done.0)) done.0 (record self.old.tables { due = self.new.tables.due });
-        }) }
-        ensures allowed { IfSome result (λ done. (half : ReactorHalf) → Follows X.told self.old half →
-            MayTell self.old.script (tells (X.told self.old.reactor)) half done.0 done.1 done.2) }
-        ensures follows { IfSome result (λ done. (half : ReactorHalf) → Follows X.told self.old half →
+        ensures others { IfSome result (λ done.
+            self.new
+            ≡ record self.old {
+              tables =
+                  slot_left (slot_in (act_of self.old.script done.0)) done.0
+                  (record self.old.tables { due = self.new.tables.due });
+            }) }
+        ensures allowed { IfSome result (λ done.
+            (half : ReactorHalf) → Follows X.told self.old half →
+            MayTell self.old.script (tells (X.told self.old.reactor)) half done.0 done.1
+            done.2) }
+        ensures follows { IfSome result (λ done.
+            (half : ReactorHalf) → Follows X.told self.old half →
             Follows X.told self.new (reactor_after_done self.old.script half done.0)) }
     {
         let done = self.tables.next_due()?;
@@ -233,8 +253,10 @@ impl<'a, X: Reactor> Proactor<'a, X> {
     pub fn was_taken(&self, a: ActNo) -> bool
         requires { a < length self.now.tables.taken }
         ensures taken { result ≡ slice_index_or self.now.tables.taken a true }
-        ensures half { (half : ReactorHalf) → Follows X.told self.now half → result ≡ was_taken half a }
-        ensures all { (half : ReactorHalf) → Follows X.told self.now half → half.taken ≡ self.now.tables.taken }
+        ensures half { (half : ReactorHalf) → Follows X.told self.now half →
+            result ≡ was_taken half a }
+        ensures all { (half : ReactorHalf) → Follows X.told self.now half →
+            half.taken ≡ self.now.tables.taken }
     {
         self.tables.was_taken(a)
     }
@@ -242,9 +264,11 @@ impl<'a, X: Reactor> Proactor<'a, X> {
     /// How many operations are pending, those that are due among them. Costs the number of streams.
     pub fn pending(&self) -> u32
         requires { IsSound X.state X.told self.now }
-        ensures count { result ≡
-            length self.now.tables.waiting.waits + pending_in_all self.now.streams + length self.now.tables.due.coming }
-        ensures half { (half : ReactorHalf) → Follows X.told self.now half → result ≡ pending_count half }
+        ensures count { result
+            ≡ length self.now.tables.waiting.waits + pending_in_all self.now.streams
+            + length self.now.tables.due.coming }
+        ensures half { (half : ReactorHalf) → Follows X.told self.now half →
+            result ≡ pending_count half }
     {
         self.tables.waits() + self.streams.pending() + self.tables.count_due()
     }
@@ -253,7 +277,8 @@ impl<'a, X: Reactor> Proactor<'a, X> {
     pub fn guards(&self) -> u32
         requires { length self.now.tables.guards < 2 ^ 32 }
         ensures count { result ≡ count_by (λ held. held) self.now.tables.guards }
-        ensures half { (half : ReactorHalf) → Follows X.told self.now half → result ≡ count_by is_held half.guards }
+        ensures half { (half : ReactorHalf) → Follows X.told self.now half →
+            result ≡ count_by is_held half.guards }
     {
         self.tables.guards()
     }
@@ -265,11 +290,12 @@ impl<'a, X: Reactor> Proactor<'a, X> {
         self.tables.has_failed()
     }
 
-    /// Gives the reactor back. Between turns it stands at the half of a history's state that the proactor follows.
+    /// Gives the reactor back. Between turns it stands at the half of a history's state that the
+    /// proactor follows.
     pub fn into_reactor(self) -> X
         ensures reactor { result ≡ self.entry.reactor }
-        ensures stands { (half : ReactorHalf) → IsSound X.state X.told self.entry → Follows X.told self.entry half →
-            StandsAt (X.state result) (X.told result) half }
+        ensures stands { (half : ReactorHalf) → IsSound X.state X.told self.entry →
+            Follows X.told self.entry half → StandsAt (X.state result) (X.told result) half }
     {
         self.reactor
     }

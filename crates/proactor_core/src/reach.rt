@@ -22,7 +22,8 @@ pub(crate) fn slot_of(act: &Act) -> Option<SlotNo>
     }
 }
 
-/// The slot that the operation with a number is connected to, if any; none where no act has that number.
+/// The slot that the operation with a number is connected to, if any; none where no act has that
+/// number.
 pub(crate) fn slot_at(script: &Script, op: OpNo) -> Option<SlotNo>
     ensures slot { result ≡ slot_in (act_of script.now op) }
     ensures known { ForSome result (λ slot. slot < script.now.slots) }
@@ -55,8 +56,8 @@ fn none() -> Types
     types
 }
 
-/// The cancellation types that reach an operation: those that it supports and lets through (Asio reference, Overview,
-/// "Per-Operation Cancellation").
+/// The cancellation types that reach an operation: those that it supports and lets through (Asio
+/// reference, Overview, "Per-Operation Cancellation").
 pub(crate) fn reached_by(act: &Act) -> Types
     ensures { result ≡ bit_and (supported_by act.now) (filter_of act.now) }
 {

@@ -33,13 +33,18 @@ fn read_piece<X: Reactor>(
     ensures later { X.faults reactor.old ≤ X.faults reactor.new }
     ensures tells { tells (X.told reactor.new) ≡ tells (X.told reactor.old) }
     ensures within { IfOk result (IsMoveWithin most) }
-    ensures after_last { IsTrue (X.state reactor.old).last → IfOk result (λ moved. moved ≢ Moved.NotYet) }
+    ensures after_last { IsTrue (X.state reactor.old).last →
+        IfOk result (λ moved. moved ≢ Moved.NotYet) }
     ensures told_answer { IfOk result (λ moved. IfSome (X.told reactor.old)
         (λ outside. moved ≡ read_answer most (told_stream (X.told reactor.old) stream))) }
-    ensures told_bytes { IfOk result (λ moved. IfSome (X.told reactor.old)
-        (λ outside. take (moved_count moved) buffer.new ≡ take (moved_count moved) (told_stream (X.told reactor.old) stream).arrived)) }
+    ensures told_bytes { IfOk result (λ moved.
+        IfSome (X.told reactor.old) (λ outside.
+        take (moved_count moved) buffer.new
+        ≡ take (moved_count moved) (told_stream (X.told reactor.old) stream).arrived)) }
     ensures told_gives { IfOk result (λ moved.
-        X.told reactor.new ≡ option_map (with_stream stream (after_reading (moved_count moved))) (X.told reactor.old)) }
+        X.told reactor.new
+        ≡ option_map (with_stream stream (after_reading (moved_count moved)))
+        (X.told reactor.old)) }
 {
     reactor.read_some(stream, &mut buffer[..most as usize])
 }
@@ -65,7 +70,8 @@ fn fill<X: Reactor>(
         course_of (exchange_at progress held.new.bytes (X.told reactor.new) stream)
         ≡ course_of (exchange_at progress held.old.bytes (X.told reactor.old) stream))) }
     ensures filled { OnOk result (IfSome (X.told reactor.old) (λ _.
-        IsFilled (Reads (Some_bytes size)) held.new.bytes (told_stream (X.told reactor.new) stream))) }
+        IsFilled (Reads (Some_bytes size)) held.new.bytes
+        (told_stream (X.told reactor.new) stream))) }
 {
     while held.len() < size {
         let missing = size - held.len();
@@ -80,8 +86,11 @@ fn fill<X: Reactor>(
 /// A piece that was read for an operation: a read until a delimiter holds it.
 fn keep_piece(machine: &Machine, moved: Moved, held: &mut Held, buffer: &[u8])
     requires there { moved_count moved ≤ length buffer.now }
-    requires room { length (held_with (progress_of machine.now).asks held.old.bytes (take (moved_count moved) buffer.now)) ≤ held.old.room }
-    ensures held { held.new.bytes ≡ held_with (progress_of machine.now).asks held.old.bytes (take (moved_count moved) buffer.now) }
+    requires room { length (held_with (progress_of machine.now).asks held.old.bytes
+        (take (moved_count moved) buffer.now)) ≤ held.old.room }
+    ensures held { held.new.bytes
+        ≡ held_with (progress_of machine.now).asks held.old.bytes
+        (take (moved_count moved) buffer.now) }
     ensures room { held.new.room ≡ held.old.room }
 {
     if let (Machine::Until { .. }, Moved::Took(count)) = (machine, moved) {
@@ -101,7 +110,9 @@ fn read_more<X: Reactor>(
     requires servable { IsServable (X.state reactor.old) (X.told reactor.old) stream }
     requires may_read { MayRead (length buffer.old) held.old (progress_of machine.old) }
     requires wants { wanted (progress_of machine.old) held.old.bytes ≡ Want.Read most }
-    requires within { IsWithin (size_of (progress_of machine.old).asks - (progress_of machine.old).moved) (length held.old.bytes) (Want.Read most) }
+    requires within { IsWithin
+        (size_of (progress_of machine.old).asks - (progress_of machine.old).moved)
+        (length held.old.bytes) (Want.Read most) }
     requires again { MayAskAgain (progress_of machine.old) held.old.bytes (Want.Read most) }
     ensures keeps { X.state reactor.new ≡ X.state reactor.old }
     ensures counts { CountsFaults result (X.faults reactor.old) (X.faults reactor.new) }
@@ -110,14 +121,18 @@ fn read_more<X: Reactor>(
     ensures room { held.new.room ≡ held.old.room }
     ensures told { OnOk result (ChangesOne stream (X.told reactor.old) (X.told reactor.new)) }
     ensures asks { (progress_of machine.new).asks ≡ (progress_of machine.old).asks }
-    ensures reads { IfOk result (λ round. IsOpenStill round → MayRead (length buffer.old) held.new (progress_of machine.new)) }
+    ensures reads { IfOk result (λ round.
+        IsOpenStill round → MayRead (length buffer.old) held.new (progress_of machine.new)) }
     ensures allowed { IfOk result (IsAllowed (progress_of machine.old).asks) }
     ensures follows { IfOk result (λ round. IfSome (X.told reactor.old) (λ _. IsRound
         (exchange_at (progress_of machine.old) held.old.bytes (X.told reactor.old) stream)
         (exchange_at (progress_of machine.new) held.new.bytes (X.told reactor.new) stream) round)) }
-    ensures smaller { IfOk result (λ round. round ≡ Round.GoesOn →
-        pieces_left (progress_of machine.new) held.new.bytes < pieces_left (progress_of machine.old) held.old.bytes) }
-    ensures after_last { IsTrue (X.state reactor.old).last → IfOk result (λ round. round ≢ Round.Stays) }
+    ensures smaller { IfOk result (λ round.
+        round ≡ Round.GoesOn →
+        pieces_left (progress_of machine.new) held.new.bytes
+        < pieces_left (progress_of machine.old) held.old.bytes) }
+    ensures after_last { IsTrue (X.state reactor.old).last →
+        IfOk result (λ round. round ≢ Round.Stays) }
 {
     let moved = read_piece(reactor, stream, buffer, most)?;
     if let Moved::NotYet = moved {
@@ -137,7 +152,9 @@ fn read_once<X: Reactor>(
 ) -> Result<Round, Failed>
     requires servable { IsServable (X.state reactor.old) (X.told reactor.old) stream }
     requires may_read { MayRead (length buffer.old) held.old (progress_of machine.old) }
-    requires gathered { IfSome (X.told reactor.old) (λ _. IsGathered (progress_of machine.old).asks held.old.bytes (told_stream (X.told reactor.old) stream)) }
+    requires gathered { IfSome (X.told reactor.old) (λ _.
+        IsGathered (progress_of machine.old).asks held.old.bytes
+        (told_stream (X.told reactor.old) stream)) }
     ensures keeps { X.state reactor.new ≡ X.state reactor.old }
     ensures counts { CountsFaults result (X.faults reactor.old) (X.faults reactor.new) }
     ensures later { X.faults reactor.old ≤ X.faults reactor.new }
@@ -145,16 +162,23 @@ fn read_once<X: Reactor>(
     ensures room { held.new.room ≡ held.old.room }
     ensures told { OnOk result (ChangesOne stream (X.told reactor.old) (X.told reactor.new)) }
     ensures asks { (progress_of machine.new).asks ≡ (progress_of machine.old).asks }
-    ensures reads { IfOk result (λ round. IsOpenStill round → MayRead (length buffer.old) held.new (progress_of machine.new)) }
+    ensures reads { IfOk result (λ round.
+        IsOpenStill round → MayRead (length buffer.old) held.new (progress_of machine.new)) }
     ensures allowed { IfOk result (IsAllowed (progress_of machine.old).asks) }
     ensures follows { IfOk result (λ round. IfSome (X.told reactor.old) (λ _. IsRound
         (exchange_at (progress_of machine.old) held.old.bytes (X.told reactor.old) stream)
         (exchange_at (progress_of machine.new) held.new.bytes (X.told reactor.new) stream) round)) }
-    ensures smaller { IfOk result (λ round. round ≡ Round.GoesOn →
-        pieces_left (progress_of machine.new) held.new.bytes < pieces_left (progress_of machine.old) held.old.bytes) }
-    ensures after_last { IsTrue (X.state reactor.old).last → IfOk result (λ round. round ≢ Round.Stays) }
-    ensures gathered { IfOk result (λ round. round ≡ Round.GoesOn → IfSome (X.told reactor.old) (λ _.
-        IsGathered (progress_of machine.new).asks held.new.bytes (told_stream (X.told reactor.new) stream))) }
+    ensures smaller { IfOk result (λ round.
+        round ≡ Round.GoesOn →
+        pieces_left (progress_of machine.new) held.new.bytes
+        < pieces_left (progress_of machine.old) held.old.bytes) }
+    ensures after_last { IsTrue (X.state reactor.old).last →
+        IfOk result (λ round. round ≢ Round.Stays) }
+    ensures gathered { IfOk result (λ round.
+        round ≡ Round.GoesOn →
+        IfSome (X.told reactor.old) (λ _.
+        IsGathered (progress_of machine.new).asks held.new.bytes
+        (told_stream (X.told reactor.new) stream))) }
 {
     match machine.want(held.as_slice()) {
         Want::Held(count) => {
@@ -170,7 +194,8 @@ fn read_once<X: Reactor>(
     }
 }
 
-/// A read of some bytes gives all that is there: what has arrived is moved behind the bytes that are held.
+/// A read of some bytes gives all that is there: what has arrived is moved behind the bytes that
+/// are held.
 fn gather<X: Reactor>(
     machine: &Machine,
     held: &mut Held,
@@ -188,10 +213,13 @@ fn gather<X: Reactor>(
     ensures told { OnOk result (ChangesOne stream (X.told reactor.old) (X.told reactor.new)) }
     ensures reads { OnOk result (MayRead (length buffer.old) held.new (progress_of machine.now)) }
     ensures same { OnOk result (IfSome (X.told reactor.old) (λ _.
-        course_of (exchange_at (progress_of machine.now) held.new.bytes (X.told reactor.new) stream)
-        ≡ course_of (exchange_at (progress_of machine.now) held.old.bytes (X.told reactor.old) stream))) }
+        course_of
+        (exchange_at (progress_of machine.now) held.new.bytes (X.told reactor.new) stream)
+        ≡ course_of (exchange_at (progress_of machine.now) held.old.bytes (X.told reactor.old)
+        stream))) }
     ensures gathered { OnOk result (IfSome (X.told reactor.old) (λ _.
-        IsGathered (progress_of machine.now).asks held.new.bytes (told_stream (X.told reactor.new) stream))) }
+        IsGathered (progress_of machine.now).asks held.new.bytes
+        (told_stream (X.told reactor.new) stream))) }
 {
     match *machine {
         Machine::ReadSome { size, .. } if held.len() > 0 => {
@@ -218,12 +246,16 @@ pub(crate) fn serve_read<X: Reactor>(
     ensures room { held.new.room ≡ held.old.room }
     ensures told { OnOk result (ChangesOne stream (X.told reactor.old) (X.told reactor.new)) }
     ensures asks { (progress_of machine.new).asks ≡ (progress_of machine.old).asks }
-    ensures reads { IfOk result (λ outcome. IfNone outcome (MayRead (length buffer.old) held.new (progress_of machine.new))) }
+    ensures reads { IfOk result (λ outcome.
+        IfNone outcome (MayRead (length buffer.old) held.new (progress_of machine.new))) }
     ensures allowed { IfOk result (λ outcome. IfSome outcome
         (λ given. may_give (progress_of machine.old).asks given.0 given.1 ≡ true)) }
-    ensures follows { IfOk result (λ outcome. IfSome (X.told reactor.old) (λ _. Ends
+    ensures follows { IfOk result (λ outcome.
+        IfSome (X.told reactor.old) (λ _.
+        Ends
         (exchange_at (progress_of machine.old) held.old.bytes (X.told reactor.old) stream)
-        (exchange_at (progress_of machine.new) held.new.bytes (X.told reactor.new) stream) outcome)) }
+        (exchange_at (progress_of machine.new) held.new.bytes (X.told reactor.new) stream)
+        outcome)) }
     ensures after_last { IsTrue (X.state reactor.old).last → IfOk result IsSome }
 {
     gather(machine, held, buffer, stream, reactor)?;

@@ -10,8 +10,10 @@ use std::collections::VecDeque;
 /// For each timer how many waits the script has for it.
 pub(crate) fn wait_counts(alloc: Global, script: &Script) -> Result<Vec<u32>, NoMemory>
     ensures timers { IfOk result (λ counts. length counts.items ≡ script.now.timers) }
-    ensures counts { IfOk result (λ counts. (timer : ℕ) → timer < script.now.timers →
-        slice_index_or counts.items timer 0 ≡ acts_below (waits_for timer) script.now (length script.now.acts)) }
+    ensures counts { IfOk result (λ counts.
+        (timer : ℕ) → timer < script.now.timers →
+        slice_index_or counts.items timer 0
+        ≡ acts_below (waits_for timer) script.now (length script.now.acts)) }
 {
     let mut counts = vec![in alloc; 0u32; script.timers() as usize]?;
     for a in 0..script.acts() {
@@ -24,7 +26,8 @@ pub(crate) fn wait_counts(alloc: Global, script: &Script) -> Result<Vec<u32>, No
 fn count_wait(act: &Act, counts: &mut [u32])
     requires { All (λ count. count + 1 < 2 ^ 32) counts.old }
     ensures { (timer : ℕ) → timer < length counts.old →
-        slice_index_or counts.new timer 0 ≡ slice_index_or counts.old timer 0 + (if waits_for timer act.now then 1 else 0) }
+        slice_index_or counts.new timer 0
+        ≡ slice_index_or counts.old timer 0 + (if waits_for timer act.now then 1 else 0) }
 {
     if let Act::Wait { timer, .. } = act {
         let at = *timer as usize;
@@ -39,7 +42,8 @@ pub(crate) fn queues_with_room(
     alloc: Global,
     rooms: &[u32],
 ) -> Result<Vec<VecDeque<OpNo>>, NoMemory>
-    ensures empty { IfOk result (λ queues. map deque_items queues.items ≡ replicate (length rooms.now) []) }
+    ensures empty { IfOk result
+        (λ queues. map deque_items queues.items ≡ replicate (length rooms.now) []) }
     ensures rooms { IfOk result (λ queues. map deque_capacity queues.items ≡ rooms.now) }
 {
     let mut queues = Vec::with_capacity(alloc, rooms.len())?;

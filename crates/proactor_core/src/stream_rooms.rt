@@ -33,7 +33,8 @@ fn stream_on(side: Side, act: &Act) -> Option<StreamNo>
 fn count_operation(side: Side, act: &Act, counts: &mut [u32])
     requires { All (λ count. count + 1 < 2 ^ 32) counts.old }
     ensures { (stream : ℕ) → stream < length counts.old →
-        slice_index_or counts.new stream 0 ≡ slice_index_or counts.old stream 0 + (if is_on_side side stream act.now then 1 else 0) }
+        slice_index_or counts.new stream 0
+        ≡ slice_index_or counts.old stream 0 + (if is_on_side side stream act.now then 1 else 0) }
 {
     if let Some(stream) = stream_on(side, act) {
         let at = stream as usize;
@@ -50,8 +51,10 @@ pub(crate) fn operation_counts(
     script: &Script,
 ) -> Result<Vec<u32>, NoMemory>
     ensures streams { IfOk result (λ counts. length counts.items ≡ script.now.world.streams) }
-    ensures counts { IfOk result (λ counts. (stream : ℕ) → stream < script.now.world.streams →
-        slice_index_or counts.items stream 0 ≡ acts_below (is_on_side side stream) script.now (length script.now.acts)) }
+    ensures counts { IfOk result (λ counts.
+        (stream : ℕ) → stream < script.now.world.streams →
+        slice_index_or counts.items stream 0
+        ≡ acts_below (is_on_side side stream) script.now (length script.now.acts)) }
 {
     let mut counts = vec![in alloc; 0u32; script.world().streams as usize]?;
     for a in 0..script.acts() {
@@ -76,7 +79,8 @@ fn size_read(act: &Act) -> Option<(StreamNo, u32)>
 /// Makes room for an act at its stream.
 fn widen(act: &Act, sizes: &mut [u32])
     ensures { (stream : ℕ) → stream < length sizes.old →
-        slice_index_or sizes.new stream 0 ≡ max (slice_index_or sizes.old stream 0) (bytes_asked_at stream act.now) }
+        slice_index_or sizes.new stream 0
+        ≡ max (slice_index_or sizes.old stream 0) (bytes_asked_at stream act.now) }
 {
     if let Some((stream, size)) = size_read(act) {
         let at = stream as usize;
@@ -89,8 +93,10 @@ fn widen(act: &Act, sizes: &mut [u32])
 /// For each stream the most bytes that a read of it asks for.
 pub(crate) fn read_sizes(alloc: Global, script: &Script) -> Result<Vec<u32>, NoMemory>
     ensures streams { IfOk result (λ sizes. length sizes.items ≡ script.now.world.streams) }
-    ensures sizes { IfOk result (λ sizes. (n stream : ℕ) (act : act) → stream < script.now.world.streams →
-        act_of script.now n ≡ Some act → bytes_asked_at stream act ≤ slice_index_or sizes.items stream 0) }
+    ensures sizes { IfOk result (λ sizes.
+        (n stream : ℕ) (act : act) → stream < script.now.world.streams →
+        act_of script.now n ≡ Some act →
+        bytes_asked_at stream act ≤ slice_index_or sizes.items stream 0) }
 {
     let mut sizes = vec![in alloc; 0u32; script.world().streams as usize]?;
     for a in 0..script.acts() {

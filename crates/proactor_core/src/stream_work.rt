@@ -24,8 +24,9 @@ use std::collections::VecDeque;
 use std::marker::Model;
 use stream_rules::Completion;
 
-/// A stream of a proactor (Asio reference, `basic_stream_socket`): the bytes that were read and not consumed, and its reads
-/// and writes that haven't completed, in order of acceptance. No call but `make` takes memory.
+/// A stream of a proactor (Asio reference, `basic_stream_socket`): the bytes that were read and not
+/// consumed, and its reads and writes that haven't completed, in order of acceptance. No call but
+/// `make` takes memory.
 #[derive(Drop)]
 pub(crate) struct StreamWork<'a> {
     closed: bool,
@@ -67,7 +68,8 @@ fn bad(op: OpNo) -> Completion
 }
 
 impl<'a> StreamWork<'a> {
-    /// An open stream without operations. Takes memory for so many reads and writes, and for reads of at most `room` bytes.
+    /// An open stream without operations. Takes memory for so many reads and writes, and for reads
+    /// of at most `room` bytes.
     pub(crate) fn make(
         alloc: Global,
         room: u32,
@@ -101,7 +103,8 @@ impl<'a> StreamWork<'a> {
         requires holds { size_of (progress_of machine).asks ≤ self.old.room }
         requires room { length self.old.reads < self.old.reads_room }
         requires spare { 0 < due.old.spare }
-        ensures accepted { self.new ≡ read_begun op accepted (reading_asked (progress_of machine.entry).asks) self.old }
+        ensures accepted { self.new
+            ≡ read_begun op accepted (reading_asked (progress_of machine.entry).asks) self.old }
         ensures due { due.new ≡ bad_if_closed op self.old due.old }
     {
         if self.closed {
@@ -128,7 +131,8 @@ impl<'a> StreamWork<'a> {
         requires under_way { IsUnderWay (progress_of machine) }
         requires room { length self.old.writes < self.old.writes_room }
         requires spare { 0 < due.old.spare }
-        ensures accepted { self.new ≡ write_begun op accepted (writing_asked (progress_of machine.entry).asks) self.old }
+        ensures accepted { self.new
+            ≡ write_begun op accepted (writing_asked (progress_of machine.entry).asks) self.old }
         ensures due { due.new ≡ bad_if_closed op self.old due.old }
     {
         if self.closed {
@@ -142,8 +146,8 @@ impl<'a> StreamWork<'a> {
         });
     }
 
-    /// One operation is cancelled, if it is pending here, and reports the bytes that it moved so far
-    /// (`cancellation_signal::emit`). Costs the length of its queue.
+    /// One operation is cancelled, if it is pending here, and reports the bytes that it moved so
+    /// far (`cancellation_signal::emit`). Costs the length of its queue.
     pub(crate) fn cancel(&mut self, op: OpNo, due: &mut DueList)
         requires { pending_on self.old ≤ due.old.spare }
         ensures cancelled { self.new ≡ without_op op self.old }
@@ -187,8 +191,8 @@ impl<'a> StreamWork<'a> {
         let _ = &self.closed;
     }
 
-    /// Serves its reads from the head, and then its writes, and lists what completed. Costs the bytes that it moves and
-    /// the operations that complete.
+    /// Serves its reads from the head, and then its writes, and lists what completed. Costs the
+    /// bytes that it moves and the operations that complete.
     pub(crate) fn serve<X: Reactor>(
         &mut self,
         buffer: &mut [u8],
@@ -196,7 +200,8 @@ impl<'a> StreamWork<'a> {
         reactor: &mut X,
         due: &mut DueList,
     ) -> Result<(), Failed>
-        requires servable { self.old.closed ≡ false → IsServable (X.state reactor.old) (X.told reactor.old) stream }
+        requires servable { self.old.closed ≡ false →
+            IsServable (X.state reactor.old) (X.told reactor.old) stream }
         requires buffer { self.old.room ≤ length buffer.old }
         requires spare { pending_on self.old ≤ due.old.spare }
         ensures keeps { X.state reactor.new ≡ X.state reactor.old }
@@ -204,13 +209,18 @@ impl<'a> StreamWork<'a> {
         ensures later { X.faults reactor.old ≤ X.faults reactor.new }
         ensures tells { tells (X.told reactor.new) ≡ tells (X.told reactor.old) }
         ensures told { OnOk result (ChangesOne stream (X.told reactor.old) (X.told reactor.new)) }
-        ensures same { self.new ≡ record self.old { held = self.new.held; reads = self.new.reads; writes = self.new.writes } }
+        ensures same { self.new
+            ≡ record self.old
+            { held = self.new.held; reads = self.new.reads; writes = self.new.writes } }
         ensures gives { OnOk result (StreamGives self.old self.new due.old due.new) }
-        ensures served { OnOk result (IfSome (X.told reactor.old) (λ _. IsStreamServed self.old self.new
+        ensures served { OnOk result (IfSome (X.told reactor.old) (λ _.
+            IsStreamServed self.old self.new
             (whole_told self.old.held (X.told reactor.old) stream)
             (whole_told self.new.held (X.told reactor.new) stream) due.old due.new)) }
-        ensures reads_after_last { IsTrue (X.state reactor.old).last → OnOk result (self.new.reads ≡ []) }
-        ensures writes_after_last { IsTrue (X.state reactor.old).last → OnOk result (self.new.writes ≡ []) }
+        ensures reads_after_last { IsTrue (X.state reactor.old).last →
+            OnOk result (self.new.reads ≡ []) }
+        ensures writes_after_last { IsTrue (X.state reactor.old).last →
+            OnOk result (self.new.writes ≡ []) }
     {
         if self.closed {
             return Ok(());

@@ -47,7 +47,8 @@ impl<'a> Model for Streams<'a> {
 
 /// The greatest of some sizes.
 fn greatest(sizes: &[u32]) -> u32
-    ensures { (stream : ℕ) → stream < length sizes.now → slice_index_or sizes.now stream 0 ≤ result }
+    ensures { (stream : ℕ) → stream < length sizes.now →
+        slice_index_or sizes.now stream 0 ≤ result }
 {
     let mut most = 0u32;
     for size in sizes {
@@ -63,7 +64,8 @@ fn buffer_of(alloc: Global, size: u32) -> Result<Vec<u8>, NoMemory>
     Ok(vec![in alloc; 0u8; size as usize]?)
 }
 
-/// Open streams without operations, with room for so many reads and writes, and for reads of at most so many bytes.
+/// Open streams without operations, with room for so many reads and writes, and for reads of at
+/// most so many bytes.
 fn open_streams<'a>(
     alloc: Global,
     sizes: &[u32],
@@ -73,8 +75,11 @@ fn open_streams<'a>(
     requires reads { length reads.now ≡ length sizes.now }
     requires writes { length writes.now ≡ length sizes.now }
     ensures count { IfOk result (λ made. length made.items ≡ length sizes.now) }
-    ensures each { IfOk result (λ made. (stream : ℕ) → stream < length sizes.now → stream_in made.items stream
-        ≡ new_stream_view (slice_index_or sizes.now stream 0) (slice_index_or reads.now stream 0) (slice_index_or writes.now stream 0)) }
+    ensures each { IfOk result (λ made.
+        (stream : ℕ) → stream < length sizes.now →
+        stream_in made.items stream
+        ≡ new_stream_view (slice_index_or sizes.now stream 0)
+        (slice_index_or reads.now stream 0) (slice_index_or writes.now stream 0)) }
 {
     let mut made = Vec::with_capacity(alloc, sizes.len())?;
     for stream in 0..sizes.len() {
@@ -84,18 +89,27 @@ fn open_streams<'a>(
 }
 
 impl<'a> Streams<'a> {
-    /// The streams of a script before anything was taken. Takes memory for each operation of a stream once, and for the
-    /// greatest read of each stream; `NoMemory` where it is refused.
+    /// The streams of a script before anything was taken. Takes memory for each operation of a
+    /// stream once, and for the greatest read of each stream; `NoMemory` where it is refused.
     pub(crate) fn make(alloc: Global, script: &Script) -> Result<Streams<'a>, NoMemory>
         ensures count { IfOk result (λ made. length made ≡ script.now.world.streams) }
-        ensures open { IfOk result (λ made. (stream : ℕ) → stream < script.now.world.streams →
-            let view = stream_in made stream in view ≡ new_stream_view view.room view.reads_room view.writes_room) }
-        ensures rooms { IfOk result (λ made. (n stream : ℕ) (act : act) → stream < script.now.world.streams →
-            act_of script.now n ≡ Some act → bytes_asked_at stream act ≤ (stream_in made stream).room) }
-        ensures reads { IfOk result (λ made. (stream : ℕ) → stream < script.now.world.streams →
-            (stream_in made stream).reads_room ≡ acts_below (is_on_side Side.Reads stream) script.now (length script.now.acts)) }
-        ensures writes { IfOk result (λ made. (stream : ℕ) → stream < script.now.world.streams →
-            (stream_in made stream).writes_room ≡ acts_below (is_on_side Side.Writes stream) script.now (length script.now.acts)) }
+        ensures open { IfOk result (λ made.
+            (stream : ℕ) → stream < script.now.world.streams → let view =
+            stream_in made stream in view
+            ≡ new_stream_view view.room view.reads_room view.writes_room) }
+        ensures rooms { IfOk result (λ made.
+            (n stream : ℕ) (act : act) → stream < script.now.world.streams →
+            act_of script.now n ≡ Some act →
+            bytes_asked_at stream act ≤ (stream_in made stream).room) }
+        ensures reads { IfOk result (λ made.
+            (stream : ℕ) → stream < script.now.world.streams →
+            (stream_in made stream).reads_room
+            ≡ acts_below (is_on_side Side.Reads stream) script.now (length script.now.acts)) }
+        ensures writes { IfOk result (λ made.
+            (stream : ℕ) → stream < script.now.world.streams →
+            (stream_in made stream).writes_room
+            ≡ acts_below (is_on_side Side.Writes stream) script.now
+            (length script.now.acts)) }
     {
         let sizes = read_sizes(alloc, script)?;
         let reads = operation_counts(alloc, Side::Reads, script)?;
@@ -103,7 +117,8 @@ impl<'a> Streams<'a> {
         Streams::with_rooms(alloc, sizes.as_slice(), reads.as_slice(), writes.as_slice())
     }
 
-    /// The same, with room for so many reads and writes of each stream, and for reads of at most so many bytes.
+    /// The same, with room for so many reads and writes of each stream, and for reads of at most so
+    /// many bytes.
     pub(crate) fn with_rooms(
         alloc: Global,
         sizes: &[u32],
@@ -113,8 +128,11 @@ impl<'a> Streams<'a> {
         requires reads { length reads.now ≡ length sizes.now }
         requires writes { length writes.now ≡ length sizes.now }
         ensures count { IfOk result (λ made. length made ≡ length sizes.now) }
-        ensures each { IfOk result (λ made. (stream : ℕ) → stream < length sizes.now → stream_in made stream
-            ≡ new_stream_view (slice_index_or sizes.now stream 0) (slice_index_or reads.now stream 0) (slice_index_or writes.now stream 0)) }
+        ensures each { IfOk result (λ made.
+            (stream : ℕ) → stream < length sizes.now →
+            stream_in made stream
+            ≡ new_stream_view (slice_index_or sizes.now stream 0)
+            (slice_index_or reads.now stream 0) (slice_index_or writes.now stream 0)) }
     {
         let buffer = buffer_of(alloc, greatest(sizes))?;
         let streams = open_streams(alloc, sizes, reads, writes)?;
@@ -141,8 +159,8 @@ impl<'a> Streams<'a> {
         self.streams[stream as usize].is_closed()
     }
 
-    /// A read of a stream is pending (`async_read_some`, `async_read`, `async_read_until`), unless the stream is closed:
-    /// then it completes at once.
+    /// A read of a stream is pending (`async_read_some`, `async_read`, `async_read_until`), unless
+    /// the stream is closed: then it completes at once.
     pub(crate) fn accept_read(
         &mut self,
         op: OpNo,
@@ -156,10 +174,12 @@ impl<'a> Streams<'a> {
         requires reads { AsksToRead (progress_of machine).asks }
         requires under_way { IsUnderWay (progress_of machine) }
         requires holds { size_of (progress_of machine).asks ≤ (stream_in self.old stream).room }
-        requires room { length (stream_in self.old stream).reads < (stream_in self.old stream).reads_room }
+        requires room { length (stream_in self.old stream).reads
+            < (stream_in self.old stream).reads_room }
         requires spare { 0 < due.old.spare }
-        ensures accepted { self.new ≡
-            with_stream_in stream (read_begun op accepted (reading_asked (progress_of machine.entry).asks)) self.old }
+        ensures accepted { self.new
+            ≡ with_stream_in stream
+            (read_begun op accepted (reading_asked (progress_of machine.entry).asks)) self.old }
         ensures due { due.new ≡ bad_if_closed op (stream_in self.old stream) due.old }
     {
         let work = &mut self.streams[stream as usize];
@@ -179,18 +199,20 @@ impl<'a> Streams<'a> {
         requires fresh { progress_of machine ≡ new_progress (progress_of machine).asks }
         requires writes { AsksToWrite (progress_of machine).asks }
         requires under_way { IsUnderWay (progress_of machine) }
-        requires room { length (stream_in self.old stream).writes < (stream_in self.old stream).writes_room }
+        requires room { length (stream_in self.old stream).writes
+            < (stream_in self.old stream).writes_room }
         requires spare { 0 < due.old.spare }
-        ensures accepted { self.new ≡
-            with_stream_in stream (write_begun op accepted (writing_asked (progress_of machine.entry).asks)) self.old }
+        ensures accepted { self.new
+            ≡ with_stream_in stream
+            (write_begun op accepted (writing_asked (progress_of machine.entry).asks)) self.old }
         ensures due { due.new ≡ bad_if_closed op (stream_in self.old stream) due.old }
     {
         let work = &mut self.streams[stream as usize];
         work.accept_write(op, accepted, machine, due);
     }
 
-    /// An operation of a stream is cancelled, if it is pending, and reports the bytes that it moved so far. Costs the
-    /// length of its queue.
+    /// An operation of a stream is cancelled, if it is pending, and reports the bytes that it moved
+    /// so far. Costs the length of its queue.
     pub(crate) fn cancel(&mut self, op: OpNo, stream: StreamNo, due: &mut DueList)
         requires known { stream < length self.old }
         requires spare { pending_on (stream_in self.old stream) ≤ due.old.spare }
@@ -201,16 +223,22 @@ impl<'a> Streams<'a> {
         work.cancel(op, due);
     }
 
-    /// A stream is closed (`basic_stream_socket::close`): its operations are cancelled in order of acceptance, and its
-    /// bytes there and its room are dropped. The reactor is told once.
+    /// A stream is closed (`basic_stream_socket::close`): its operations are cancelled in order of
+    /// acceptance, and its bytes there and its room are dropped. The reactor is told once.
     pub(crate) fn close<X: Reactor>(&mut self, stream: StreamNo, reactor: &mut X, due: &mut DueList)
         requires known { stream < length self.old }
-        requires servable { (stream_in self.old stream).closed ≡ false → IsServable (X.state reactor.old) (X.told reactor.old) stream }
+        requires servable { (stream_in self.old stream).closed ≡ false →
+            IsServable (X.state reactor.old) (X.told reactor.old) stream }
         requires spare { pending_on (stream_in self.old stream) ≤ due.old.spare }
         ensures closed { self.new ≡ with_stream_in stream closed_view self.old }
-        ensures due { due.new ≡ listed (all_of_stream (stream_in self.old stream).reads (stream_in self.old stream).writes) due.old }
-        ensures state { X.state reactor.new ≡ closes_state (stream_in self.old stream).closed stream (X.state reactor.old) }
-        ensures told { X.told reactor.new ≡ closes_told (stream_in self.old stream).closed stream (X.told reactor.old) }
+        ensures due { due.new
+            ≡ listed
+            (all_of_stream (stream_in self.old stream).reads (stream_in self.old stream).writes)
+            due.old }
+        ensures state { X.state reactor.new
+            ≡ closes_state (stream_in self.old stream).closed stream (X.state reactor.old) }
+        ensures told { X.told reactor.new
+            ≡ closes_told (stream_in self.old stream).closed stream (X.told reactor.old) }
         ensures counts { X.faults reactor.new ≡ X.faults reactor.old }
     {
         let work = &mut self.streams[stream as usize];
@@ -220,7 +248,8 @@ impl<'a> Streams<'a> {
         work.close(due);
     }
 
-    /// Serves a stream: its reads from the head, as long as the head completes, and then its writes.
+    /// Serves a stream: its reads from the head, as long as the head completes, and then its
+    /// writes.
     pub(crate) fn serve<X: Reactor>(
         &mut self,
         stream: StreamNo,
@@ -228,7 +257,8 @@ impl<'a> Streams<'a> {
         due: &mut DueList,
     ) -> Result<(), Failed>
         requires known { stream < length self.old }
-        requires servable { (stream_in self.old stream).closed ≡ false → IsServable (X.state reactor.old) (X.told reactor.old) stream }
+        requires servable { (stream_in self.old stream).closed ≡ false →
+            IsServable (X.state reactor.old) (X.told reactor.old) stream }
         requires spare { pending_on (stream_in self.old stream) ≤ due.old.spare }
         ensures keeps { X.state reactor.new ≡ X.state reactor.old }
         ensures counts { CountsFaults result (X.faults reactor.old) (X.faults reactor.new) }
@@ -240,12 +270,17 @@ impl<'a> Streams<'a> {
           reads = (stream_in self.new stream).reads;
           writes = (stream_in self.new stream).writes;
         }) self.old }
-        ensures gives { OnOk result (StreamGives (stream_in self.old stream) (stream_in self.new stream) due.old due.new) }
-        ensures served { OnOk result (IfSome (X.told reactor.old) (λ _. IsStreamServed (stream_in self.old stream) (stream_in self.new stream)
+        ensures gives { OnOk result
+            (StreamGives (stream_in self.old stream) (stream_in self.new stream) due.old due.new) }
+        ensures served { OnOk result (IfSome (X.told reactor.old) (λ _.
+            IsStreamServed (stream_in self.old stream) (stream_in self.new stream)
             (whole_told (stream_in self.old stream).held (X.told reactor.old) stream)
-            (whole_told (stream_in self.new stream).held (X.told reactor.new) stream) due.old due.new)) }
-        ensures reads_after_last { IsTrue (X.state reactor.old).last → OnOk result ((stream_in self.new stream).reads ≡ []) }
-        ensures writes_after_last { IsTrue (X.state reactor.old).last → OnOk result ((stream_in self.new stream).writes ≡ []) }
+            (whole_told (stream_in self.new stream).held (X.told reactor.new) stream) due.old
+            due.new)) }
+        ensures reads_after_last { IsTrue (X.state reactor.old).last →
+            OnOk result ((stream_in self.new stream).reads ≡ []) }
+        ensures writes_after_last { IsTrue (X.state reactor.old).last →
+            OnOk result ((stream_in self.new stream).writes ≡ []) }
         ensures under_way { AreUnderWay (queues_in (stream_in self.new stream)) }
     {
         let work = &mut self.streams[stream as usize];
@@ -270,7 +305,8 @@ impl<'a> Streams<'a> {
         ensures served { OnOk result
             (AreServedBelow (X.state reactor.old).last (length self.old) self.old self.new
             (X.told reactor.old) (X.told reactor.new) due.old due.new) }
-        ensures under_way { OnOk result ((n : ℕ) → n < length self.new → AreUnderWay (queues_in (stream_in self.new n))) }
+        ensures under_way { OnOk result
+            ((n : ℕ) → n < length self.new → AreUnderWay (queues_in (stream_in self.new n))) }
     {
         for stream in 0..self.streams.len() {
             self.serve(stream as StreamNo, reactor, due)?;

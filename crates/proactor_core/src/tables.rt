@@ -17,8 +17,9 @@ use std::alloc::Global;
 use std::marker::Model;
 use stream_rules::Completion;
 
-/// What a proactor keeps apart from its streams: which acts were taken, the time, timers and their waits, cancellation
-/// slots, guards, and what is due. Contracts see each part. No call but `make` takes memory.
+/// What a proactor keeps apart from its streams: which acts were taken, the time, timers and their
+/// waits, cancellation slots, guards, and what is due. Contracts see each part. No call but `make`
+/// takes memory.
 #[derive(Drop)]
 pub(crate) struct Tables {
     taken: Vec<bool>,
@@ -60,9 +61,12 @@ fn all_flags(alloc: Global, flag: bool, count: usize) -> Result<Vec<bool>, NoMem
 }
 
 impl Tables {
-    /// The tables of a script before anything was taken. Takes memory for each act once; `NoMemory` where it is refused.
+    /// The tables of a script before anything was taken. Takes memory for each act once; `NoMemory`
+    /// where it is refused.
     pub(crate) fn make(alloc: Global, script: &Script) -> Result<Tables, NoMemory>
-        ensures half { IfOk result (λ made. (told : Bool) → with_tables made (first_reactor script.now told) ≡ first_reactor script.now told) }
+        ensures half { IfOk result (λ made.
+            (told : Bool) →
+            with_tables made (first_reactor script.now told) ≡ first_reactor script.now told) }
         ensures room { IfOk result (HasRoomLeft script.now 0) }
         ensures spare { IfOk result (λ made. made.due.spare ≡ length script.now.acts) }
     {
@@ -85,20 +89,22 @@ impl Tables {
         })
     }
 
-    /// A wait is pending from now on (`steady_timer::async_wait`). Takes time logarithmic in the number of waits.
+    /// A wait is pending from now on (`steady_timer::async_wait`). Takes time logarithmic in the
+    /// number of waits.
     pub(crate) fn begin_wait(&mut self, op: OpNo, timer: TimerNo)
         requires op { op < self.old.waiting.acts }
         requires new { All (λ wait. wait.op ≢ op) self.old.waiting.waits }
         requires timer { timer < length self.old.waiting.expiries }
-        requires room { length (filter (is_wait_of timer) self.old.waiting.waits) < slice_index_or self.old.waiting.rooms timer 0 }
+        requires room { length (filter (is_wait_of timer) self.old.waiting.waits)
+            < slice_index_or self.old.waiting.rooms timer 0 }
         requires few { self.old.waiting.accepted < self.old.waiting.acts }
         ensures { self.new ≡ wait_begun op timer self.old }
     {
         self.waits.accept(op, timer);
     }
 
-    /// An operation is connected to its slot, if it has one, with the cancellation types that reach it
-    /// (`cancellation_slot::assign`).
+    /// An operation is connected to its slot, if it has one, with the cancellation types that reach
+    /// it (`cancellation_slot::assign`).
     pub(crate) fn connect(&mut self, slot: Option<SlotNo>, op: OpNo, types: Types)
         requires { ForSome slot (λ slot. slot < length self.old.slots) }
         ensures { self.new ≡ slot_taken slot op types self.old }
@@ -109,7 +115,8 @@ impl Tables {
         self.slots.connect(slot, op, types);
     }
 
-    /// An operation that has completed leaves its slot, if it is still connected there (`cancellation_slot::clear`).
+    /// An operation that has completed leaves its slot, if it is still connected there
+    /// (`cancellation_slot::clear`).
     pub(crate) fn disconnect(&mut self, slot: Option<SlotNo>, op: OpNo)
         requires { ForSome slot (λ slot. slot < length self.old.slots) }
         ensures { self.new ≡ slot_left slot op self.old }
@@ -120,8 +127,8 @@ impl Tables {
         let _ = self.slots.clear_if(slot, op);
     }
 
-    /// The operation that an emit of these types on a slot cancels (`cancellation_signal::emit`); `None` exactly where it
-    /// reaches none.
+    /// The operation that an emit of these types on a slot cancels (`cancellation_signal::emit`);
+    /// `None` exactly where it reaches none.
     pub(crate) fn reached(&self, slot: SlotNo, types: Types) -> Option<OpNo>
         requires { slot < length self.now.slots }
         ensures { result ≡ chosen_by (connection_of self.now.slots slot) types }
@@ -129,8 +136,8 @@ impl Tables {
         self.slots.chosen(slot, types)
     }
 
-    /// A timer gets a new expiry, and its waits are cancelled (`steady_timer::expires_at`). Takes time in proportion to
-    /// the waits of that timer, each with a logarithm.
+    /// A timer gets a new expiry, and its waits are cancelled (`steady_timer::expires_at`). Takes
+    /// time in proportion to the waits of that timer, each with a logarithm.
     pub(crate) fn set_timer(&mut self, timer: TimerNo, expiry: u64)
         requires timer { timer < length self.old.waiting.expiries }
         requires room { length self.old.waiting.waits ≤ self.old.due.spare }
@@ -148,7 +155,8 @@ impl Tables {
         self.waits.cancel_timer(timer, &mut self.due);
     }
 
-    /// The wait of a timer that was accepted first is cancelled, if there is one (`steady_timer::cancel_one`).
+    /// The wait of a timer that was accepted first is cancelled, if there is one
+    /// (`steady_timer::cancel_one`).
     pub(crate) fn cancel_first(&mut self, timer: TimerNo)
         requires timer { timer < length self.old.waiting.expiries }
         requires room { length self.old.waiting.waits ≤ self.old.due.spare }
@@ -238,7 +246,8 @@ impl Tables {
 
     /// The least expiry of a timer that is waited for; `None` exactly where no wait is pending.
     pub(crate) fn next_expiry(&self) -> Option<u64>
-        ensures { result ≡ least_of (map (expiry_in self.now.waiting.expiries) self.now.waiting.waits) }
+        ensures { result
+            ≡ least_of (map (expiry_in self.now.waiting.expiries) self.now.waiting.waits) }
     {
         self.waits.next_expiry()
     }

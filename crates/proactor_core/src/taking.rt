@@ -40,7 +40,8 @@ impl<'a, X: Reactor> Proactor<'a, X> {
         ensures turning { IsTurning X.state X.told self.new }
         ensures takes { TakesAct a self.old self.new }
         ensures follows { (half : ReactorHalf) → IsAt X.told self.old half →
-            IsAt X.told self.new (connected (slot_of act.now) a (with_taken a (wait_accepted a timer half))) }
+            IsAt X.told self.new
+            (connected (slot_of act.now) a (with_taken a (wait_accepted a timer half))) }
     {
         acts_fit(self.script);
         self.tables.begin_wait(a, timer);
@@ -82,7 +83,8 @@ impl<'a, X: Reactor> Proactor<'a, X> {
         ensures turning { IsTurning X.state X.told self.new }
         ensures takes { TakesAct a self.old self.new }
         ensures follows { (half : ReactorHalf) → IsAt X.told self.old half →
-            IsAt X.told self.new (with_taken a (one_wait_cancelled (find (is_wait_of timer) half.waits) half)) }
+            IsAt X.told self.new
+            (with_taken a (one_wait_cancelled (find (is_wait_of timer) half.waits) half)) }
     {
         self.tables.cancel_first(timer);
         self.tables.take(a);
@@ -118,8 +120,10 @@ impl<'a, X: Reactor> Proactor<'a, X> {
         requires reads { stream_read act.now ≡ Some stream }
         ensures turning { IsTurning X.state X.told self.new }
         ensures takes { TakesAct a self.old self.new }
-        ensures follows { (half : ReactorHalf) (reading : Reading) → reading_of act.now ≡ Some reading → IsAt X.told self.old half →
-            IsAt X.told self.new (connected (slot_of act.now) a (with_taken a (read_accepted a stream reading half))) }
+        ensures follows { (half : ReactorHalf) (reading : Reading) →
+            reading_of act.now ≡ Some reading → IsAt X.told self.old half →
+            IsAt X.told self.new
+            (connected (slot_of act.now) a (with_taken a (read_accepted a stream reading half))) }
     {
         acts_fit(self.script);
         acts_are_sized(self.script);
@@ -140,8 +144,10 @@ impl<'a, X: Reactor> Proactor<'a, X> {
         requires writes { stream_written act.now ≡ Some stream }
         ensures turning { IsTurning X.state X.told self.new }
         ensures takes { TakesAct a self.old self.new }
-        ensures follows { (half : ReactorHalf) (writing : Writing) → writing_of act.now ≡ Some writing → IsAt X.told self.old half →
-            IsAt X.told self.new (connected (slot_of act.now) a (with_taken a (write_accepted a stream writing half))) }
+        ensures follows { (half : ReactorHalf) (writing : Writing) →
+            writing_of act.now ≡ Some writing → IsAt X.told self.old half →
+            IsAt X.told self.new (connected (slot_of act.now) a
+            (with_taken a (write_accepted a stream writing half))) }
     {
         acts_fit(self.script);
         acts_are_sized(self.script);
@@ -184,7 +190,8 @@ impl<'a, X: Reactor> Proactor<'a, X> {
         requires turning { IsTurning X.state X.told self.old }
         requires known { stream < length self.old.streams }
         ensures turning { IsTurning X.state X.told self.new }
-        ensures others { self.new ≡ record self.old { tables = self.new.tables; streams = self.new.streams } }
+        ensures others { self.new
+            ≡ record self.old { tables = self.new.tables; streams = self.new.streams } }
         ensures taken { self.new.tables.taken ≡ self.old.tables.taken }
         ensures follows { (half : ReactorHalf) → IsAt X.told self.old half →
             IsAt X.told self.new (one_of_stream_cancelled op stream half) }
@@ -193,12 +200,14 @@ impl<'a, X: Reactor> Proactor<'a, X> {
         self.streams.cancel(op, stream, &mut tables.due);
     }
 
-    /// An operation that an emit reaches is cancelled, if it is pending (`cancellation_signal::emit`).
+    /// An operation that an emit reaches is cancelled, if it is pending
+    /// (`cancellation_signal::emit`).
     fn cancel_reached(&mut self, op: OpNo)
         requires turning { IsTurning X.state X.told self.old }
         requires there { op < length self.old.script.acts }
         ensures turning { IsTurning X.state X.told self.new }
-        ensures others { self.new ≡ record self.old { tables = self.new.tables; streams = self.new.streams } }
+        ensures others { self.new
+            ≡ record self.old { tables = self.new.tables; streams = self.new.streams } }
         ensures taken { self.new.tables.taken ≡ self.old.tables.taken }
         ensures follows { (half : ReactorHalf) → IsAt X.told self.old half →
             IsAt X.told self.new (chosen_cancelled self.old.script (Some op) half) }
@@ -222,7 +231,8 @@ impl<'a, X: Reactor> Proactor<'a, X> {
         ensures turning { IsTurning X.state X.told self.new }
         ensures takes { TakesAct a self.old self.new }
         ensures follows { (half : ReactorHalf) → IsAt X.told self.old half →
-            IsAt X.told self.new (with_taken a (emitted self.old.script (slice_index_or half.slots slot None) types half)) }
+            IsAt X.told self.new (with_taken a
+            (emitted self.old.script (slice_index_or half.slots slot None) types half)) }
     {
         match self.tables.reached(slot, types) {
             None => self.tables.take(a),

@@ -5,8 +5,8 @@ pub fn untold_begins()
     ensures { UntoldBegins }
 {}
 
-/// Where nothing is due to the proactor nothing is due to the history, and no stream has given anything. A law: it runs
-/// nothing.
+/// Where nothing is due to the proactor nothing is due to the history, and no stream has given
+/// anything. A law: it runs nothing.
 pub fn untold_rests()
     ensures { UntoldRests }
 {}
@@ -32,8 +32,8 @@ pub fn streams_give_in_order()
     ensures { StreamsGiveBelow }
 {}
 
-/// So a whole turn of a proactor leaves the history beside it, and after the last time point no operation is left in a
-/// queue. A law: it runs nothing.
+/// So a whole turn of a proactor leaves the history beside it, and after the last time point no
+/// operation is left in a queue. A law: it runs nothing.
 pub fn untold_turns()
     ensures turns { UntoldTurns }
     ensures drains { LastTurnsDrain }

@@ -19,8 +19,9 @@ use std::sync::ledger::Blank;
 use stream_rules::Completion;
 use timer_queue::TimerQueue;
 
-/// The timers of a session with their expiries, and the waits that haven't completed (Asio reference, `steady_timer`).
-/// Contracts see the waits in order of acceptance. No call but `make` takes memory.
+/// The timers of a session with their expiries, and the waits that haven't completed (Asio
+/// reference, `steady_timer`). Contracts see the waits in order of acceptance. No call but `make`
+/// takes memory.
 #[derive(Drop)]
 pub(crate) struct Waits {
     expiries: Vec<u64>,
@@ -50,26 +51,31 @@ impl Model for Waits {
       acts = length w.timer_of.items;
     } };
 
-    ghost invariant = { λ w. IsWaits w.expiries.items w.timer_of.items w.queue (map deque_items w.of_timer.items) w.accepted w.pending };
+    ghost invariant = { λ w.
+        IsWaits w.expiries.items w.timer_of.items w.queue (map deque_items w.of_timer.items)
+        w.accepted w.pending };
 }
 
 impl Waits {
-    /// All timers with expiry 0, and no waits. Takes memory for each wait of the script once; `NoMemory` where it is
-    /// refused.
+    /// All timers with expiry 0, and no waits. Takes memory for each wait of the script once;
+    /// `NoMemory` where it is refused.
     pub(crate) fn make(alloc: Global, script: &Script) -> Result<Waits, NoMemory>
         ensures expiries { IfOk result (λ made. made.expiries ≡ replicate script.now.timers 0) }
         ensures waits { IfOk result (λ made. made.waits ≡ []) }
         ensures accepted { IfOk result (λ made. made.accepted ≡ 0) }
         ensures timers { IfOk result (λ made. length made.rooms ≡ script.now.timers) }
-        ensures rooms { IfOk result (λ made. (timer : ℕ) → timer < script.now.timers →
-            slice_index_or made.rooms timer 0 ≡ acts_below (waits_for timer) script.now (length script.now.acts)) }
+        ensures rooms { IfOk result (λ made.
+            (timer : ℕ) → timer < script.now.timers →
+            slice_index_or made.rooms timer 0
+            ≡ acts_below (waits_for timer) script.now (length script.now.acts)) }
         ensures acts { IfOk result (λ made. made.acts ≡ length script.now.acts) }
     {
         let rooms = wait_counts(alloc, script)?;
         Waits::with_room(alloc, rooms.as_slice(), script.acts())
     }
 
-    /// The same, with room for so many waits of each timer, and for operations whose numbers are below `acts`.
+    /// The same, with room for so many waits of each timer, and for operations whose numbers are
+    /// below `acts`.
     pub(crate) fn with_room(alloc: Global, rooms: &[u32], acts: u32) -> Result<Waits, NoMemory>
         ensures { IfOk result (λ made. made ≡ no_waits rooms.now acts) }
     {
@@ -87,12 +93,14 @@ impl Waits {
         })
     }
 
-    /// A wait is pending from now on (`steady_timer::async_wait`). Takes time logarithmic in the number of waits.
+    /// A wait is pending from now on (`steady_timer::async_wait`). Takes time logarithmic in the
+    /// number of waits.
     pub(crate) fn accept(&mut self, op: OpNo, timer: TimerNo)
         requires op { op < self.old.acts }
         requires new { All (λ wait. wait.op ≢ op) self.old.waits }
         requires timer { timer < length self.old.expiries }
-        requires room { length (filter (is_wait_of timer) self.old.waits) < slice_index_or self.old.rooms timer 0 }
+        requires room { length (filter (is_wait_of timer) self.old.waits)
+            < slice_index_or self.old.rooms timer 0 }
         requires few { self.old.accepted < self.old.acts }
         ensures { self.new ≡ record self.old {
           waits = self.old.waits ++ record { op = op; timer = timer } ∷ [];
@@ -108,20 +116,23 @@ impl Waits {
         self.pending += 1;
     }
 
-    /// A timer gets a new expiry, and its waits are cancelled, in order of acceptance (`steady_timer::expires_after`).
-    /// Takes time in proportion to the waits of that timer, each with a logarithm.
+    /// A timer gets a new expiry, and its waits are cancelled, in order of acceptance
+    /// (`steady_timer::expires_after`). Takes time in proportion to the waits of that timer, each
+    /// with a logarithm.
     pub(crate) fn set_expiry(&mut self, timer: TimerNo, expiry: u64, due: &mut DueList)
         requires timer { timer < length self.old.expiries }
         requires room { length self.old.waits ≤ due.old.spare }
-        ensures waits { self.new ≡ record (without (is_wait_of timer) self.old) { expiries = slice_set self.old.expiries timer expiry } }
+        ensures waits { self.new
+            ≡ record (without (is_wait_of timer) self.old)
+            { expiries = slice_set self.old.expiries timer expiry } }
         ensures due { due.new ≡ listed (aborts (is_wait_of timer) self.old) due.old }
     {
         self.cancel_timer(timer, due);
         self.put_expiry(timer, expiry);
     }
 
-    /// The waits of a timer are cancelled, in order of acceptance (`steady_timer::cancel`). Takes time in proportion to
-    /// them, each with a logarithm.
+    /// The waits of a timer are cancelled, in order of acceptance (`steady_timer::cancel`). Takes
+    /// time in proportion to them, each with a logarithm.
     pub(crate) fn cancel_timer(&mut self, timer: TimerNo, due: &mut DueList)
         requires timer { timer < length self.old.expiries }
         requires room { length self.old.waits ≤ due.old.spare }
@@ -133,21 +144,22 @@ impl Waits {
         }
     }
 
-    /// The wait of a timer that was accepted first is cancelled, if there is one (`steady_timer::cancel_one`). Takes a
-    /// logarithm.
+    /// The wait of a timer that was accepted first is cancelled, if there is one
+    /// (`steady_timer::cancel_one`). Takes a logarithm.
     pub(crate) fn cancel_first(&mut self, timer: TimerNo, due: &mut DueList)
         requires timer { timer < length self.old.expiries }
         requires room { length self.old.waits ≤ due.old.spare }
         ensures waits { self.new ≡ without_one (find (is_wait_of timer) self.old.waits) self.old }
-        ensures due { due.new ≡ listed (abort_of_one (find (is_wait_of timer) self.old.waits) self.old) due.old }
+        ensures due { due.new
+            ≡ listed (abort_of_one (find (is_wait_of timer) self.old.waits) self.old) due.old }
     {
         if let Some(op) = self.take_first(timer) {
             due.push_reserved(aborted(op));
         }
     }
 
-    /// The wait of this operation is cancelled, if it is pending (`cancellation_signal::emit`). Takes time in proportion
-    /// to the waits of its timer.
+    /// The wait of this operation is cancelled, if it is pending (`cancellation_signal::emit`).
+    /// Takes time in proportion to the waits of its timer.
     pub(crate) fn cancel_op(&mut self, op: OpNo, due: &mut DueList)
         requires op { op < self.old.acts }
         requires room { length self.old.waits ≤ due.old.spare }
@@ -159,7 +171,8 @@ impl Waits {
         }
     }
 
-    /// The waits complete whose timers have expired by now, by expiry and then by acceptance. Takes a logarithm for each.
+    /// The waits complete whose timers have expired by now, by expiry and then by acceptance. Takes
+    /// a logarithm for each.
     pub(crate) fn complete_due(&mut self, now: u64, due: &mut DueList)
         requires room { length self.old.waits ≤ due.old.spare }
         ensures waits { self.new ≡ without (has_expired now self.old.expiries) self.old }
@@ -173,7 +186,8 @@ impl Waits {
         }
     }
 
-    /// The least expiry of a timer that is waited for; `None` exactly where no wait is pending. Takes constant time.
+    /// The least expiry of a timer that is waited for; `None` exactly where no wait is pending.
+    /// Takes constant time.
     pub(crate) fn next_expiry(&self) -> Option<u64>
         ensures { result ≡ least_of (map (expiry_in self.now.expiries) self.now.waits) }
     {
@@ -190,7 +204,8 @@ impl Waits {
     fn put_expiry(&mut self, timer: TimerNo, expiry: u64)
         requires timer { timer < length self.old.expiries }
         requires none { All (λ wait. wait.timer ≢ timer) self.old.waits }
-        ensures { self.new ≡ record self.old { expiries = slice_set self.old.expiries timer expiry } }
+        ensures { self.new
+            ≡ record self.old { expiries = slice_set self.old.expiries timer expiry } }
     {
         self.expiries[timer as usize] = expiry;
     }
@@ -232,7 +247,8 @@ impl Waits {
     /// Takes the wait out that expires first, if its timer has expired by now.
     fn take_expired(&mut self, now: u64) -> Option<OpNo>
         ensures first { IfSome result (λ op. TakesExpired now op self.old self.new) }
-        ensures none { IfNone result (filter (has_expired now self.old.expiries) self.old.waits ≡ []) }
+        ensures none { IfNone result
+            (filter (has_expired now self.old.expiries) self.old.waits ≡ []) }
         ensures unchanged { IfNone result (self.new ≡ self.old) }
     {
         let Some(op) = pop_due::<Brand>(&mut self.queue, now, Blank::new(1)) else {

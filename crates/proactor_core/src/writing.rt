@@ -44,12 +44,15 @@ fn write_once<X: Reactor>(
     ensures asks { (progress_of machine.new).asks ≡ (progress_of machine.old).asks }
     ensures writes { IfOk result (λ round. IsOpenStill round → MayWrite (progress_of machine.new)) }
     ensures allowed { IfOk result (IsAllowed (progress_of machine.old).asks) }
-    ensures follows { (held : List ℕ) → IfOk result (λ round. IfSome (X.told reactor.old) (λ _. IsRound
-        (exchange_at (progress_of machine.old) held (X.told reactor.old) stream)
+    ensures follows { (held : List ℕ) →
+        IfOk result (λ round.
+        IfSome (X.told reactor.old) (λ _.
+        IsRound (exchange_at (progress_of machine.old) held (X.told reactor.old) stream)
         (exchange_at (progress_of machine.new) held (X.told reactor.new) stream) round)) }
     ensures smaller { IfOk result (λ round. round ≡ Round.GoesOn →
         pieces_left (progress_of machine.new) [] < pieces_left (progress_of machine.old) []) }
-    ensures after_last { IsTrue (X.state reactor.old).last → IfOk result (λ round. round ≢ Round.Stays) }
+    ensures after_last { IsTrue (X.state reactor.old).last →
+        IfOk result (λ round. round ≢ Round.Stays) }
 {
     let Want::Write { from, count } = machine.want(&[]) else {
         unreachable!()
@@ -79,9 +82,12 @@ pub(crate) fn serve_write<X: Reactor>(
     ensures writes { IfOk result (λ outcome. IfNone outcome (MayWrite (progress_of machine.new))) }
     ensures allowed { IfOk result (λ outcome. IfSome outcome
         (λ given. may_give (progress_of machine.old).asks given.0 given.1 ≡ true)) }
-    ensures follows { (held : List ℕ) → IfOk result (λ outcome. IfSome (X.told reactor.old) (λ _. Ends
-        (exchange_at (progress_of machine.old) held (X.told reactor.old) stream)
-        (exchange_at (progress_of machine.new) held (X.told reactor.new) stream) outcome)) }
+    ensures follows { (held : List ℕ) →
+        IfOk result (λ outcome.
+        IfSome (X.told reactor.old) (λ _.
+        Ends (exchange_at (progress_of machine.old) held (X.told reactor.old) stream)
+        (exchange_at (progress_of machine.new) held (X.told reactor.new) stream)
+        outcome)) }
     ensures after_last { IsTrue (X.state reactor.old).last → IfOk result IsSome }
 {
     'rounds: loop {

@@ -1,6 +1,7 @@
-//! The program that measures the proactor: `proactor_speed ACTS TIMES` writes a script with so many acts, which sets timers,
-//! waits for them and cancels half of the waits, takes all of it and runs the time out so many times, and prints how many
-//! waits completed; `time` tells how long it took. It is proved to be safe. Nothing stands on it.
+//! The program that measures the proactor: `proactor_speed ACTS TIMES` writes a script with so many
+//! acts, which sets timers, waits for them and cancels half of the waits, takes all of it and runs
+//! the time out so many times, and prints how many waits completed; `time` tells how long it took.
+//! It is proved to be safe. Nothing stands on it.
 #![tactic(auto)]
 
 mod turns;

@@ -67,7 +67,8 @@ fn take_all<X: Reactor>(proactor: &mut Proactor<'_, X>, script: &Script) -> Resu
     Ok(completed)
 }
 
-/// Moves the time on until nothing is pending, at most so often; answers how many operations completed.
+/// Moves the time on until nothing is pending, at most so often; answers how many operations
+/// completed.
 fn run_out<X: Reactor>(proactor: &mut Proactor<'_, X>, times: u32) -> Result<u64, Fault>
     requires sound { IsSound X.state X.told proactor.old }
     requires nothing_due { proactor.old.tables.due.coming ≡ [] }
@@ -79,7 +80,8 @@ fn run_out<X: Reactor>(proactor: &mut Proactor<'_, X>, times: u32) -> Result<u64
     Ok(completed)
 }
 
-/// How many operations of a script complete that is taken in text order, without a handler, until nothing is pending.
+/// How many operations of a script complete that is taken in text order, without a handler, until
+/// nothing is pending.
 pub(crate) fn completions_of<X: Reactor>(
     alloc: Global,
     script: &Script,

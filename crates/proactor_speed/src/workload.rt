@@ -7,8 +7,8 @@ const MOST_TIMERS: u32 = 128;
 /// How many acts a timer has: one sets it, one cancels, and the others wait.
 const ACTS_OF_TIMER: u32 = 32;
 
-/// The act with this number: first all timers are set, then all waits begin, timer by timer in turn, and last half of the
-/// timers are cancelled, and one wait of each other timer.
+/// The act with this number: first all timers are set, then all waits begin, timer by timer in
+/// turn, and last half of the timers are cancelled, and one wait of each other timer.
 fn push_act(text: &mut String, act: u32, acts: u32, timers: u32) -> Result<(), NoMemory> {
     let timer = act % timers.max(1);
     if act < timers {

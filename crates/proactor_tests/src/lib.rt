@@ -1,5 +1,6 @@
-//! Tests of the proactor over the scripted reactor: the worked sessions on timers, slots, cancellation and streams, turn by
-//! turn, and each call of the reactor failing in turn. Nothing stands on it.
+//! Tests of the proactor over the scripted reactor: the worked sessions on timers, slots,
+//! cancellation and streams, turn by turn, and each call of the reactor failing in turn. Nothing
+//! stands on it.
 #![tactic(auto)]
 
 #[cfg(test)]

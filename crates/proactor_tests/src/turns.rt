@@ -1,4 +1,5 @@
-//! What a proactor makes of turns: of each the event that begins it and the completions that it tells, as a trace.
+//! What a proactor makes of turns: of each the event that begins it and the completions that it
+//! tells, as a trace.
 
 ghost use Rattle.std.specs.Prelude.{◌≡◌, [], OnOk};
 ghost use Rattle.proactor_core.specs.Proactor.{IsSound};
@@ -10,8 +11,9 @@ use reactor_trait::Reactor;
 use session_script::{Script, read_script};
 use std::alloc::Global;
 
-/// A script, the turns that its reactor makes (the number of an act that is taken, or `tick`), the calls of the reactor
-/// that fail, and the trace of all that, where ` / ` stands for the end of a line.
+/// A script, the turns that its reactor makes (the number of an act that is taken, or `tick`), the
+/// calls of the reactor that fail, and the trace of all that, where ` / ` stands for the end of a
+/// line.
 pub(crate) struct Case {
     pub(crate) shows: &'static str,
     pub(crate) script: &'static str,

@@ -12,13 +12,19 @@ use Rattle.reactor_trait.specs.Reactor.{Outside, outside_at, with_stream}
 use Rattle.reactor_script.specs.Scene.{outside_over}
 
 -- time moved to this time, and its lines were performed
-pub outside-moved : (old new : Timetable) (time : ℕ) (pipes after : List Pipe) → old.time < time → new.time ≡ time → new.lines ≡ old.lines → map stream_of after ≡ perform_lines (lines_at new.time new.lines) (map stream_of pipes) → outside_over new after ≡ outside_at (point.Time time) (outside_over old pipes)
+pub outside-moved : (old new : Timetable) (time : ℕ) (pipes after : List Pipe) → old.time < time → new.time ≡ time →
+    new.lines ≡ old.lines → map stream_of after ≡ perform_lines (lines_at new.time new.lines) (map stream_of pipes) →
+    outside_over new after ≡ outside_at (point.Time time) (outside_over old pipes)
 outside-moved old new time pipes after forward is same performed =
     let at = lines_at-later old.time time old.lines forward in
     let to_come = lines_after-later old.time time old.lines (le_of_lt forward) in
     rw (performed, is, same, at, to_come)
 
 -- one stream changed
-pub outside-changed : (f : Stream → Stream) (table : Timetable) (pipes : List Pipe) (d : ℕ) (any new : Pipe) → d < length pipes → stream_of new ≡ f (stream_of (get_or pipes d any)) → outside_over table (set pipes d new) ≡ with_stream d f (outside_over table pipes)
+pub outside-changed : (f : Stream → Stream) (table : Timetable) (pipes : List Pipe) (d : ℕ) (any new : Pipe) →
+    d < length pipes → stream_of new ≡ f (stream_of (get_or pipes d any)) →
+    outside_over table (set pipes d new) ≡ with_stream d f (outside_over table pipes)
 outside-changed f table pipes d any new b same =
-    ap (λ (streams : List Stream). let outside : Outside = record { streams = streams; lines = lines_after table.time table.lines } in outside) (changed-set f pipes d any new b same)
+    ap (λ (streams : List Stream).
+    let outside : Outside = record { streams = streams; lines = lines_after table.time table.lines } in outside)
+    (changed-set f pipes d any new b same)

@@ -28,15 +28,25 @@ pub record Plans : Type 0 where
 
 -- nothing was called
 abbrev pub first_plan : Method → List FailAt → Plan
-first_plan method fails = record { fails = calls_of (method_number method) fails; calls = 0; faults = 0 }
+first_plan method fails = record {
+  fails = calls_of (method_number method) fails;
+  calls = 0;
+  faults = 0;
+}
 
 abbrev pub first_plans : List FailAt → Plans
 first_plans fails =
-    record { set_up = first_plan method.SetUp fails; advance = first_plan method.Advance fails; read_some = first_plan method.ReadSome fails; write_some = first_plan method.WriteSome fails }
+    record {
+      set_up = first_plan method.SetUp fails;
+      advance = first_plan method.Advance fails;
+      read_some = first_plan method.ReadSome fails;
+      write_some = first_plan method.WriteSome fails;
+    }
 
 -- how many calls have failed
 abbrev pub fault_count : Plans → ℕ
-fault_count plans = plans.set_up.faults + plans.advance.faults + plans.read_some.faults + plans.write_some.faults
+fault_count plans =
+    plans.set_up.faults + plans.advance.faults + plans.read_some.faults + plans.write_some.faults
 
 -- the next call is to fail
 abbrev pub IsNamed : Plan → Type 0

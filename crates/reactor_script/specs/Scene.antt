@@ -27,7 +27,12 @@ outside_over table pipes =
 
 abbrev pub plans_of : FailPlans → Plans
 plans_of plans =
-    record { set_up = plans.set_up; advance = plans.advance; read_some = plans.read_some; write_some = plans.write_some }
+    record {
+      set_up = plans.set_up;
+      advance = plans.advance;
+      read_some = plans.read_some;
+      write_some = plans.write_some;
+    }
 
 -- no world was set up
 abbrev pub idle_outside : Outside

@@ -30,9 +30,12 @@ fn plan_of(alloc: Global, method: Method, fails: &[FailAt]) -> Result<FailPlan, 
 impl FailPlans {
     pub(crate) fn make(alloc: Global, fails: &[FailAt]) -> Result<FailPlans, NoMemory>
         ensures set_up { IfOk result (λ plans. plans.set_up ≡ first_plan Method.SetUp fails.now) }
-        ensures advance { IfOk result (λ plans. plans.advance ≡ first_plan Method.Advance fails.now) }
-        ensures read_some { IfOk result (λ plans. plans.read_some ≡ first_plan Method.ReadSome fails.now) }
-        ensures write_some { IfOk result (λ plans. plans.write_some ≡ first_plan Method.WriteSome fails.now) }
+        ensures advance { IfOk result
+            (λ plans. plans.advance ≡ first_plan Method.Advance fails.now) }
+        ensures read_some { IfOk result
+            (λ plans. plans.read_some ≡ first_plan Method.ReadSome fails.now) }
+        ensures write_some { IfOk result
+            (λ plans. plans.write_some ≡ first_plan Method.WriteSome fails.now) }
     {
         Ok(FailPlans {
             set_up: plan_of(alloc, Method::SetUp, fails)?,
@@ -47,7 +50,8 @@ impl FailPlans {
 pub(crate) fn strikes(plan: &mut FailPlan) -> bool
     ensures named { IsTrue result ↔ IsNamed plan.old }
     ensures later { plan.old.faults ≤ plan.new.faults }
-    ensures counted { MatchBool result (plan.new ≡ plan_failed plan.old) (plan.new ≡ plan_called plan.old) }
+    ensures counted { MatchBool result (plan.new ≡ plan_failed plan.old)
+        (plan.new ≡ plan_called plan.old) }
 {
     let fails = plan.next_fails();
     if fails {

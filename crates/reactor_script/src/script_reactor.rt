@@ -16,11 +16,12 @@ use reactor_trait::Reactor;
 use std::alloc::Global;
 use std::marker::Model;
 
-/// A reactor in memory that plays a world, tells every byte, and fails exactly at the calls that it was made to fail at.
+/// A reactor in memory that plays a world, tells every byte, and fails exactly at the calls that it
+/// was made to fail at.
 ///
-/// A `set_up` takes all memory: a copy of the lines, which it sorts once, and for each stream as much as all lines bring to
-/// it. An `advance` costs what the lines of its time bring, a read or a write what it moves, and a `close` nothing that
-/// grows.
+/// A `set_up` takes all memory: a copy of the lines, which it sorts once, and for each stream as
+/// much as all lines bring to it. An `advance` costs what the lines of its time bring, a read or a
+/// write what it moves, and a `close` nothing that grows.
 #[derive(Drop)]
 pub struct ScriptReactor {
     stage: Stage,
@@ -32,7 +33,8 @@ impl Model for ScriptReactor {
 
     ghost Value = { Scripted };
 
-    ghost view = { λ r. record { state = r.stage.state; outside = r.stage.outside; plans = plans_of r.plans } };
+    ghost view = { λ r.
+        record { state = r.stage.state; outside = r.stage.outside; plans = plans_of r.plans } };
 }
 
 impl ScriptReactor {
@@ -46,7 +48,8 @@ impl ScriptReactor {
         })
     }
 
-    /// All bytes that were sent on a stream since the latest `set_up`, also once it is closed. Constant cost.
+    /// All bytes that were sent on a stream since the latest `set_up`, also once it is closed.
+    /// Constant cost.
     pub fn sent(&self, stream: StreamNo) -> &[u8]
         requires { stream < stream_count self.now.state }
         ensures { result.now ≡ (stream_at self.now.outside.streams stream).sent }
@@ -69,10 +72,12 @@ impl Reactor for ScriptReactor {
         ensures refused { OnErr result (self.new.state ≡ state_refused self.old.state) }
         ensures told_ready { OnOk result (self.new.outside ≡ outside_ready world.now) }
         ensures told_refused { OnErr result (self.new.outside ≡ self.old.outside) }
-        ensures counts { CountsSetupFaults result (fault_count self.old.plans) (fault_count self.new.plans) }
+        ensures counts { CountsSetupFaults result (fault_count self.old.plans)
+            (fault_count self.new.plans) }
         ensures later { fault_count self.old.plans ≤ fault_count self.new.plans }
         ensures named { IsErrOf result SetupFault.Failed ↔ IsNamed self.old.plans.set_up }
-        ensures counted { self.new.plans ≡ record self.old.plans { set_up = plan_after_setup result self.old.plans.set_up } }
+        ensures counted { self.new.plans
+            ≡ record self.old.plans { set_up = plan_after_setup result self.old.plans.set_up } }
     {
         self.stage.take_down();
         if strikes(&mut self.plans.set_up) {
@@ -93,13 +98,16 @@ impl Reactor for ScriptReactor {
         requires ahead { ForSome limit (λ time. self.old.state.now < time) }
         ensures answer { IfOk result (λ point. point ≡ next_point limit self.old.state.times) }
         ensures moves { IfOk result (λ point. self.new.state ≡ state_at point self.old.state) }
-        ensures told_moves { IfOk result (λ point. self.new.outside ≡ outside_at point self.old.outside) }
+        ensures told_moves { IfOk result
+            (λ point. self.new.outside ≡ outside_at point self.old.outside) }
         ensures failed { OnErr result (self.new.state ≡ self.old.state) }
         ensures told_failed { OnErr result (self.new.outside ≡ self.old.outside) }
-        ensures counts { CountsFaults result (fault_count self.old.plans) (fault_count self.new.plans) }
+        ensures counts { CountsFaults result (fault_count self.old.plans)
+            (fault_count self.new.plans) }
         ensures later { fault_count self.old.plans ≤ fault_count self.new.plans }
         ensures named { IsErr result ↔ IsNamed self.old.plans.advance }
-        ensures counted { self.new.plans ≡ record self.old.plans { advance = plan_after result self.old.plans.advance } }
+        ensures counted { self.new.plans
+            ≡ record self.old.plans { advance = plan_after result self.old.plans.advance } }
     {
         if strikes(&mut self.plans.advance) {
             return Err(Failed);
@@ -115,18 +123,23 @@ impl Reactor for ScriptReactor {
         requires room { 0 < length buf.old }
         ensures keeps { self.new.state ≡ self.old.state }
         ensures within { IfOk result (IsMoveWithin (length buf.old)) }
-        ensures after_last { IsTrue self.old.state.last → IfOk result (λ moved. moved ≢ Moved.NotYet) }
-        ensures told_answer { IfOk result
-            (λ moved. moved ≡ read_answer (length buf.old) (stream_at self.old.outside.streams stream)) }
-        ensures told_bytes { IfOk result
-            (λ moved. take (moved_count moved) buf.new ≡ take (moved_count moved) (stream_at self.old.outside.streams stream).arrived) }
-        ensures told_gives { IfOk result
-            (λ moved. self.new.outside ≡ with_stream stream (after_reading (moved_count moved)) self.old.outside) }
+        ensures after_last { IsTrue self.old.state.last →
+            IfOk result (λ moved. moved ≢ Moved.NotYet) }
+        ensures told_answer { IfOk result (λ moved.
+            moved ≡ read_answer (length buf.old) (stream_at self.old.outside.streams stream)) }
+        ensures told_bytes { IfOk result (λ moved.
+            take (moved_count moved) buf.new
+            ≡ take (moved_count moved) (stream_at self.old.outside.streams stream).arrived) }
+        ensures told_gives { IfOk result (λ moved.
+            self.new.outside
+            ≡ with_stream stream (after_reading (moved_count moved)) self.old.outside) }
         ensures told_failed { OnErr result (self.new.outside ≡ self.old.outside) }
-        ensures counts { CountsFaults result (fault_count self.old.plans) (fault_count self.new.plans) }
+        ensures counts { CountsFaults result (fault_count self.old.plans)
+            (fault_count self.new.plans) }
         ensures later { fault_count self.old.plans ≤ fault_count self.new.plans }
         ensures named { IsErr result ↔ IsNamed self.old.plans.read_some }
-        ensures counted { self.new.plans ≡ record self.old.plans { read_some = plan_after result self.old.plans.read_some } }
+        ensures counted { self.new.plans
+            ≡ record self.old.plans { read_some = plan_after result self.old.plans.read_some } }
     {
         if strikes(&mut self.plans.read_some) {
             return Err(Failed);
@@ -142,16 +155,21 @@ impl Reactor for ScriptReactor {
         requires some { 0 < length bytes.now }
         ensures keeps { self.new.state ≡ self.old.state }
         ensures within { IfOk result (IsMoveWithin (length bytes.now)) }
-        ensures after_last { IsTrue self.old.state.last → IfOk result (λ moved. moved ≢ Moved.NotYet) }
+        ensures after_last { IsTrue self.old.state.last →
+            IfOk result (λ moved. moved ≢ Moved.NotYet) }
         ensures told_answer { IfOk result
             (λ moved. moved ≡ write_answer bytes.now (stream_at self.old.outside.streams stream)) }
-        ensures told_takes { IfOk result
-            (λ moved. self.new.outside ≡ with_stream stream (after_writing (Some_of bytes.now) 0 (moved_count moved)) self.old.outside) }
+        ensures told_takes { IfOk result (λ moved.
+            self.new.outside
+            ≡ with_stream stream (after_writing (Some_of bytes.now) 0 (moved_count moved))
+            self.old.outside) }
         ensures told_failed { OnErr result (self.new.outside ≡ self.old.outside) }
-        ensures counts { CountsFaults result (fault_count self.old.plans) (fault_count self.new.plans) }
+        ensures counts { CountsFaults result (fault_count self.old.plans)
+            (fault_count self.new.plans) }
         ensures later { fault_count self.old.plans ≤ fault_count self.new.plans }
         ensures named { IsErr result ↔ IsNamed self.old.plans.write_some }
-        ensures counted { self.new.plans ≡ record self.old.plans { write_some = plan_after result self.old.plans.write_some } }
+        ensures counted { self.new.plans
+            ≡ record self.old.plans { write_some = plan_after result self.old.plans.write_some } }
     {
         if strikes(&mut self.plans.write_some) {
             return Err(Failed);

@@ -28,7 +28,11 @@ impl Model for Stage {
 
     ghost Value = { Scene };
 
-    ghost view = { λ s. record { state = state_over s.up s.closed.items s.last s.schedule; outside = outside_over s.schedule s.pipes.items } };
+    ghost view = { λ s.
+        record {
+          state = state_over s.up s.closed.items s.last s.schedule;
+          outside = outside_over s.schedule s.pipes.items;
+        } };
 
     ghost invariant = { λ s. IsPlaying s.last s.closed.items s.schedule s.pipes.items };
 }
@@ -102,11 +106,14 @@ impl Stage {
     pub(crate) fn read_some(&mut self, stream: StreamNo, buf: &mut [u8]) -> Moved
         requires known { stream < stream_count self.old.state }
         requires room { 0 < length buf.old }
-        ensures answer { result ≡ read_answer (length buf.old) (stream_at self.old.outside.streams stream) }
+        ensures answer { result
+            ≡ read_answer (length buf.old) (stream_at self.old.outside.streams stream) }
         ensures after_last { IsTrue self.old.state.last → result ≢ Moved.NotYet }
-        ensures bytes { take (moved_count result) buf.new ≡ take (moved_count result) (stream_at self.old.outside.streams stream).arrived }
+        ensures bytes { take (moved_count result) buf.new
+            ≡ take (moved_count result) (stream_at self.old.outside.streams stream).arrived }
         ensures state { self.new.state ≡ self.old.state }
-        ensures outside { self.new.outside ≡ with_stream stream (after_reading (moved_count result)) self.old.outside }
+        ensures outside { self.new.outside
+            ≡ with_stream stream (after_reading (moved_count result)) self.old.outside }
     {
         let pipe = &mut self.pipes[stream as usize];
         pipe.read(buf)
@@ -115,10 +122,13 @@ impl Stage {
     pub(crate) fn write_some(&mut self, stream: StreamNo, bytes: &[u8]) -> Moved
         requires known { stream < stream_count self.old.state }
         requires some { 0 < length bytes.now }
-        ensures answer { result ≡ write_answer bytes.now (stream_at self.old.outside.streams stream) }
+        ensures answer { result
+            ≡ write_answer bytes.now (stream_at self.old.outside.streams stream) }
         ensures after_last { IsTrue self.old.state.last → result ≢ Moved.NotYet }
         ensures state { self.new.state ≡ self.old.state }
-        ensures outside { self.new.outside ≡ with_stream stream (after_writing (Some_of bytes.now) 0 (moved_count result)) self.old.outside }
+        ensures outside { self.new.outside
+            ≡ with_stream stream (after_writing (Some_of bytes.now) 0 (moved_count result))
+            self.old.outside }
     {
         let pipe = &mut self.pipes[stream as usize];
         pipe.write(bytes)

@@ -208,7 +208,8 @@ fn play(
     Ok(seen)
 }
 
-/// A feed is cut over three times; what was there at a mark is read before it, and what comes after a mark is not.
+/// A feed is cut over three times; what was there at a mark is read before it, and what comes after
+/// a mark is not.
 #[test]
 fn bytes_are_given_before_marks(rt: HostRuntime) -> Result<(), NoMemory> {
     let cues = [
@@ -259,7 +260,8 @@ fn bytes_are_given_before_marks(rt: HostRuntime) -> Result<(), NoMemory> {
     Ok(())
 }
 
-/// Room comes before and after a reset; what was sent stays through the close, and the bytes there go.
+/// Room comes before and after a reset; what was sent stays through the close, and the bytes there
+/// go.
 #[test]
 fn room_is_used_before_marks(rt: HostRuntime) -> Result<(), NoMemory> {
     let cues = [

@@ -1,5 +1,6 @@
--- What a reactor tells, and what its calls answer. Bytes and room are used up before a mark is seen (Asio reference,
--- `async_read_some`, `async_write_some`); scripted time and its last point are this project's.
+-- What a reactor tells, and what its calls answer. Bytes and room are used up before a mark is seen
+-- (Asio reference, `async_read_some`, `async_write_some`); scripted time and its last point are
+-- this project's.
 use Rattle.std.specs.Prelude.{ℕ, ◌≡◌, ◌≤◌, ⊤, nat_lt, Result, Ok, Err, List, [], Bool, true, false, length, filter, replicate}
 use Rattle.std.specs.List.{slice_index_or, slice_set}
 use Rattle.asio_types.specs.declared.outside.Moved.{Moved}
@@ -48,12 +49,24 @@ idle_state = record { up = false; now = 0; times = []; closed = []; last = false
 -- what a reactor tells whose time is that of a timetable
 abbrev pub state_over : Bool → List Bool → Bool → Timetable → ReactorState
 state_over up closed last table =
-    record { up = up; now = table.time; times = times_after table.time table.lines; closed = closed; last = last }
+    record {
+      up = up;
+      now = table.time;
+      times = times_after table.time table.lines;
+      closed = closed;
+      last = last;
+    }
 
 -- set up: time is 0, and nothing is closed
 abbrev pub state_ready : World → ReactorState
 state_ready world =
-    record { up = true; now = 0; times = times_after 0 world.lines; closed = replicate world.streams false; last = false }
+    record {
+      up = true;
+      now = 0;
+      times = times_after 0 world.lines;
+      closed = replicate world.streams false;
+      last = false;
+    }
 
 abbrev pub outside_ready : World → Outside
 outside_ready world = record { streams = first_streams world; lines = lines_after 0 world.lines }
@@ -71,7 +84,10 @@ state_at point.Last state = record state { last = true }
 -- the lines of the time are performed; at the last point each side without a mark gets its own
 abbrev pub outside_at : Point → Outside → Outside
 outside_at (point.Time time) outside =
-    record { streams = perform_lines (lines_at time outside.lines) outside.streams; lines = lines_after time outside.lines }
+    record {
+      streams = perform_lines (lines_at time outside.lines) outside.streams;
+      lines = lines_after time outside.lines;
+    }
 outside_at point.Last outside = record outside { streams = streams_at_last outside.streams }
 
 -- at least one byte of so many, or none
@@ -81,7 +97,8 @@ IsMoveWithin limit moved.End = ⊤
 IsMoveWithin limit moved.NotYet = ⊤
 IsMoveWithin limit moved.Reset = ⊤
 
--- what a stream answers on which nothing arrives and nothing is taken: its end, once no time point is left
+-- what a stream answers on which nothing arrives and nothing is taken: its end, once no time point
+-- is left
 abbrev pub silence : Bool → Moved
 silence true = moved.End
 silence false = moved.NotYet

@@ -8,8 +8,9 @@ use std::alloc::Global;
 use std::marker::Model;
 use stream_rules::Schedule;
 
-/// Scripted time over streams on which nothing arrives and nothing is taken. It tells no bytes and never fails. Sessions
-/// that use no stream need no more, and tests of what stands on a reactor find here one that tells no bytes.
+/// Scripted time over streams on which nothing arrives and nothing is taken. It tells no bytes and
+/// never fails. Sessions that use no stream need no more, and tests of what stands on a reactor
+/// find here one that tells no bytes.
 #[derive(Drop)]
 pub struct SilentReactor {
     up: bool,

@@ -8,7 +8,8 @@ use asio_types::{Line, Lines, Moved, Point, SetupFault, What, World};
 use std::alloc::Global;
 use std::test::Fail;
 
-/// One session over any reactor: its first stream is read, written and closed, and time moves twice.
+/// One session over any reactor: its first stream is read, written and closed, and time moves
+/// twice.
 fn session<X: Reactor>(
     reactor: &mut X,
     alloc: Global,

@@ -61,7 +61,8 @@ begins = record {
 }
   where
     never : (pass : ℕ) (v : Hand) → get_elem? (first_hand ∷ []) pass ≡ some v → v.parts ≡ 0 → ⊥
-    never zero v at none = let e : all_parts ≡ v.parts = ap (λ (z : Hand). z.parts) (some-injective first_hand v at) in omega arith
+    never zero v at none =
+        let e : all_parts ≡ v.parts = ap (λ (z : Hand). z.parts) (some-injective first_hand v at) in omega arith
     never (suc pass) v at none = some-ne-none v (sym at)
 
 -- what every pass knows of what it took
@@ -78,36 +79,50 @@ puts n pass v x part items views room r at =
     let w = hand v.parts (v.hinted ++ hint number x ∷ []) v.taken in
     let here = set_here views pass w (at_below views pass v at) in
     let hinted : AreNumbered hinted_hints (r.out ++ (items ++ x ∷ [])) (set views pass w) =
-    subst (λ lanes. AreNumbered hinted_hints lanes (set views pass w)) (append_assoc r.out items (x ∷ [])) (grows hinted_hints (r.out ++ items) views pass v w x at refl r.hinted) in (
+    subst (λ lanes. AreNumbered hinted_hints lanes (set views pass w)) (append_assoc r.out items (x ∷ []))
+    (grows hinted_hints (r.out ++ items) views pass v w x at refl r.hinted) in (
       w,
       record {
         parts = let s = sum_after (λ (z : Hand). z.parts) views pass v w at in let p = r.parts in omega arith;
-        even = λ lane. let c : ℕ = cond (eqb lane x) 1 0 in let a = sum_after (hinted_of lane) views pass v w at in
+        even = λ lane.
+            let c : ℕ = cond (eqb lane x) 1 0 in
+            let a = sum_after (hinted_of lane) views pass v w at in
             let b = sum_after (taken_of lane) views pass v w at in
-            let e = times_hinted_push lane v.hinted (hint number x) in let f = times_push lane items x in
+            let e = times_hinted_push lane v.hinted (hint number x) in
+            let f = times_push lane items x in
             let o = r.even lane in
-            let h : ℕ = sum_by (hinted_of lane) views in let t : ℕ = sum_by (taken_of lane) views in
+            let h : ℕ = sum_by (hinted_of lane) views in
+            let t : ℕ = sum_by (taken_of lane) views in
             let h' : ℕ = sum_by (hinted_of lane) (set views pass w) in
             let t' : ℕ = sum_by (taken_of lane) (set views pass w) in
-            let vh : ℕ = times_hinted lane v.hinted in let vt : ℕ = times_hinted lane v.taken in
+            let vh : ℕ = times_hinted lane v.hinted in
+            let vt : ℕ = times_hinted lane v.taken in
             let k : ℕ = times lane items in
-            let a' : h' + vh ≡ h + times_hinted lane w.hinted = a in let b' : t' + vt ≡ t + vt = b in
-            let o' : h ≡ t + k = o in
-            let goal : h' ≡ t' + times lane (items ++ x ∷ []) = omega arith in goal;
+            let a' : h' + vh ≡ h + times_hinted lane w.hinted = a in
+            let b' : t' + vt ≡ t + vt = b in
+            let o' : h ≡ t + k = o in let goal : h' ≡ t' + times lane (items ++ x ∷ []) = omega arith in goal;
         out = r.out;
         hinted = hinted;
         taken = stays taken_hints r.out views pass v w at refl r.taken;
         idle = idle_set views pass w (λ none. absurd (omega arith)) r.idle;
       },
-      ((number, after_all (r.out ++ items) v.hinted (r.hinted.at_place pass v at), refl), apart hinted_hints (r.out ++ (items ++ x ∷ [])) (set views pass w) pass w refl here hinted),
+      (
+        (number, after_all (r.out ++ items) v.hinted (r.hinted.at_place pass v at), refl),
+        apart hinted_hints (r.out ++ (items ++ x ∷ [])) (set views pass w) pass w refl here hinted,
+      ),
     )
 
 pub learns : (pass : ℕ) (v : Hand) → Learns HintRule pass v (accounts v)
 learns pass v items views r at = (
   knows items views pass v r at,
   λ all lane. let o = r.even lane in
-      let h = whole (hinted_of lane) views pass v refl (λ i u there none. ap (times_hinted lane) (r.idle i u there none).0) at (r.parts ∙ sym all) in
-      let t = whole (taken_of lane) views pass v refl (λ i u there none. ap (times_hinted lane) (r.idle i u there none).1) at (r.parts ∙ sym all) in omega arith,
+      let h =
+      whole (hinted_of lane) views pass v refl (λ i u there none. ap (times_hinted lane) (r.idle i u there none).0) at
+      (r.parts ∙ sym all) in
+      let t =
+      whole (taken_of lane) views pass v refl (λ i u there none. ap (times_hinted lane) (r.idle i u there none).1) at
+      (r.parts ∙ sym all) in
+      omega arith,
 )
 
 pub pops : (pass : ℕ) (v : Hand) → 0 < v.parts → Pops HintRule pass v (takes v)
@@ -129,7 +144,9 @@ pops pass v part x items views r at =
           let o' : h ≡ t + times lane (x ∷ items) = o in
           let goal : h' ≡ t' + k = omega arith in goal;
       out = r.out ++ x ∷ [];
-      hinted = subst (λ lanes. AreNumbered hinted_hints lanes (set views pass w)) (sym (append_assoc r.out (x ∷ []) items)) (stays hinted_hints (r.out ++ x ∷ items) views pass v w at refl r.hinted);
+      hinted =
+          subst (λ lanes. AreNumbered hinted_hints lanes (set views pass w)) (sym (append_assoc r.out (x ∷ []) items))
+          (stays hinted_hints (r.out ++ x ∷ items) views pass v w at refl r.hinted);
       taken = grows taken_hints r.out views pass v w x at refl r.taken;
       idle = idle_set views pass w (λ none. absurd (omega arith)) r.idle;
     } in (
@@ -152,27 +169,43 @@ forks pass v more items views r at = let left = cut_left v in let right = cut_ri
       let p = sum_by_push (hinted_of lane) (set views pass left) right in
       let q = sum_by_push (taken_of lane) (set views pass left) right in let o = r.even lane in omega arith;
   out = r.out;
-  hinted = newcomer hinted_hints (r.out ++ items) (set views pass left) right refl (stays hinted_hints (r.out ++ items) views pass v left at refl r.hinted);
-  taken = newcomer taken_hints r.out (set views pass left) right refl (stays taken_hints r.out views pass v left at refl r.taken);
+  hinted =
+      newcomer hinted_hints (r.out ++ items) (set views pass left) right refl
+      (stays hinted_hints (r.out ++ items) views pass v left at refl r.hinted);
+  taken =
+      newcomer taken_hints r.out (set views pass left) right refl (stays taken_hints r.out views pass v left at refl r.taken);
   idle = λ i u there. ⊎_elim (λ old. idle_set views pass left (λ none. absurd (omega arith)) r.idle i u old)
-      (λ (e : right ≡ u). subst (λ (z : Hand). z.parts ≡ 0 → (z.hinted ≡ []) × (z.taken ≡ [])) e (λ none. absurd (omega arith))) (at_snoc (set views pass left) right u i there);
+      (λ (e : right ≡ u).
+      subst (λ (z : Hand). z.parts ≡ 0 → (z.hinted ≡ []) × (z.taken ≡ [])) e (λ none. absurd (omega arith)))
+      (at_snoc (set views pass left) right u i there);
 }
 
 pub merges : (pass : ℕ) (v : Hand) (other : ℕ) (w : Hand) → 0 < v.parts
     → Merges HintRule pass v other w (gathered v w) spent
 merges pass v other w part items views r at apart there = let both = gathered v w in
     let inner = set views pass both in
-    let theirs : get_elem? views other ≡ some w = ⊎_elim (λ (p : (other ≡ pass) × (both ≡ w)). absurd (apart p.0)) (λ p. p.1) (at_set views pass other both w there) in record {
-      parts = let s = sum_after (λ (z : Hand). z.parts) views pass v both at in
+    let theirs : get_elem? views other ≡ some w =
+    ⊎_elim (λ (p : (other ≡ pass) × (both ≡ w)). absurd (apart p.0)) (λ p. p.1)
+    (at_set views pass other both w there) in
+    record {
+      parts =
+          let s = sum_after (λ (z : Hand). z.parts) views pass v both at in
           let t = sum_after (λ (z : Hand). z.parts) inner other w spent there in let p = r.parts in omega arith;
-      even = λ lane. let a = sum_after (hinted_of lane) views pass v both at in
+      even = λ lane.
+          let a = sum_after (hinted_of lane) views pass v both at in
           let b = sum_after (taken_of lane) views pass v both at in
           let c = sum_after (hinted_of lane) inner other w spent there in
           let d = sum_after (taken_of lane) inner other w spent there in
           let e = times_hinted-append lane v.hinted w.hinted in
           let f = times_hinted-append lane v.taken w.taken in let o = r.even lane in omega arith;
       out = r.out;
-      hinted = joins hinted_hints (r.out ++ items) views pass v both other w at there (r.hinted.at_place other w theirs) refl refl r.hinted;
-      taken = joins taken_hints r.out views pass v both other w at there (r.taken.at_place other w theirs) refl refl r.taken;
-      idle = idle_set inner other spent (λ _. (refl, refl)) (idle_set views pass both (λ none. absurd (omega arith)) r.idle);
+      hinted =
+          joins hinted_hints (r.out ++ items) views pass v both other w at there (r.hinted.at_place other w theirs) refl
+          refl r.hinted;
+      taken =
+          joins taken_hints r.out views pass v both other w at there (r.taken.at_place other w theirs) refl refl
+          r.taken;
+      idle =
+          idle_set inner other spent (λ _. (refl, refl))
+          (idle_set views pass both (λ none. absurd (omega arith)) r.idle);
     }

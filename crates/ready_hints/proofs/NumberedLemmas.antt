@@ -57,18 +57,22 @@ pub stays : (hints_of : Hand → List Hint) (lanes : List ℕ) (views : List Han
 stays hints_of lanes views pass v w at same r = record {
   once = λ number below. let e = even number in let o = r.once number below in omega arith;
   no_more = λ number above. let e = even number in let o = r.no_more number above in omega arith;
-  at_place = at_place_set hints_of lanes views pass w (All-same (IsAt lanes) (hints_of w) (hints_of v) same (r.at_place pass v at)) r.at_place;
+  at_place =
+      at_place_set hints_of lanes views pass w
+      (All-same (IsAt lanes) (hints_of w) (hints_of v) same (r.at_place pass v at)) r.at_place;
 }
   where
     even : (number : ℕ)
-        → sum_by (λ z. numbered number (hints_of z)) (set views pass w) ≡ sum_by (λ z. numbered number (hints_of z)) views
+        → sum_by (λ z. numbered number (hints_of z)) (set views pass w)
+        ≡ sum_by (λ z. numbered number (hints_of z)) views
     even number = let s = sum_after (λ (z : Hand). numbered number (hints_of z)) views pass v w at in
         let e : numbered number (hints_of w) ≡ numbered number (hints_of v) = ap (numbered number) same in omega arith
 
 -- a pass has the next hint
 pub grows : (hints_of : Hand → List Hint) (lanes : List ℕ) (views : List Hand) (pass : ℕ) (v w : Hand) (lane : ℕ)
     → get_elem? views pass ≡ some v
-    → hints_of w ≡ hints_of v ++ hint (length lanes) lane ∷ [] → AreNumbered hints_of lanes views → AreNumbered hints_of (lanes ++ lane ∷ []) (set views pass w)
+    → hints_of w ≡ hints_of v ++ hint (length lanes) lane ∷ [] → AreNumbered hints_of lanes views
+    → AreNumbered hints_of (lanes ++ lane ∷ []) (set views pass w)
 grows hints_of lanes views pass v w lane at more r = record {
   once = λ number below. let l = length_push lanes lane in let m = one_more number in ⊎_elim
       (λ (here : (eqb number (length lanes) ≡ true) × (number ≡ length lanes)).
@@ -97,7 +101,9 @@ grows hints_of lanes views pass v w lane at more r = record {
         ap (numbered number) more ∙ numbered_push number (hints_of v) (hint (length lanes) lane) in omega arith
 
     further : (u : Hand) → All (IsAt lanes) (hints_of u) → All (IsAt (lanes ++ lane ∷ [])) (hints_of u)
-    further u all = All-weaker (IsAt lanes) (IsAt (lanes ++ lane ∷ [])) (λ h e. at_longer lanes (lane ∷ []) h.number h.lane e) (hints_of u) all
+    further u all =
+        All-weaker (IsAt lanes) (IsAt (lanes ++ lane ∷ [])) (λ h e. at_longer lanes (lane ∷ []) h.number h.lane e)
+        (hints_of u) all
 
 -- a new pass has no hint
 pub newcomer : (hints_of : Hand → List Hint) (lanes : List ℕ) (views : List Hand) (new : Hand) → hints_of new ≡ []
@@ -107,26 +113,32 @@ newcomer hints_of lanes views new none r = record {
   once = λ number below. let e = even number in let o = r.once number below in omega arith;
   no_more = λ number above. let e = even number in let o = r.no_more number above in omega arith;
   at_place = λ i u there. ⊎_elim (r.at_place i u)
-      (λ (e : new ≡ u). subst (λ (z : Hand). All (IsAt lanes) (hints_of z)) e (All-same (IsAt lanes) (hints_of new) [] none (All-nil (IsAt lanes))))
+      (λ (e : new ≡ u).
+      subst (λ (z : Hand). All (IsAt lanes) (hints_of z)) e
+      (All-same (IsAt lanes) (hints_of new) [] none (All-nil (IsAt lanes))))
       (at_snoc views new u i there);
 }
   where
     even : (number : ℕ)
-        → sum_by (λ z. numbered number (hints_of z)) (views ++ new ∷ []) ≡ sum_by (λ z. numbered number (hints_of z)) views
+        → sum_by (λ z. numbered number (hints_of z)) (views ++ new ∷ [])
+        ≡ sum_by (λ z. numbered number (hints_of z)) views
     even number = let p = sum_by_push (λ (z : Hand). numbered number (hints_of z)) views new in
         let e : numbered number (hints_of new) ≡ 0 = ap (numbered number) none in omega arith
 
 -- a pass takes in the hints of another, which has none then
-pub joins : (hints_of : Hand → List Hint) (lanes : List ℕ) (views : List Hand) (pass : ℕ) (v both : Hand) (other : ℕ) (w : Hand)
-    → get_elem? views pass ≡ some v → get_elem? (set views pass both) other ≡ some w → All (IsAt lanes) (hints_of w)
-    → hints_of both ≡ hints_of v ++ hints_of w → hints_of spent ≡ []
-    → AreNumbered hints_of lanes views → AreNumbered hints_of lanes (set (set views pass both) other spent)
+pub joins : (hints_of : Hand → List Hint) (lanes : List ℕ) (views : List Hand) (pass : ℕ) (v both : Hand) (other : ℕ)
+    (w : Hand) → get_elem? views pass ≡ some v → get_elem? (set views pass both) other ≡ some w →
+    All (IsAt lanes) (hints_of w) → hints_of both ≡ hints_of v ++ hints_of w → hints_of spent ≡ [] →
+    AreNumbered hints_of lanes views → AreNumbered hints_of lanes (set (set views pass both) other spent)
 joins hints_of lanes views pass v both other w at there theirs sum none r = record {
   once = λ number below. let e = even number in let o = r.once number below in omega arith;
   no_more = λ number above. let e = even number in let o = r.no_more number above in omega arith;
-  at_place = at_place_set hints_of lanes (set views pass both) other spent (All-same (IsAt lanes) (hints_of spent) [] none (All-nil (IsAt lanes)))
+  at_place =
+      at_place_set hints_of lanes (set views pass both) other spent
+      (All-same (IsAt lanes) (hints_of spent) [] none (All-nil (IsAt lanes)))
       (at_place_set hints_of lanes views pass both
-      (All-same (IsAt lanes) (hints_of both) (hints_of v ++ hints_of w) sum (All-append (IsAt lanes) (hints_of v) (hints_of w) (r.at_place pass v at) theirs))
+      (All-same (IsAt lanes) (hints_of both) (hints_of v ++ hints_of w) sum
+      (All-append (IsAt lanes) (hints_of v) (hints_of w) (r.at_place pass v at) theirs))
       r.at_place);
 }
   where
@@ -140,7 +152,8 @@ joins hints_of lanes views pass v both other w at there theirs sum none r = reco
 
 -- the next hint comes after all that there are
 pub after_all : (lanes : List ℕ) (hints : List Hint) → All (IsAt lanes) hints → IsAfter (length lanes) hints
-after_all lanes hints all = All-weaker (IsAt lanes) (λ h. h.number < length lanes) (λ h e. at_below lanes h.number h.lane e) hints all
+after_all lanes hints all =
+    All-weaker (IsAt lanes) (λ h. h.number < length lanes) (λ h e. at_below lanes h.number h.lane e) hints all
 
 -- no pass has two hints of one number
 pub apart : (hints_of : Hand → List Hint) (lanes : List ℕ) (views : List Hand) (pass : ℕ) (v : Hand)
@@ -155,7 +168,8 @@ apart hints_of lanes views pass v none at r number =
 pub as_hinted : (out items : List ℕ) (hinted taken : List Hint) → All (IsAt (out ++ items)) hinted
     → All (IsAt out) taken → AreAsHinted hinted taken
 as_hinted out items hinted taken a b made came in_hinted in_taken same =
-    let h : get_elem? (out ++ items) made.number ≡ some made.lane = All-contains (IsAt (out ++ items)) hinted made a in_hinted in
+    let h : get_elem? (out ++ items) made.number ≡ some made.lane =
+    All-contains (IsAt (out ++ items)) hinted made a in_hinted in
     let t : get_elem? out came.number ≡ some came.lane = All-contains (IsAt out) taken came b in_taken in
     let t' : get_elem? (out ++ items) came.number ≡ some came.lane = at_longer out items came.number came.lane t in
     some-injective made.lane came.lane (sym h ∙ (ap (get_elem? (out ++ items)) same ∙ t'))

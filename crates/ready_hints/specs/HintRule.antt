@@ -31,7 +31,8 @@ IsAfter number hints = All (λ hint. hint.number < number) hints
 -- a hint that was both hinted and taken here has the lane with which it was hinted
 abbrev pub AreAsHinted : List Hint → List Hint → Type 0
 AreAsHinted hinted taken =
-    (made came : Hint) → Contains hinted made → Contains taken came → made.number ≡ came.number → made.lane ≡ came.lane
+    (made came : Hint) → Contains hinted made → Contains taken came → made.number ≡ came.number →
+    made.lane ≡ came.lane
 
 -- the parts of the right to know the whole
 abbrev pub all_parts : ℕ
@@ -55,10 +56,14 @@ cut_right v = hand 1 [] []
 abbrev pub gathered : Hand → Hand → Hand
 gathered v w = hand (v.parts + w.parts) (v.hinted ++ w.hinted) (v.taken ++ w.taken)
 
--- the hints of all passes have the numbers from 0 on, each once, and the hint of a number has the lane at that place
-pub record AreNumbered (hints_of : Hand → List Hint) (lanes : List ℕ) (views : List Hand) : Type 0 where
-  pub once : (number : ℕ) → number < length lanes → sum_by (λ v. numbered number (hints_of v)) views ≡ 1
-  pub no_more : (number : ℕ) → length lanes ≤ number → sum_by (λ v. numbered number (hints_of v)) views ≡ 0
+-- the hints of all passes have the numbers from 0 on, each once, and the hint of a number has the
+-- lane at that place
+pub record AreNumbered (hints_of : Hand → List Hint) (lanes : List ℕ) (views : List Hand)
+    : Type 0 where
+  pub once : (number : ℕ) → number < length lanes →
+      sum_by (λ v. numbered number (hints_of v)) views ≡ 1
+  pub no_more : (number : ℕ) → length lanes ≤ number →
+      sum_by (λ v. numbered number (hints_of v)) views ≡ 0
   pub at_place : (pass : ℕ) (v : Hand) → get_elem? views pass ≡ some v
       → All (λ hint. get_elem? lanes hint.number ≡ some hint.lane) (hints_of v)
 
@@ -68,17 +73,21 @@ pub record HintRule (items : List ℕ) (views : List Hand) : Type 0 where
   -- each lane was hinted as often as it was taken and is still there
   pub even : (lane : ℕ) → sum_by (λ v. times_hinted lane v.hinted) views
       ≡ sum_by (λ v. times_hinted lane v.taken) views + times lane items
-  -- the lanes that came out, the oldest first; what was hinted are these and those that are still there
+  -- the lanes that came out, the oldest first; what was hinted are these and those that are still
+  -- there
   pub out : List ℕ
   pub hinted : AreNumbered (λ v. v.hinted) (out ++ items) views
   pub taken : AreNumbered (λ v. v.taken) out views
   -- a pass with no part has hinted and taken nothing
-  pub idle : (pass : ℕ) (v : Hand) → get_elem? views pass ≡ some v → v.parts ≡ 0 → (v.hinted ≡ []) × (v.taken ≡ [])
+  pub idle : (pass : ℕ) (v : Hand) → get_elem? views pass ≡ some v → v.parts ≡ 0 →
+      (v.hinted ≡ []) × (v.taken ≡ [])
 
--- a pass that hints learns that its hint has a later number than all others of its own, and no two have the same
+-- a pass that hints learns that its hint has a later number than all others of its own, and no two
+-- have the same
 abbrev pub hints : Hand → ℕ → Hand → Type 0
 hints v lane w =
-    ((number : ℕ) × IsAfter number v.hinted × (w ≡ hand v.parts (v.hinted ++ hint number lane ∷ []) v.taken))
+    ((number : ℕ) × IsAfter number v.hinted
+    × (w ≡ hand v.parts (v.hinted ++ hint number lane ∷ []) v.taken))
     × AreApart w.hinted
 
 -- what every pass knows of what it took
@@ -88,7 +97,8 @@ TookOnce v = AreApart v.taken × AreAsHinted v.hinted v.taken
 -- who has all parts learns that no lane was taken more often than hinted
 abbrev pub takes : Hand → ℕ → Hand → Type 0
 takes v lane w =
-    ((number : ℕ) × IsAfter number v.taken × (w ≡ hand v.parts v.hinted (v.taken ++ hint number lane ∷ [])))
+    ((number : ℕ) × IsAfter number v.taken
+    × (w ≡ hand v.parts v.hinted (v.taken ++ hint number lane ∷ [])))
     × TookOnce w
     × (v.parts ≡ all_parts → (other : ℕ) → times_hinted other w.taken ≤ times_hinted other w.hinted)
 
@@ -96,7 +106,8 @@ takes v lane w =
 abbrev pub accounts : Hand → List ℕ → Type 0
 accounts v items =
     TookOnce v
-    × (v.parts ≡ all_parts → (lane : ℕ) → times_hinted lane v.hinted ≡ times_hinted lane v.taken + times lane items)
+    × (v.parts ≡ all_parts → (lane : ℕ) →
+    times_hinted lane v.hinted ≡ times_hinted lane v.taken + times lane items)
 
 -- while a pass that hasn't all parts keeps still, the others may take all that is left
 abbrev pub OthersMayTakeAll : Type 0

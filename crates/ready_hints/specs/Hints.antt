@@ -6,7 +6,8 @@ use Rattle.ready_hints.specs.declared.rule.Hint.{Hint}
 use Rattle.ready_hints.specs.declared.pass.HintPass.TheInside.{Inside}
 use Rattle.ready_hints.specs.HintRule as rule
 
--- which queue it is of, its parts of the right to know the whole, and what it hinted and took, in order
+-- which queue it is of, its parts of the right to know the whole, and what it hinted and took, in
+-- order
 pub record Passed : Type 0 where
   pub queue : SegId Global
   pub parts : ℕ
@@ -55,27 +56,36 @@ IsHinted pass = (lane : ℕ) → rule.times_hinted lane pass.taken ≤ rule.time
 
 -- each lane was taken as often as it was hinted
 abbrev pub IsPassSettled : Passed → Type 0
-IsPassSettled pass = (lane : ℕ) → rule.times_hinted lane pass.taken ≡ rule.times_hinted lane pass.hinted
+IsPassSettled pass =
+    (lane : ℕ) → rule.times_hinted lane pass.taken ≡ rule.times_hinted lane pass.hinted
 
 -- what was hinted is what was taken and so many hints more
 abbrev pub HasLeft : ℕ → Passed → Type 0
 HasLeft count pass =
     (left : List ℕ) × (length left ≡ count)
-    × ((lane : ℕ) → rule.times_hinted lane pass.hinted ≡ rule.times_hinted lane pass.taken + rule.times lane left)
+    × ((lane : ℕ) →
+    rule.times_hinted lane pass.hinted
+    ≡ rule.times_hinted lane pass.taken + rule.times lane left)
 
 -- it made one hint more, at this lane, with a later number than those that it made before
 abbrev pub Hinted : ℕ → Passed → Passed → Type 0
 Hinted lane old new =
-    (number : ℕ) × rule.IsAfter number old.hinted × (new ≡ record old { hinted = old.hinted ++ rule.hint number lane ∷ [] })
+    (number : ℕ) × rule.IsAfter number old.hinted
+    × (new ≡ record old { hinted = old.hinted ++ rule.hint number lane ∷ [] })
 
 -- it took one hint more, of this lane, with a later number than those that it took before
 abbrev pub Took : ℕ → Passed → Passed → Type 0
 Took lane old new =
-    (number : ℕ) × rule.IsAfter number old.taken × (new ≡ record old { taken = old.taken ++ rule.hint number lane ∷ [] })
+    (number : ℕ) × rule.IsAfter number old.taken
+    × (new ≡ record old { taken = old.taken ++ rule.hint number lane ∷ [] })
 
 abbrev pub with_parts_of : Passed → Passed → Passed
 with_parts_of other pass =
-    record pass { parts = pass.parts + other.parts; hinted = pass.hinted ++ other.hinted; taken = pass.taken ++ other.taken }
+    record pass {
+      parts = pass.parts + other.parts;
+      hinted = pass.hinted ++ other.hinted;
+      taken = pass.taken ++ other.taken;
+    }
 
 -- a pass that has hinted and taken nothing
 abbrev pub first_pass : SegId Global → ℕ → Passed
@@ -86,4 +96,5 @@ one_part queue = first_pass queue 1
 
 -- so many passes, which have all parts: the first has what the others leave
 abbrev pub passes_of : SegId Global → ℕ → List Passed
-passes_of queue count = first_pass queue (rule.all_parts - (count - 1)) ∷ replicate (count - 1) (one_part queue)
+passes_of queue count =
+    first_pass queue (rule.all_parts - (count - 1)) ∷ replicate (count - 1) (one_part queue)

@@ -31,8 +31,9 @@ impl Drop for ReadyHints {
 }
 
 impl ReadyHints {
-    /// Adds a hint at a lane, behind all others: hints are numbered from 0 in the order in which they are made. It may take
-    /// memory; where that is refused nothing is hinted. It may wait for another worker's call.
+    /// Adds a hint at a lane, behind all others: hints are numbered from 0 in the order in which
+    /// they are made. It may take memory; where that is refused nothing is hinted. It may wait for
+    /// another worker's call.
     pub fn hint<Rt: Wait>(&self, rt: &Rt, pass: &mut HintPass, lane: u32) -> Result<(), NoMemory>
         requires { IsPassOf self.now pass.old }
         ensures hinted { IfOk result (λ _. Hinted lane pass.old pass.new) }
@@ -46,9 +47,10 @@ impl ReadyHints {
         }
     }
 
-    /// Takes the oldest hint. A pass takes no hint twice, also where it gathered others, and each later than the one before.
-    /// `None` is the queue's own answer that it found none; a clause says more of it only for the pass that has all parts.
-    /// It may wait for another worker's call. Takes no memory.
+    /// Takes the oldest hint. A pass takes no hint twice, also where it gathered others, and each
+    /// later than the one before. `None` is the queue's own answer that it found none; a clause
+    /// says more of it only for the pass that has all parts. It may wait for another worker's call.
+    /// Takes no memory.
     pub fn next_hint<Rt: Wait>(&self, rt: &Rt, pass: &mut HintPass) -> Option<u32>
         requires { IsPassOf self.now pass.old }
         ensures taken { IfSome result (λ lane. Took lane pass.old pass.new) }
@@ -72,7 +74,8 @@ impl ReadyHints {
         self.queue.absorb::<Gathers>(&mut pass.pass, other);
     }
 
-    /// Ends the hints, by the pass that has all parts, and answers how many are left. Each of the others came out once.
+    /// Ends the hints, by the pass that has all parts, and answers how many are left. Each of the
+    /// others came out once.
     pub fn close<Rt: Wait>(self, rt: &Rt, pass: HintPass) -> usize
         requires pass { IsPassOf self pass }
         requires all { HasAllParts pass }

@@ -9,8 +9,8 @@ use asio_types::NoMemory;
 use std::alloc::Global;
 
 impl ReadyHints {
-    /// No hints yet, and so many passes. Takes memory for the queue and the list of passes; `hint` takes more of this
-    /// allocator's.
+    /// No hints yet, and so many passes. Takes memory for the queue and the list of passes; `hint`
+    /// takes more of this allocator's.
     pub fn make(alloc: Global, passes: u32) -> Result<(ReadyHints, HintPasses), NoMemory>
         requires { 0 < passes }
         ensures { IfOk result (λ made. made.1 ≡ passes_of made.0 passes) }

@@ -3,8 +3,9 @@ ghost use Rattle.std.specs.Prelude.{◌≡◌, [], ◌∷◌, MatchOption};
 use crate::rule::LinePass;
 use std::marker::Model;
 
-/// A place at the hints, with which a worker hints and takes. Contracts see the hints that it made and those that it took,
-/// in order, each with its number and its lane, and how many parts it has of the right to know the whole.
+/// A place at the hints, with which a worker hints and takes. Contracts see the hints that it made
+/// and those that it took, in order, each with its number and its lane, and how many parts it has
+/// of the right to know the whole.
 #[derive(Drop)]
 pub struct HintPass {
     pub(crate) pass: LinePass,
@@ -20,7 +21,8 @@ impl Model for HintPass {
     ghost invariant = { IsPassReady };
 }
 
-/// The passes that were made with the hints and not given out yet. Contracts see the list of them, the next first.
+/// The passes that were made with the hints and not given out yet. Contracts see the list of them,
+/// the next first.
 #[derive(Drop)]
 pub struct HintPasses {
     // the next one last
@@ -37,9 +39,11 @@ impl Model for HintPasses {
 }
 
 impl HintPasses {
-    /// The next pass, in the order in which they were made; `None` exactly where all were given. Takes no memory.
+    /// The next pass, in the order in which they were made; `None` exactly where all were given.
+    /// Takes no memory.
     pub fn next(&mut self) -> Option<HintPass>
-        ensures { MatchOption result ((self.old ≡ []) × (self.new ≡ [])) (λ pass. self.old ≡ pass ∷ self.new) }
+        ensures { MatchOption result ((self.old ≡ []) × (self.new ≡ []))
+            (λ pass. self.old ≡ pass ∷ self.new) }
     {
         self.left.pop()
     }

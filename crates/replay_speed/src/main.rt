@@ -1,6 +1,7 @@
-//! The program that measures replays: `replay_speed ACTS TIMES` writes a script with so many acts, on strands, timers,
-//! slots and streams, makes one legal history of it, replays that so many times, and prints how many events were replayed;
-//! `time` tells how long it took. It is proved to be safe. Nothing stands on it.
+//! The program that measures replays: `replay_speed ACTS TIMES` writes a script with so many acts,
+//! on strands, timers, slots and streams, makes one legal history of it, replays that so many
+//! times, and prints how many events were replayed; `time` tells how long it took. It is proved to
+//! be safe. Nothing stands on it.
 #![tactic(auto)]
 
 mod driver;

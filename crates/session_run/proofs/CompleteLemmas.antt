@@ -20,7 +20,8 @@ use Rattle.text_io.proofs.CountLemmas.{stood}
 use Rattle.text_io.proofs.TextLemmas.{text_of}
 
 -- a text of a script isn't refused
-not_refused : (bytes : List ℕ) (script : ScriptModel) (rule line token : ℕ) → IsScript bytes script → HasFault bytes rule line token → ⊥
+not_refused : (bytes : List ℕ) (script : ScriptModel) (rule line token : ℕ) → IsScript bytes script →
+    HasFault bytes rule line token → ⊥
 not_refused bytes script rule line token is first = no_fault bytes script first.0 is first.1
 
 -- neither out nor the reactor failed
@@ -60,7 +61,8 @@ not_broken : {H : Type 0} (marks : H → Marks) (given : Given H) → Undisturbe
 not_broken marks given calm worked running = failed worked.form running worked.work
   where
     failed : (form : Form) → IsRunning form
-        → Does form marks worked.script given.reactor given.rack_before given.rack_after ShowsFault (Writes given.out) → ⊥
+        → Does form marks worked.script given.reactor given.rack_before given.rack_after ShowsFault (Writes given.out)
+        → ⊥
     failed forms.Run running work = stood given.reactor.sent.faults_before given.reactor.sent.faults_after calm.reactor
         (work.1.faults work.2)
     failed (forms.Gen start size) running work = stood given.reactor.sent.faults_before given.reactor.sent.faults_after
@@ -79,7 +81,8 @@ gen_reads_nothing words start size gen (form, named, reading) = apart form named
 -- where nothing fails, a script that is read is run to its end or its upgrade is written
 pub complete : {H : Type 0} (marks : H → Marks) (given : Given H) (answer : Status) (note : List ℕ)
     → Says marks given answer note → (bytes : List ℕ) (script : ScriptModel)
-    → Reads given.words → Told given bytes script → Undisturbed given → (answer ≡ status.Done) ⊎ (answer ≡ status.NoMemory)
+    → Reads given.words → Told given bytes script → Undisturbed given
+    → (answer ≡ status.Done) ⊎ (answer ≡ status.NoMemory)
 complete marks given status.Done note said bytes script reads told calm = inl refl
 complete marks given status.NoMemory note said bytes script reads told calm = inr refl
 complete marks given status.Usage note said bytes script reads told calm = absurd (said.0 (reads.0, reads.1))
@@ -87,8 +90,10 @@ complete marks given status.Refused note said bytes script reads told calm =
     absurd (told_not_refused marks given note said bytes script told)
 complete marks given status.ReadFault note said bytes script reads told calm =
     absurd (stood given.source.faults_before given.source.faults_after told.read said.1)
-complete marks given status.WriteFault note said bytes script reads told calm = absurd (not_cut_off marks given calm said.0)
-complete marks given status.ReactorFault note said bytes script reads told calm = absurd (not_broken marks given calm said.0 said.1)
+complete marks given status.WriteFault note said bytes script reads told calm =
+    absurd (not_cut_off marks given calm said.0)
+complete marks given status.ReactorFault note said bytes script reads told calm =
+    absurd (not_broken marks given calm said.0 said.1)
 
 -- and so is one that two numbers make
 pub complete_gen : {H : Type 0} (marks : H → Marks) (given : Given H) (answer : Status) (note : List ℕ)
@@ -99,6 +104,8 @@ complete_gen marks given status.NoMemory note said start size gen calm = inr ref
 complete_gen marks given status.Usage note said start size gen calm = absurd (said.0 (forms.Gen start size, gen))
 complete_gen marks given status.Refused note (rule, line, token, words, why, same) start size gen calm =
     absurd (gen_reads_nothing given.words start size gen words)
-complete_gen marks given status.ReadFault note said start size gen calm = absurd (gen_reads_nothing given.words start size gen said.0)
+complete_gen marks given status.ReadFault note said start size gen calm =
+    absurd (gen_reads_nothing given.words start size gen said.0)
 complete_gen marks given status.WriteFault note said start size gen calm = absurd (not_cut_off marks given calm said.0)
-complete_gen marks given status.ReactorFault note said start size gen calm = absurd (not_broken marks given calm said.0 said.1)
+complete_gen marks given status.ReactorFault note said start size gen calm =
+    absurd (not_broken marks given calm said.0 said.1)

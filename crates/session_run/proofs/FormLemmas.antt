@@ -2,10 +2,11 @@
 use Rattle.std.proofs.Common.{◌≡◌, ℕ, ◌≤◌, ◌<◌, List, [], ◌∷◌, length, map, arith, get_or, sym}
 
 -- a list of three elements is seen as these three
-pub map-three : {X : Type 0} (f : X → List ℕ) (xs : List X) (x y z : X) → 3 ≤ length xs → length xs < 4 → x ≡ get_or xs 0 x
-    → y ≡ get_or xs 1 y → z ≡ get_or xs 2 z → map f xs ≡ f x ∷ f y ∷ f z ∷ []
+pub map-three : {X : Type 0} (f : X → List ℕ) (xs : List X) (x y z : X) → 3 ≤ length xs → length xs < 4 →
+    x ≡ get_or xs 0 x → y ≡ get_or xs 1 y → z ≡ get_or xs 2 z → map f xs ≡ f x ∷ f y ∷ f z ∷ []
 map-three f [] x y z some few first second third = absurd (omega (arith, some))
 map-three f (a ∷ []) x y z some few first second third = absurd (omega (arith, some))
 map-three f (a ∷ b ∷ []) x y z some few first second third = absurd (omega (arith, some))
-map-three f (a ∷ b ∷ c ∷ []) x y z some few first second third = λ i. f (sym first i) ∷ f (sym second i) ∷ f (sym third i) ∷ []
+map-three f (a ∷ b ∷ c ∷ []) x y z some few first second third = λ i.
+    f (sym first i) ∷ f (sym second i) ∷ f (sym third i) ∷ []
 map-three f (a ∷ b ∷ c ∷ d ∷ rest) x y z some few first second third = absurd (omega (arith, few))

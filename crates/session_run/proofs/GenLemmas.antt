@@ -95,7 +95,8 @@ plain_done marks given note said law start size words = by_form said.0.form said
     by_form (forms.Gen first second) named origin (events, run, quiet, wrote) =
         let same = same_numbers first second start size given.words named words in
         let legal = subst (λ script. IsLegal script (tells given.reactor) events) origin run.legal in
-        let plain : summary_of first second events ≡ plain_summary first second (rack_run_mark marks given.rack_before) =
+        let plain : summary_of first second events
+        ≡ plain_summary first second (rack_run_mark marks given.rack_before) =
         law first second (named.1.2) (tells given.reactor) events legal
         (none_passes is_fault event.Fault only_fault events quiet)
         (none_passes is_outside_stop (event.Stop None) only_outside events run.unstopped)
@@ -107,7 +108,8 @@ plain_done marks given note said law start size words = by_form said.0.form said
 
 -- the same of an answer that is status 0
 pub plain_of : {H : Type 0} (marks : H → Marks) (given : Given H) (answer : Status) (note : List ℕ)
-    → Says marks given answer note → answer ≡ status.Done → SummariesArePlain → (start size : ℕ) → IsGen given.words start size
+    → Says marks given answer note → answer ≡ status.Done → SummariesArePlain → (start size : ℕ)
+    → IsGen given.words start size
     → Writes given.out (plain_summary start size (rack_run_mark marks given.rack_before))
 plain_of marks given answer note said done law start size words =
     plain_done marks given note (subst (λ one. Says marks given one note) done said) law start size words

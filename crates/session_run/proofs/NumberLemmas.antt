@@ -5,13 +5,15 @@ use Rattle.std.specs.Str.Parse.{ParsesUnsigned}
 use Rattle.std.proofs.lemmas.Fmt.{parse-decimal}
 
 -- a word that is the decimal text of a number is read as that number
-read : {E : Type 0} (word : List ℕ) (r : Result ℕ E) (n : ℕ) → ParsesUnsigned 32 10 word r → n < 2 ^ 32 → word ≡ decimal n → r ≡ Ok n
+read : {E : Type 0} (word : List ℕ) (r : Result ℕ E) (n : ℕ) → ParsesUnsigned 32 10 word r → n < 2 ^ 32 →
+    word ≡ decimal n → r ≡ Ok n
 read word r n parses fits text = parse-decimal 32 n word r fits (omega (arith, fits)) text parses
 
 -- what isn't read is the text of no number
 pub unread : {E : Type 0} (word : List ℕ) (r : Result ℕ E) (e : E) → ParsesUnsigned 32 10 word r → r ≡ Err e → (n : ℕ)
     → n < 2 ^ 32 → (None ≡ Some n) ↔ (word ≡ decimal n)
-unread word r e parses is n fits = (λ none. cc none, λ text. let ok : r ≡ Ok n = read word r n parses fits text in absurd (cc (ok, is)))
+unread word r e parses is n fits =
+    (λ none. cc none, λ text. let ok : r ≡ Ok n = read word r n parses fits text in absurd (cc (ok, is)))
 
 -- what is read and is written so is the text of that number alone
 pub read_back : {E : Type 0} (word : List ℕ) (r : Result ℕ E) (m : ℕ) → ParsesUnsigned 32 10 word r → r ≡ Ok m

@@ -19,7 +19,8 @@ op_within script n = within script.acts n
 
 -- a handler that is there has its two marks
 marks_of_some : {H : Type 0} (marks : H → Marks) (handler : Option H) → IsSome handler
-    → option_map marks handler ≡ Some (record { run = mark_by (λ m. m.run) marks handler; drop = mark_by (λ m. m.drop) marks handler })
+    → option_map marks handler
+    ≡ Some (record { run = mark_by (λ m. m.run) marks handler; drop = mark_by (λ m. m.drop) marks handler })
 marks_of_some marks None is = cc is
 marks_of_some marks (Some handler) is = refl
 
@@ -32,8 +33,10 @@ has_handler script rack whole long n is =
 
 -- each operation of a script has the marks that a whole rack names for its handler
 pub named_marks : {H : Type 0} (marks : H → Marks) (script : ScriptModel) (rack : Rack H) (run drop : ℕ → ℕ)
-    → run ≡ rack_run_mark marks rack → drop ≡ drop_mark marks rack → IsWholeRack rack → length script.acts ≤ length (handlers_in rack)
-    → (n : ℕ) → is_op script n ≡ true → option_map marks (handler_at rack n) ≡ Some (record { run = run n; drop = drop n })
+    → run ≡ rack_run_mark marks rack → drop ≡ drop_mark marks rack → IsWholeRack rack
+    → length script.acts ≤ length (handlers_in rack)
+    → (n : ℕ) → is_op script n ≡ true
+    → option_map marks (handler_at rack n) ≡ Some (record { run = run n; drop = drop n })
 named_marks marks script rack run drop run_is drop_is whole long n is =
     marks_of_some marks (handler_at rack n) (has_handler script rack whole long n is)
     ∙ (λ i. Some (record { run = sym run_is i n; drop = sym drop_is i n }))
@@ -44,5 +47,6 @@ pub all_taken : {H : Type 0} (old made new : Rack H) → length (handlers_in mad
 all_taken old made new same taken = record { size = taken.size ∙ same; none = taken.none }
 
 -- the same, where the rack was left as it was
-pub all_taken_kept : {H : Type 0} (old made new : Rack H) → handlers_in made ≡ handlers_in old → AllTaken made new → AllTaken old new
+pub all_taken_kept : {H : Type 0} (old made new : Rack H) → handlers_in made ≡ handlers_in old → AllTaken made new →
+    AllTaken old new
 all_taken_kept old made new same taken = all_taken old made new (ap length same) taken

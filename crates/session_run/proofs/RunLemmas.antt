@@ -59,11 +59,11 @@ seen_of first outside before after state =
     }
 
 -- it is a run with these names
-run_by_names : {H : Type 0} (marks : H → Marks) (script : ScriptModel) (told : Bool) (run drop : ℕ → ℕ) (before after : ℕ)
-    (events : List Event) (state : ReactorState) (first outside : Option Outside) (old new : Rack H)
-    → run ≡ rack_run_mark marks old → drop ≡ drop_mark marks old → AllTaken old new → told ≡ is_some (option_map sent_outside outside)
-    → Finished script told run drop before after events state outside
-    → IsRunOf marks script (seen_of first outside before after state) old new events
+run_by_names : {H : Type 0} (marks : H → Marks) (script : ScriptModel) (told : Bool) (run drop : ℕ → ℕ)
+    (before after : ℕ) (events : List Event) (state : ReactorState) (first outside : Option Outside)
+    (old new : Rack H) → run ≡ rack_run_mark marks old → drop ≡ drop_mark marks old → AllTaken old new →
+    told ≡ is_some (option_map sent_outside outside) → Finished script told run drop before after events state outside →
+    IsRunOf marks script (seen_of first outside before after state) old new events
 run_by_names marks script told run drop before after events state first outside old new run_is drop_is spent told_is f =
     record {
       legal = subst (λ told. IsLegal script told events) told_is f.legal;
@@ -84,7 +84,8 @@ pub run_of : {H : Type 0} (marks : H → Marks) (named script : ScriptModel) (to
     → named ≡ script → faults ≡ before → run ≡ rack_run_mark marks old → drop ≡ drop_mark marks old → AllTaken old new
     → Finished named told run drop faults after events state outside
     → IsRunOf marks script (seen_of first outside before after state) old new events
-run_of marks named script told run drop faults before after events state first outside old new named_is faults_is run_is drop_is spent f =
+run_of marks named script told run drop faults before after events state first outside old new named_is faults_is run_is
+    drop_is spent f =
     subst (λ script. IsRunOf marks script (seen_of first outside before after state) old new events) named_is
     (subst (λ before. IsRunOf marks named (seen_of first outside before after state) old new events) faults_is
     (run_by_names marks named told run drop faults after events state first outside old new run_is drop_is spent

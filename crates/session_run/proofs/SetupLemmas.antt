@@ -19,7 +19,11 @@ fault_is_legal : (script : ScriptModel) (told : Bool) → IsLegal script told (e
 fault_is_legal script told =
     record {
       legal = (record { once = refl; when = inl refl }, tt);
-      whole = record { over = inr refl; spent = All-replicate (λ act. is_unspent act.phase ≡ false) (length script.acts) fresh refl };
+      whole =
+          record {
+            over = inr refl;
+            spent = All-replicate (λ act. is_unspent act.phase ≡ false) (length script.acts) fresh refl;
+          };
     }
 
 not_stopped : Contains (event.Fault ∷ []) (event.Stop None) → ⊥

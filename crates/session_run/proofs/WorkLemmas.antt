@@ -43,9 +43,10 @@ does (forms.Gen start size) marks script reactor old new Q P running runs = runs
 does forms.Upgrade marks script reactor old new Q P running runs = absurd running
 
 -- a run whose text was written, as far as that went, is what was done with its script
-pub ran : {H : Type 0} (form : Form) (marks : H → Marks) (script : ScriptModel) (reactor : SeenReactor) (old new : Rack H)
-    (events : List Event) (out : Seen (List ℕ)) (o : Outcome) → IsRunning form
-    → IsRunOf marks script reactor old new events → WroteHistory form events out o → Works form marks script reactor old new out o
+pub ran : {H : Type 0} (form : Form) (marks : H → Marks) (script : ScriptModel) (reactor : SeenReactor)
+    (old new : Rack H) (events : List Event) (out : Seen (List ℕ)) (o : Outcome) → IsRunning form →
+    IsRunOf marks script reactor old new events → WroteHistory form events out o →
+    Works form marks script reactor old new out o
 ran form marks script reactor old new events out outcome.Done running run wrote =
     does form marks script reactor old new _ _ running (events, run, wrote.0, wrote.1)
 ran form marks script reactor old new events out outcome.WriteFault running run wrote =
@@ -55,8 +56,8 @@ ran form marks script reactor old new events out outcome.ReactorFault running ru
 ran form marks script reactor old new events out outcome.NoMemory running run wrote = absurd wrote
 
 -- a note was written, or a first part of it where that failed
-pub noted : (result : Result (Unit {0}) Failed) (notes : Seen (List ℕ)) (note : List ℕ) → OnOk result (Writes notes note)
-    → OnErr result (ExtendsByPart notes.told_before note notes.told_after)
-    → CountsFaults result notes.faults_before notes.faults_after → Writes notes note ⊎ WritesPart notes note
+pub noted : (result : Result (Unit {0}) Failed) (notes : Seen (List ℕ)) (note : List ℕ) →
+    OnOk result (Writes notes note) → OnErr result (ExtendsByPart notes.told_before note notes.told_after) →
+    CountsFaults result notes.faults_before notes.faults_after → Writes notes note ⊎ WritesPart notes note
 noted (Ok done) notes note whole part counts = inl whole
 noted (Err failed) notes note whole part counts = inr (part, counts)

@@ -25,26 +25,33 @@ use Rattle.session_run.specs.declared.status.Status.TheVariants as status
 use Rattle.text_io.specs.Seen.{Seen, Writes, WritesPart}
 use Rattle.text_io.specs.Text.{ReadsText}
 
--- what is to be written of a run: the trace of its history, or the summary of that of a session that two numbers made
+-- what is to be written of a run: the trace of its history, or the summary of that of a session
+-- that two numbers made
 abbrev pub text_of_run : Form → List Event → List ℕ
 text_of_run (forms.Gen start size) events = summary_of start size events
 text_of_run _ events = trace_of events
 
 -- the script was run, Q holds of the events, and P of what is to be written
-abbrev pub RunsScript : {H : Type 0} → Form → (H → Marks) → ScriptModel → SeenReactor → Rack H → Rack H → (List Event → Type 0)
-    → (List ℕ → Type 0) → Type 0
+abbrev pub RunsScript : {H : Type 0} → Form → (H → Marks) → ScriptModel → SeenReactor → Rack H →
+    Rack H → (List Event → Type 0) → (List ℕ → Type 0) → Type 0
 RunsScript form marks script reactor old new Q P =
-    (events : List Event) × IsRunOf marks script reactor old new events × Q events × P (text_of_run form events)
+    (events : List Event) × IsRunOf marks script reactor old new events × Q events
+    × P (text_of_run form events)
 
--- What is done with a script: it is run; or the text of its upgrade is to be written, and every handler stays.
-abbrev pub Does : {H : Type 0} → Form → (H → Marks) → ScriptModel → SeenReactor → Rack H → Rack H → (List Event → Type 0)
-    → (List ℕ → Type 0) → Type 0
-Does forms.Upgrade marks script reactor old new Q P = (handlers_in new ≡ handlers_in old) × P (upgraded_text script)
-Does forms.Run marks script reactor old new Q P = RunsScript forms.Run marks script reactor old new Q P
-Does (forms.Gen start size) marks script reactor old new Q P = RunsScript (forms.Gen start size) marks script reactor old new Q P
+-- What is done with a script: it is run; or the text of its upgrade is to be written, and every
+-- handler stays.
+abbrev pub Does : {H : Type 0} → Form → (H → Marks) → ScriptModel → SeenReactor → Rack H → Rack H →
+    (List Event → Type 0) → (List ℕ → Type 0) → Type 0
+Does forms.Upgrade marks script reactor old new Q P =
+    (handlers_in new ≡ handlers_in old) × P (upgraded_text script)
+Does forms.Run marks script reactor old new Q P =
+    RunsScript forms.Run marks script reactor old new Q P
+Does (forms.Gen start size) marks script reactor old new Q P =
+    RunsScript (forms.Gen start size) marks script reactor old new Q P
 
 -- a script was had, and was worked on
-pub record Worked {H : Type 0} (marks : H → Marks) (given : Given H) (Q : List Event → Type 0) (P : List ℕ → Type 0) : Type 0 where
+pub record Worked {H : Type 0} (marks : H → Marks) (given : Given H) (Q : List Event → Type 0)
+    (P : List ℕ → Type 0) : Type 0 where
   pub form : Form
   pub words : IsForm given.words form
   pub script : ScriptModel
@@ -54,7 +61,8 @@ pub record Worked {H : Type 0} (marks : H → Marks) (given : Given H) (Q : List
 -- the fault of a text that is no script, by its rule, line and token: the first one
 abbrev pub HasFault : List ℕ → ℕ → ℕ → ℕ → Type 0
 HasFault text rule line token =
-    (refusal : Refusal) × (first_fault text ≡ Some refusal) × (rule ≡ number_of_rule refusal.rule) × (line ≡ refusal.line)
+    (refusal : Refusal) × (first_fault text ≡ Some refusal) × (rule ≡ number_of_rule refusal.rule)
+    × (line ≡ refusal.line)
     × (token ≡ refusal.token)
 
 -- what was read has this fault
@@ -65,21 +73,27 @@ pub record Refuses (source : Seen (List ℕ)) (rule line token : ℕ) : Type 0 w
 
 -- what each status says, and which note it leaves
 abbrev pub Says : {H : Type 0} → (H → Marks) → Given H → Status → List ℕ → Type 0
-Says marks given status.Done note = Worked marks given ShowsNoFault (Writes given.out) × (note ≡ note_of status.Done)
+Says marks given status.Done note =
+    Worked marks given ShowsNoFault (Writes given.out) × (note ≡ note_of status.Done)
 Says marks given status.Usage note = (HasForm given.words → ⊥) × (note ≡ note_of status.Usage)
 Says marks given status.Refused note =
     (rule : ℕ) × (line : ℕ) × (token : ℕ)
-    × Reads given.words × Refuses given.source rule line token × (note ≡ refused_note rule line token)
+    × Reads given.words × Refuses given.source rule line token
+    × (note ≡ refused_note rule line token)
 Says marks given status.ReadFault note =
-    Reads given.words × Rose given.source.faults_before given.source.faults_after × (note ≡ note_of status.ReadFault)
-Says marks given status.WriteFault note = Worked marks given (λ events. ⊤) (WritesPart given.out) × (note ≡ note_of status.WriteFault)
+    Reads given.words × Rose given.source.faults_before given.source.faults_after
+    × (note ≡ note_of status.ReadFault)
+Says marks given status.WriteFault note =
+    Worked marks given (λ events. ⊤) (WritesPart given.out) × (note ≡ note_of status.WriteFault)
 Says marks given status.ReactorFault note =
-    (worked : Worked marks given ShowsFault (Writes given.out)) × IsRunning worked.form × (note ≡ note_of status.ReactorFault)
+    (worked : Worked marks given ShowsFault (Writes given.out)) × IsRunning worked.form
+    × (note ≡ note_of status.ReactorFault)
 Says marks given status.NoMemory note = HasForm given.words × (note ≡ note_of status.NoMemory)
 
 -- what each status says; the notes got its note, or a first part where they failed
 abbrev pub Answers : {H : Type 0} → (H → Marks) → Given H → Seen (List ℕ) → Status → Type 0
-Answers marks given notes answer = (note : List ℕ) × Says marks given answer note × (Writes notes note ⊎ WritesPart notes note)
+Answers marks given notes answer =
+    (note : List ℕ) × Says marks given answer note × (Writes notes note ⊎ WritesPart notes note)
 
 -- the statuses with which nothing was run and nothing written
 abbrev pub LeavesAll : Status → Type 0
@@ -111,8 +125,8 @@ LeavesReactor status.WriteFault = ⊥
 LeavesReactor status.ReactorFault = ⊥
 LeavesReactor status.NoMemory = ⊥
 
--- The reactor's count of faults rises with status 5, doesn't fall with status 0, and may have risen with status 4, whose
--- history tells it. Every other status leaves it.
+-- The reactor's count of faults rises with status 5, doesn't fall with status 0, and may have risen
+-- with status 4, whose history tells it. Every other status leaves it.
 abbrev pub CountsReactor : Status → ℕ → ℕ → Type 0
 CountsReactor status.Done before after = before ≤ after
 CountsReactor status.WriteFault before after = ⊤

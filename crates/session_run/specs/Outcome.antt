@@ -24,9 +24,11 @@ ending_of outcome.NoMemory = ending.NoMemory
 
 -- what was written of a history
 abbrev pub WroteHistory : Form → List Event → Seen (List ℕ) → Outcome → Type 0
-WroteHistory form events out outcome.Done = ShowsNoFault events × Writes out (text_of_run form events)
+WroteHistory form events out outcome.Done =
+    ShowsNoFault events × Writes out (text_of_run form events)
 WroteHistory form events out outcome.WriteFault = WritesPart out (text_of_run form events)
-WroteHistory form events out outcome.ReactorFault = ShowsFault events × Writes out (text_of_run form events)
+WroteHistory form events out outcome.ReactorFault =
+    ShowsFault events × Writes out (text_of_run form events)
 WroteHistory form events out outcome.NoMemory = ⊥
 
 -- what was written of a text; a reactor has no part in it
@@ -37,9 +39,12 @@ WroteText text out outcome.ReactorFault = ⊥
 WroteText text out outcome.NoMemory = ⊤
 
 -- what was done with a script
-abbrev pub Works : {H : Type 0} → Form → (H → Marks) → ScriptModel → SeenReactor → Rack H → Rack H → Seen (List ℕ) → Outcome → Type 0
-Works form marks script reactor old new out outcome.Done = Does form marks script reactor old new ShowsNoFault (Writes out)
-Works form marks script reactor old new out outcome.WriteFault = Does form marks script reactor old new (λ events. ⊤) (WritesPart out)
+abbrev pub Works : {H : Type 0} → Form → (H → Marks) → ScriptModel → SeenReactor → Rack H → Rack H →
+    Seen (List ℕ) → Outcome → Type 0
+Works form marks script reactor old new out outcome.Done =
+    Does form marks script reactor old new ShowsNoFault (Writes out)
+Works form marks script reactor old new out outcome.WriteFault =
+    Does form marks script reactor old new (λ events. ⊤) (WritesPart out)
 Works form marks script reactor old new out outcome.ReactorFault =
     IsRunning form × Does form marks script reactor old new ShowsFault (Writes out)
 Works form marks script reactor old new out outcome.NoMemory = ⊤
@@ -49,7 +54,8 @@ abbrev pub CountsWriting : Outcome → ℕ → ℕ → Type 0
 CountsWriting outcome.WriteFault before after = Rose before after
 CountsWriting other before after = after ≡ before
 
--- the reactor's count of faults rises where it failed, may have risen where writing failed, and else doesn't fall
+-- the reactor's count of faults rises where it failed, may have risen where writing failed, and
+-- else doesn't fall
 abbrev pub CountsRunning : Outcome → ℕ → ℕ → Type 0
 CountsRunning outcome.Done before after = before ≤ after
 CountsRunning outcome.WriteFault before after = ⊤

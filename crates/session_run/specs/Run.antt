@@ -29,8 +29,8 @@ abbrev pub sent_of : State → List (List ℕ)
 sent_of s = map (λ stream. stream.sent) s.reactor.streams
 
 -- a run of the script with these events
-pub record IsRunOf {H : Type 0} (marks : H → Marks) (script : ScriptModel) (reactor : SeenReactor) (old new : Rack H)
-    (events : List Event) : Type 0 where
+pub record IsRunOf {H : Type 0} (marks : H → Marks) (script : ScriptModel) (reactor : SeenReactor)
+    (old new : Rack H) (events : List Event) : Type 0 where
   -- each event may come where it comes, and none is missing
   pub legal : IsLegal script (tells reactor) events
   -- the events show the marks that the handlers had
@@ -45,5 +45,8 @@ pub record IsRunOf {H : Type 0} (marks : H → Marks) (script : ScriptModel) (re
   pub set_up : (events ≡ event.Fault ∷ []) ↔ (reactor.up ≡ false)
   -- else the reactor's time is that of the last state
   pub now : reactor.up ≡ true → reactor.now ≡ now_of (state_of script (tells reactor) events)
-  -- without a fault the bytes that were sent are those of the last state, where the reactor tells them
-  pub sent : ShowsNoFault events → MatchOption reactor.sent.told_after ⊤ (λ sent. sent ≡ sent_of (state_of script (tells reactor) events))
+  -- without a fault the bytes that were sent are those of the last state, where the reactor tells
+  -- them
+  pub sent : ShowsNoFault events →
+      MatchOption reactor.sent.told_after ⊤
+      (λ sent. sent ≡ sent_of (state_of script (tells reactor) events))

@@ -29,9 +29,11 @@ pub(crate) enum NoScript {
 
 /// Reads the script that the source has.
 fn read_origin<S: Source>(alloc: Global, source: &mut S) -> Result<Script, NoScript>
-    ensures script { IfOk result (λ script. IsRead (seen_by S.left S.faults source.old source.new) script) }
+    ensures script { IfOk result
+        (λ script. IsRead (seen_by S.left S.faults source.old source.new) script) }
     ensures refused { (refused : Refused_of) → result ≡ Err (NoScript.Refused refused) →
-        Refuses (seen_by S.left S.faults source.old source.new) refused.rule refused.line refused.token }
+        Refuses (seen_by S.left S.faults source.old source.new) refused.rule refused.line
+        refused.token }
     ensures counts { CountsReading result (S.faults source.old) (S.faults source.new) }
     ensures taken { TakesSome most_read (S.left source.old) (S.left source.new) }
 {
@@ -51,7 +53,8 @@ fn read_origin<S: Source>(alloc: Global, source: &mut S) -> Result<Script, NoScr
     }
 }
 
-/// The script that the form is about: the one that its numbers make, or the one that the source has.
+/// The script that the form is about: the one that its numbers make, or the one that the source
+/// has.
 pub(crate) fn script_of<S: Source>(
     alloc: Global,
     form: Form,
@@ -60,8 +63,10 @@ pub(crate) fn script_of<S: Source>(
     requires numbers { HasNumbersWithin form }
     ensures origin { IfOk result
         (λ script. HasOrigin form (seen_by S.left S.faults source.old source.new) script) }
-    ensures refused { (refused : Refused_of) → result ≡ Err (NoScript.Refused refused) → IsReadingForm form ×
-        Refuses (seen_by S.left S.faults source.old source.new) refused.rule refused.line refused.token }
+    ensures refused { (refused : Refused_of) → result ≡ Err (NoScript.Refused refused) →
+        IsReadingForm form
+        × Refuses (seen_by S.left S.faults source.old source.new) refused.rule refused.line
+        refused.token }
     ensures failed { result ≡ Err NoScript.Failed → IsReadingForm form }
     ensures unread { (IsReadingForm form → ⊥) → source.new ≡ source.old }
     ensures counts { CountsReading result (S.faults source.old) (S.faults source.new) }

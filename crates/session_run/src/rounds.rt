@@ -13,7 +13,8 @@ const MOST_WORKERS: usize = 16;
 #[derive(Clone, Copy)]
 struct Worker;
 
-/// The workers of a round each call `run`, at the same time where threads can be had, and else one after another.
+/// The workers of a round each call `run`, at the same time where threads can be had, and else one
+/// after another.
 fn run_workers<
     'a,
     R: Threads + Wait + Sync,
@@ -25,7 +26,8 @@ fn run_workers<
     thread::for_each_mut(rt, workers, threads, &|_, _| context.run(rt));
 }
 
-/// One round: it restarts where the script says so, its workers run, and it closes. The caller runs what they left.
+/// One round: it restarts where the script says so, its workers run, and it closes. The caller runs
+/// what they left.
 fn run_round<
     'a,
     R: Threads + Wait + Sync,

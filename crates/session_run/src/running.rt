@@ -24,9 +24,9 @@ use std::marker::Brand;
 use std::sync::Wait;
 use std::thread::Threads;
 
-/// Runs a script on one io_context, from the set-up of its reactor to the destruction of every handler that never ran, and
-/// gives the history and the reactor. Takes all memory first: without it, the reactor alone comes back, and nothing was run.
-/// The names are those of this session.
+/// Runs a script on one io_context, from the set-up of its reactor to the destruction of every
+/// handler that never ran, and gives the history and the reactor. Takes all memory first: without
+/// it, the reactor alone comes back, and nothing was run. The names are those of this session.
 fn run_named<
     N: Session + Send + Sync,
     R: Threads + Wait + Sync,
@@ -43,7 +43,8 @@ fn run_named<
     requires count { length (handlers_in rack.old) ≡ most_acts }
     ensures ran { IfOk result (λ ran. IsRunOf H.marks script.now
         (seen_reactor X.state X.told X.faults reactor ran.1) rack.old rack.new ran.0.events) }
-    ensures later { IfOk result (λ ran. ShowsNoFault ran.0.events → X.faults reactor ≤ X.faults ran.1) }
+    ensures later { IfOk result
+        (λ ran. ShowsNoFault ran.0.events → X.faults reactor ≤ X.faults ran.1) }
     ensures kept { OnErr result (handlers_in rack.new ≡ handlers_in rack.old) }
     ensures counts { IfErr result (λ back. X.faults back ≡ X.faults reactor) }
 {

@@ -115,18 +115,21 @@ fn end<
     (outcome.ending(), reactor)
 }
 
-/// Does what the words say, which are those behind the program's name. `run` reads a script from the source and runs it on one
-/// io_context over the reactor, with the handlers of the rack: each round by as many threads as it names, as far as the
-/// system has them; and it writes its trace to out. `gen START SIZE` makes a script from two numbers, START to 65,536 and SIZE
-/// from 1 to 1,024, both without leading zeros; it reads nothing, runs the script so, and writes the summary of its history.
-/// `upgrade` reads a script and writes its text in version 2 to out, its words with one space between two, and one line feed;
-/// it runs nothing, and leaves rack and reactor as they were. The status says how far this went, with its cause; the notes get
-/// the status's note, and change no status. The reactor comes back.
+/// Does what the words say, which are those behind the program's name. `run` reads a script from
+/// the source and runs it on one io_context over the reactor, with the handlers of the rack: each
+/// round by as many threads as it names, as far as the system has them; and it writes its trace to
+/// out. `gen START SIZE` makes a script from two numbers, START to 65,536 and SIZE from 1 to 1,024,
+/// both without leading zeros; it reads nothing, runs the script so, and writes the summary of its
+/// history. `upgrade` reads a script and writes its text in version 2 to out, its words with one
+/// space between two, and one line feed; it runs nothing, and leaves rack and reactor as they were.
+/// The status says how far this went, with its cause; the notes get the status's note, and change
+/// no status. The reactor comes back.
 ///
-/// Reads at most `MOST_READ` bytes. With the statuses 1, 2, 3 and 6 nothing was run and nothing written; with 0, 4 and 5
-/// every handler was spent by `run` and `gen`, and none by `upgrade`. A reactor that can't be set up gives the history `fault`
-/// alone. Memory is taken for the text, the script, and the context with its history or the upgrade with its text, before the
-/// first handler runs and before anything is written. May wait, as a guard that is never released does.
+/// Reads at most `MOST_READ` bytes. With the statuses 1, 2, 3 and 6 nothing was run and nothing
+/// written; with 0, 4 and 5 every handler was spent by `run` and `gen`, and none by `upgrade`. A
+/// reactor that can't be set up gives the history `fault` alone. Memory is taken for the text, the
+/// script, and the context with its history or the upgrade with its text, before the first handler
+/// runs and before anything is written. May wait, as a guard that is never released does.
 pub fn asio_session<
     R: Threads + Wait + Sync,
     S: Source,
@@ -162,15 +165,16 @@ pub fn asio_session<
     ensures unasked { (start size : ℕ) →
         IsGen (map string_bytes words.now) start size → source.new ≡ source.old }
     ensures taken { TakesSome most_read (S.left source.old) (S.left source.new) }
-    // Status 3 comes exactly where the source's count of faults rose, status 4 exactly where out's did, and status 5 only where
-    // the reactor's did.
+    // Status 3 comes exactly where the source's count of faults rose, status 4 exactly where out's
+    // did, and status 5 only where the reactor's did.
     ensures reads { CountsReads result.0 (S.faults source.old) (S.faults source.new) }
     ensures writes { CountsWrites result.0 (K.faults out.old) (K.faults out.new) }
     ensures runs { CountsReactor result.0 (X.faults reactor) (X.faults result.1) }
-    // Where no count rose, a script is run to its end, or its upgrade is written, unless memory runs out.
-    ensures complete { (bytes : List ℕ) (script : ScriptModel) → Reads (map string_bytes words.now) →
-        S.left source.old ≡ Some bytes → IsScript bytes script →
-        Stood (S.faults source.old) (S.faults source.new) →
+    // Where no count rose, a script is run to its end, or its upgrade is written, unless memory
+    // runs out.
+    ensures complete { (bytes : List ℕ) (script : ScriptModel) →
+        Reads (map string_bytes words.now) → S.left source.old ≡ Some bytes →
+        IsScript bytes script → Stood (S.faults source.old) (S.faults source.new) →
         Stood (K.faults out.old) (K.faults out.new) → Stood (X.faults reactor) (X.faults result.1) →
         (result.0 ≡ status.Done) ⊎ (result.0 ≡ status.NoMemory) }
     ensures complete_gen { (start size : ℕ) → IsGen (map string_bytes words.now) start size →

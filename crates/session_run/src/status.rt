@@ -4,8 +4,8 @@ ghost use Rattle.session_run.specs.Status.{number_of, note_of};
 /// How a session ended: the program's exit status.
 #[derive(Clone, Copy, Debug, PartialEq, Eq)]
 pub enum Status {
-    /// The script was read to its end or made, and it was run to its end and the whole trace or summary was written, or the
-    /// whole text of its upgrade was written.
+    /// The script was read to its end or made, and it was run to its end and the whole trace or
+    /// summary was written, or the whole text of its upgrade was written.
     Done,
     /// The words are no form of the command.
     Usage,
@@ -13,7 +13,8 @@ pub enum Status {
     Refused,
     /// Reading failed.
     ReadFault,
-    /// Writing failed; the first part of the trace, the summary, or the text of the upgrade, was written.
+    /// Writing failed; the first part of the trace, the summary, or the text of the upgrade, was
+    /// written.
     WriteFault,
     /// The reactor failed; the trace or the summary was written whole and shows it.
     ReactorFault,
@@ -29,8 +30,8 @@ impl Status {
         self as u8
     }
 
-    /// The line that is written to the notes: none for a session that is done, and none here for a refusal, whose line
-    /// names the fault.
+    /// The line that is written to the notes: none for a session that is done, and none here for a
+    /// refusal, whose line names the fault.
     pub fn note(self) -> &'static [u8]
         ensures { result.now ≡ note_of self }
     {

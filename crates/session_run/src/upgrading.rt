@@ -18,9 +18,11 @@ fn upgraded_text(alloc: Global, script: &Script) -> Result<Vec<u8>, NoMemory>
     Ok(text)
 }
 
-/// Upgrades a script that was read, and writes the text of its upgrade. Takes all memory before the first byte is written.
+/// Upgrades a script that was read, and writes the text of its upgrade. Takes all memory before the
+/// first byte is written.
 pub(crate) fn upgrade_and_write<K: Sink>(alloc: Global, script: &Script, out: &mut K) -> Outcome
-    ensures wrote { WroteText (upgraded_text script.now) (seen_by K.written K.faults out.old out.new) result }
+    ensures wrote { WroteText (upgraded_text script.now)
+        (seen_by K.written K.faults out.old out.new) result }
     ensures quiet { result ≡ Outcome.NoMemory → out.new ≡ out.old }
     ensures counts { CountsWriting result (K.faults out.old) (K.faults out.new) }
 {

@@ -23,8 +23,8 @@ fn shows_fault(history: &History) -> bool
 fn write_text<K: Sink>(form: Form, history: &History, out: &mut K) -> Result<(), Failed>
     ensures whole { OnOk result
         (Extends (K.written out.old) (text_of_run form history.now.events) (K.written out.new)) }
-    ensures part { OnErr result
-        (ExtendsByPart (K.written out.old) (text_of_run form history.now.events) (K.written out.new)) }
+    ensures part { OnErr result (ExtendsByPart (K.written out.old)
+        (text_of_run form history.now.events) (K.written out.new)) }
     ensures counts { CountsFaults result (K.faults out.old) (K.faults out.new) }
 {
     match form {
@@ -33,9 +33,11 @@ fn write_text<K: Sink>(form: Form, history: &History, out: &mut K) -> Result<(),
     }
 }
 
-/// Writes what the form says of a whole history. Where writing fails, that is the outcome, whatever the reactor did.
+/// Writes what the form says of a whole history. Where writing fails, that is the outcome, whatever
+/// the reactor did.
 pub(crate) fn write_history<K: Sink>(form: Form, history: &History, out: &mut K) -> Outcome
-    ensures wrote { WroteHistory form history.now.events (seen_by K.written K.faults out.old out.new) result }
+    ensures wrote { WroteHistory form history.now.events
+        (seen_by K.written K.faults out.old out.new) result }
     ensures counts { CountsWriting result (K.faults out.old) (K.faults out.new) }
 {
     if write_text(form, history, out).is_err() {

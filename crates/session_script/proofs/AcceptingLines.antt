@@ -21,7 +21,8 @@ use Rattle.session_script.proofs.NextWords.{word_starts}
 use Rattle.session_script.proofs.Sequences.{Sequence, ReadsOneMore, has_room, sequence_turns}
 use Rattle.session_script.proofs.Turns.{next_line_takes}
 
-word_of_line : (word : WorldWord) (text : List ℕ) (ws rest : Words) → world_word text ≡ Ok word → IsWord text ws rest → ReadsAs (one world_word) word ws rest
+word_of_line : (word : WorldWord) (text : List ℕ) (ws rest : Words) → world_word text ≡ Ok word → IsWord text ws rest →
+    ReadsAs (one world_word) word ws rest
 word_of_line word text ws rest takes is = by_accepts (one_accepts world_word) word ws rest (text, takes, is)
 
 -- the word of what happens, its stream, and what stands after them
@@ -33,18 +34,50 @@ record IsRead (h : Header) (happened : What) (stream : ℕ) (ws rest : Words) : 
   of_stream : IsN stream at_stream at_what
   of_what : ReadsAs (what_happens h word) happened at_what rest
 
-what_is_read : (h : Header) (happened : What) (stream : ℕ) (ws rest : Words) → IsWhatText happened stream ws rest → FitsWhat h happened → IsRead h happened stream ws rest
+what_is_read : (h : Header) (happened : What) (stream : ℕ) (ws rest : Words) → IsWhatText happened stream ws rest →
+    FitsWhat h happened → IsRead h happened stream ws rest
 unfolding world_word what_happens
-what_is_read h (what.Feed bytes) stream ws rest p fits = record { word = world.Feed; at_stream = p.0; at_what = p.1; of_word = word_of_line world.Feed (codes "feed") ws p.0 refl p.2; of_stream = p.3; of_what = then_reads_as _ (by_accepts (bytes_accepts h.limits.size) bytes p.1 rest (p.4, fits.1)) (done_reads_as _ rest) }
-what_is_read h what.End stream ws rest p fits = record { word = world.End; at_stream = p.0; at_what = rest; of_word = word_of_line world.End (codes "end") ws p.0 refl p.1; of_stream = p.2; of_what = done_reads_as _ rest }
-what_is_read h what.Reset stream ws rest p fits = record { word = world.Reset; at_stream = p.0; at_what = rest; of_word = word_of_line world.Reset (codes "reset") ws p.0 refl p.1; of_stream = p.2; of_what = done_reads_as _ rest }
-what_is_read h (what.Room room) stream ws rest p fits = record { word = world.Room; at_stream = p.0; at_what = p.1; of_word = word_of_line world.Room (codes "room") ws p.0 refl p.2; of_stream = p.3; of_what = then_reads_as _ (by_accepts (bounded_accepts 1 h.limits.room) room p.1 rest (p.4, fits.0, fits.1)) (done_reads_as _ rest) }
+what_is_read h (what.Feed bytes) stream ws rest p fits = record {
+  word = world.Feed;
+  at_stream = p.0;
+  at_what = p.1;
+  of_word = word_of_line world.Feed (codes "feed") ws p.0 refl p.2;
+  of_stream = p.3;
+  of_what =
+      then_reads_as _ (by_accepts (bytes_accepts h.limits.size) bytes p.1 rest (p.4, fits.1)) (done_reads_as _ rest);
+}
+what_is_read h what.End stream ws rest p fits = record {
+  word = world.End;
+  at_stream = p.0;
+  at_what = rest;
+  of_word = word_of_line world.End (codes "end") ws p.0 refl p.1;
+  of_stream = p.2;
+  of_what = done_reads_as _ rest;
+}
+what_is_read h what.Reset stream ws rest p fits = record {
+  word = world.Reset;
+  at_stream = p.0;
+  at_what = rest;
+  of_word = word_of_line world.Reset (codes "reset") ws p.0 refl p.1;
+  of_stream = p.2;
+  of_what = done_reads_as _ rest;
+}
+what_is_read h (what.Room room) stream ws rest p fits = record {
+  word = world.Room;
+  at_stream = p.0;
+  at_what = p.1;
+  of_word = word_of_line world.Room (codes "room") ws p.0 refl p.2;
+  of_stream = p.3;
+  of_what =
+      then_reads_as _ (by_accepts (bounded_accepts 1 h.limits.room) room p.1 rest (p.4, fits.0, fits.1)) (done_reads_as _ rest);
+}
 
 -- a line that fits
 abbrev IsFittingLine : Header → Line → Words → Words → Type 0
 IsFittingLine h line ws rest = IsLineText line ws rest × FitsLine h line
 
-line_is_read : (h : Header) (next : Line) (ws rest : Words) → IsLineText next ws rest → FitsLine h next → ReadsAs (world_line h false) next ws rest
+line_is_read : (h : Header) (next : Line) (ws rest : Words) → IsLineText next ws rest → FitsLine h next →
+    ReadsAs (world_line h false) next ws rest
 unfolding world_line
 line_is_read h next ws rest p fits =
     let x = what_is_read h next.what next.stream p.1 rest p.4 fits.2 in
@@ -57,16 +90,31 @@ line_is_read h next ws rest p fits =
 next_line_is_read : (h : Header) → ReadsOneMore (IsFittingLine h) h.limits.lines (next_world_line h)
 unfolding next_world_line
 next_line_is_read h so_far next ws rest below p =
-    let as_line : ReadsAs (world_line h (nat_le h.limits.lines (length so_far))) next ws rest = subst (λ full. ReadsAs (world_line h full) next ws rest) (sym (has_room h.limits.lines (length so_far) below)) (line_is_read h next ws rest p.0 p.1) in
+    let as_line : ReadsAs (world_line h (nat_le h.limits.lines (length so_far))) next ws rest =
+    subst (λ full. ReadsAs (world_line h full) next ws rest) (sym (has_room h.limits.lines (length so_far) below))
+    (line_is_read h next ws rest p.0 p.1) in
     then_reads_as _ as_line (done_reads_as (so_far ++ next ∷ []) rest)
 
-fitting_lines : (h : Header) (all : List Line) (ws rest : Words) → IsLinesText all ws rest → AllByRecursion (FitsLine h) all → Sequence (IsFittingLine h) all ws rest
+fitting_lines : (h : Header) (all : List Line) (ws rest : Words) → IsLinesText all ws rest →
+    AllByRecursion (FitsLine h) all → Sequence (IsFittingLine h) all ws rest
 fitting_lines h [] ws rest p fit = p
 fitting_lines h (first ∷ others) ws rest p fit = (p.0, (p.1, fit.0), fitting_lines h others p.0 rest p.2 fit.1)
 
-lines_turn : (h : Header) (all : List Line) (ws rest : Words) → IsLinesText all ws rest → All (FitsLine h) all → length all ≤ h.limits.lines → starts (codes "at") rest ≡ false → Turns (starts (codes "at")) (λ so_far. ReadsAs (next_world_line h so_far)) [] all ws rest
-lines_turn h all ws rest p fit few stops = sequence_turns (IsFittingLine h) (starts (codes "at")) (λ next now left is. word_starts (codes "at") now is.0.0 is.0.2) h.limits.lines (next_world_line h) (next_line_is_read h) [] all ws rest (omega arith) (fitting_lines h all ws rest p (recursion_from_All (FitsLine h) all fit)) stops
+lines_turn : (h : Header) (all : List Line) (ws rest : Words) → IsLinesText all ws rest → All (FitsLine h) all →
+    length all ≤ h.limits.lines → starts (codes "at") rest ≡ false →
+    Turns (starts (codes "at")) (λ so_far. ReadsAs (next_world_line h so_far)) [] all ws rest
+lines_turn h all ws rest p fit few stops =
+    sequence_turns (IsFittingLine h) (starts (codes "at"))
+    (λ next now left is. word_starts (codes "at") now is.0.0 is.0.2) h.limits.lines (next_world_line h)
+    (next_line_is_read h) [] all ws rest (omega arith)
+    (fitting_lines h all ws rest p (recursion_from_All (FitsLine h) all fit)) stops
 
-pub lines_read_as : (h : Header) (all : List Line) (ws rest : Words) → IsLinesText all ws rest → All (FitsLine h) all → length all ≤ h.limits.lines → starts (codes "at") rest ≡ false → ReadsAs (world_lines h) all ws rest
+pub lines_read_as : (h : Header) (all : List Line) (ws rest : Words) → IsLinesText all ws rest → All (FitsLine h) all →
+    length all ≤ h.limits.lines → starts (codes "at") rest ≡ false → ReadsAs (world_lines h) all ws rest
 unfolding world_lines
-lines_read_as h all ws rest p fit few stops = by_accepts (repeated_accepts (begins (codes "at")) (starts (codes "at")) (next_world_line h) (λ so_far. ReadsAs (next_world_line h so_far)) (begins_starts (codes "at")) (λ at. refl) (next_line_takes h) (λ so_far. accepts_by (ReadsAs (next_world_line h so_far)) (λ after now left is. is)) []) all ws rest (lines_turn h all ws rest p fit few stops)
+lines_read_as h all ws rest p fit few stops =
+    by_accepts
+    (repeated_accepts (begins (codes "at")) (starts (codes "at")) (next_world_line h)
+    (λ so_far. ReadsAs (next_world_line h so_far)) (begins_starts (codes "at")) (λ at. refl) (next_line_takes h)
+    (λ so_far. accepts_by (ReadsAs (next_world_line h so_far)) (λ after now left is. is)) []) all ws rest
+    (lines_turn h all ws rest p fit few stops)

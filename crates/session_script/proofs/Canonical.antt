@@ -21,7 +21,8 @@ use Rattle.session_script.proofs.Numerals.{numeral_is_decimal, data_is_text, num
 use Rattle.session_script.proofs.Respelling.{Respells, same_respells, begun_respells, nothing_respells, word_respells, form_respells, Two, Three, two_respell, three_respell, five_respell}
 
 pub number_respells : (n : ℕ) → Respells (IsN n) (decimal n ∷ [])
-number_respells n = form_respells (λ w. number w ≡ Ok n) (decimal n) (λ w. numeral_is_decimal w n) (λ w. numeral_is_token w n)
+number_respells n =
+    form_respells (λ w. number w ≡ Ok n) (decimal n) (λ w. numeral_is_decimal w n) (λ w. numeral_is_token w n)
 
 pub optional_respells : (o : Option ℕ) → Respells (IsDashOrN o) (number_or_dash o ∷ [])
 unfolding is_printable
@@ -33,23 +34,31 @@ abbrev IsDataWord : List ℕ → List ℕ → Type 0
 IsDataWord bytes w = (most : ℕ) × (digits : List ℕ) × (data_digits most w ≡ Ok digits) × (bytes ≡ decoded digits)
 
 pub data_respells : (bytes : List ℕ) → Respells (IsDataText bytes) (data_text bytes ∷ [])
-data_respells bytes = same_respells (λ ws rest p. (p.0, (p.1, p.2, p.3, p.4), p.5)) (λ ws rest p. (p.0, p.1.0, p.1.1, p.1.2, p.1.3, p.2)) (form_respells (IsDataWord bytes) (data_text bytes) (λ w p. data_is_text p.0 w p.1 p.2 ∙ ap data_text (sym p.3)) (λ w p. data_is_token p.0 w p.1 p.2))
+data_respells bytes =
+    same_respells (λ ws rest p. (p.0, (p.1, p.2, p.3, p.4), p.5)) (λ ws rest p. (p.0, p.1.0, p.1.1, p.1.2, p.1.3, p.2))
+    (form_respells (IsDataWord bytes) (data_text bytes) (λ w p. data_is_text p.0 w p.1 p.2 ∙ ap data_text (sym p.3))
+    (λ w p. data_is_token p.0 w p.1 p.2))
 
 -- (word N)?, where it is there
 counted_respells : (text : List ℕ) (n : ℕ) → IsToken text → Respells (Two (IsWord text) (IsN n)) (text ∷ decimal n ∷ [])
 counted_respells text n is = two_respell (word_respells text is) (number_respells n)
 
 -- nothing is no longer
-left_out : (text : List ℕ) (n : ℕ) → IsToken text → (ws rest : Words) → IsCountText text n ws rest → (mid : Words) × (ws ≡ mid) × (size rest ≤ size mid)
+left_out : (text : List ℕ) (n : ℕ) → IsToken text → (ws rest : Words) → IsCountText text n ws rest →
+    (mid : Words) × (ws ≡ mid) × (size rest ≤ size mid)
 left_out text n is ws rest (inl p) = (rest, p.1, omega arith)
-left_out text n is ws rest (inr p) = (ws, refl, omega (arith, ((counted_respells text n is).rewrites ws rest p).shorter))
+left_out text n is ws rest (inr p) =
+    (ws, refl, omega (arith, ((counted_respells text n is).rewrites ws rest p).shorter))
 
-is_there : (text : List ℕ) (n : ℕ) → (n == 0) ≡ false → (ws rest : Words) → IsCountText text n ws rest → Two (IsWord text) (IsN n) ws rest
+is_there : (text : List ℕ) (n : ℕ) → (n == 0) ≡ false → (ws rest : Words) → IsCountText text n ws rest →
+    Two (IsWord text) (IsN n) ws rest
 is_there text n some ws rest (inl p) = absurd (eqb-false n 0 some p.0)
 is_there text n some ws rest (inr p) = p
 
-count_by : (text : List ℕ) (n : ℕ) (none : Bool) → (n == 0) ≡ none → IsToken text → Respells (IsCountText text n) (cond none [] (text ∷ decimal n ∷ []))
-count_by text n true none is = begun_respells (left_out text n is) (λ ws rest e. inl (eqb-true n 0 none, e)) nothing_respells
+count_by : (text : List ℕ) (n : ℕ) (none : Bool) → (n == 0) ≡ none → IsToken text →
+    Respells (IsCountText text n) (cond none [] (text ∷ decimal n ∷ []))
+count_by text n true none is =
+    begun_respells (left_out text n is) (λ ws rest e. inl (eqb-true n 0 none, e)) nothing_respells
 count_by text n false some is = same_respells (is_there text n some) (λ ws rest p. inr p) (counted_respells text n is)
 
 pub count_respells : (text : List ℕ) (n : ℕ) → IsToken text → Respells (IsCountText text n) (count_words text n)
@@ -67,14 +76,19 @@ declared_respells script =
 
 what_respells : (stream : ℕ) (happens : What) → Respells (IsWhatText happens stream) (what_words stream happens)
 unfolding is_printable
-what_respells stream (what.Feed bytes) = three_respell (word_respells (codes "feed") (omega arith, refl)) (number_respells stream) (data_respells bytes)
+what_respells stream (what.Feed bytes) =
+    three_respell (word_respells (codes "feed") (omega arith, refl)) (number_respells stream) (data_respells bytes)
 what_respells stream what.End = two_respell (word_respells (codes "end") (omega arith, refl)) (number_respells stream)
-what_respells stream what.Reset = two_respell (word_respells (codes "reset") (omega arith, refl)) (number_respells stream)
-what_respells stream (what.Room room) = three_respell (word_respells (codes "room") (omega arith, refl)) (number_respells stream) (number_respells room)
+what_respells stream what.Reset =
+    two_respell (word_respells (codes "reset") (omega arith, refl)) (number_respells stream)
+what_respells stream (what.Room room) =
+    three_respell (word_respells (codes "room") (omega arith, refl)) (number_respells stream) (number_respells room)
 
 pub line_respells : (line : Line) → Respells (IsLineText line) (line_words line)
 unfolding is_printable
-line_respells line = three_respell (word_respells (codes "at") (omega arith, refl)) (number_respells line.time) (what_respells line.stream line.what)
+line_respells line =
+    three_respell (word_respells (codes "at") (omega arith, refl)) (number_respells line.time)
+    (what_respells line.stream line.what)
 
 pub lines_respell : (lines : List Line) → Respells (IsLinesText lines) (flat_map line_words lines)
 lines_respell [] = nothing_respells
@@ -90,7 +104,8 @@ restarted ws rest (inr p) = p.1
 
 restart_respells : (restart : Bool) → Respells (IsRestartText restart) (cond restart (codes "restart" ∷ []) [])
 unfolding is_printable
-restart_respells true = same_respells restarted (λ ws rest p. inr (refl, p)) (word_respells (codes "restart") (omega arith, refl))
+restart_respells true =
+    same_respells restarted (λ ws rest p. inr (refl, p)) (word_respells (codes "restart") (omega arith, refl))
 restart_respells false = same_respells not_restarted (λ ws rest p. inl (refl, p)) nothing_respells
 
 pace_respells : (kind : Pace) → Respells (IsWord (pace_text kind)) (pace_text kind ∷ [])
@@ -98,7 +113,9 @@ unfolding is_printable
 pace_respells pace.Run = word_respells (codes "run") (omega arith, refl)
 pace_respells pace.Poll = word_respells (codes "poll") (omega arith, refl)
 
-round_by : (restart : Bool) (kind : Pace) (workers : ℕ) → Respells (Three (IsRestartText restart) (IsWord (pace_text kind)) (IsN workers)) (cond restart (codes "restart" ∷ pace_text kind ∷ decimal workers ∷ []) (pace_text kind ∷ decimal workers ∷ []))
+round_by : (restart : Bool) (kind : Pace) (workers : ℕ) →
+    Respells (Three (IsRestartText restart) (IsWord (pace_text kind)) (IsN workers))
+    (cond restart (codes "restart" ∷ pace_text kind ∷ decimal workers ∷ []) (pace_text kind ∷ decimal workers ∷ []))
 round_by true kind workers = three_respell (restart_respells true) (pace_respells kind) (number_respells workers)
 round_by false kind workers = three_respell (restart_respells false) (pace_respells kind) (number_respells workers)
 

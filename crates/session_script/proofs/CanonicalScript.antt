@@ -29,7 +29,8 @@ open_is_token = (omega arith, refl)
 
 module _ (script : ScriptModel) (ws : Words) (is : IsScriptText script ws) where
   after_open : Words
-  after_open = body_words (limits_of script.version).nesting script (opening_of script) ++ flat_map round_words script.rounds
+  after_open =
+      body_words (limits_of script.version).nesting script (opening_of script) ++ flat_map round_words script.rounds
 
   after_declared : Words
   after_declared = flat_map line_words script.world.lines ++ codes "open" ∷ after_open
@@ -40,11 +41,15 @@ module _ (script : ScriptModel) (ws : Words) (is : IsScriptText script ws) where
   abbrev of_declared : Rewrites (IsDeclsText script) (declared_words script) is.at_decls is.at_lines
   of_declared = (declared_respells script).rewrites is.at_decls is.at_lines is.decls
 
-  abbrev of_lines : Rewrites (IsLinesText script.world.lines) (flat_map line_words script.world.lines) is.at_lines is.at_open
+  abbrev of_lines : Rewrites (IsLinesText script.world.lines) (flat_map line_words script.world.lines) is.at_lines
+      is.at_open
   of_lines = (lines_respell script.world.lines).rewrites is.at_lines is.at_open is.lines
 
-  abbrev of_body : Rewrites (IsBodyText script.version (limits_of script.version).nesting None [] script.acts) (body_words (limits_of script.version).nesting script (opening_of script)) is.at_body is.at_rounds
-  of_body = (opening_respells script.version (act_respells script.version) (limits_of script.version).nesting script).rewrites is.at_body is.at_rounds is.acts
+  abbrev of_body : Rewrites (IsBodyText script.version (limits_of script.version).nesting None [] script.acts)
+      (body_words (limits_of script.version).nesting script (opening_of script)) is.at_body is.at_rounds
+  of_body =
+      (opening_respells script.version (act_respells script.version) (limits_of script.version).nesting script).rewrites
+      is.at_body is.at_rounds is.acts
 
   abbrev of_rounds : Rewrites (IsRoundsText script.rounds) (flat_map round_words script.rounds) is.at_rounds []
   of_rounds = (rounds_respell script.rounds).rewrites is.at_rounds [] is.rounds
@@ -65,7 +70,8 @@ module _ (script : ScriptModel) (ws : Words) (is : IsScriptText script ws) where
     open_word = refl;
     acts = of_body.again (flat_map round_words script.rounds);
     some_round = is.some_round;
-    rounds = subst (λ all. IsRoundsText script.rounds all []) (append-nil (flat_map round_words script.rounds)) (of_rounds.again []);
+    rounds =
+        subst (λ all. IsRoundsText script.rounds all []) (append-nil (flat_map round_words script.rounds)) (of_rounds.again []);
   }
 
   pub no_longer : size (canonical script) ≤ size ws

@@ -6,11 +6,15 @@ use Rattle.session_script.specs.Text.{words_of, Words}
 use Rattle.session_script.proofs.Accepting.{Accepts}
 
 -- one reader or another, by what the words begin with
-abbrev pub Either : {A : Type 0} → (Words → Bool) → (A → Words → Words → Type 0) → (A → Words → Words → Type 0) → A → Words → Words → Type 0
+abbrev pub Either : {A : Type 0} → (Words → Bool) → (A → Words → Words → Type 0) → (A → Words → Words → Type 0) → A →
+    Words → Words → Type 0
 Either goes P Q a ws rest = ((goes ws ≡ true) × P a ws rest) ⊎ ((goes ws ≡ false) × Q a ws rest)
 
-module _ {A : Type 0} {P Q : A → Words → Words → Type 0} {r s : Tokens → Result (A × Tokens) Refusal} (test : Tokens → Bool) (goes : Words → Bool) (same : (ts : Tokens) → test ts ≡ goes (words_of ts)) (first : Accepts P r) (second : Accepts Q s) where
-  either_is : (a : A) (ts : Tokens) (rest : Words) → Either goes P Q a (words_of ts) rest → (left : Tokens) × (words_of left ≡ rest) × (cond (test ts) (r ts) (s ts) ≡ Ok (a, left))
+module _ {A : Type 0} {P Q : A → Words → Words → Type 0} {r s : Tokens → Result (A × Tokens) Refusal}
+    (test : Tokens → Bool) (goes : Words → Bool) (same : (ts : Tokens) → test ts ≡ goes (words_of ts))
+    (first : Accepts P r) (second : Accepts Q s) where
+  either_is : (a : A) (ts : Tokens) (rest : Words) → Either goes P Q a (words_of ts) rest →
+      (left : Tokens) × (words_of left ≡ rest) × (cond (test ts) (r ts) (s ts) ≡ Ok (a, left))
   either_is a ts rest (inl p) =
       let some : test ts ≡ true = same ts ∙ p.0 in
       let x = first.accepts a ts rest p.1 in

@@ -20,16 +20,19 @@ low_half : (high low : ℕ) → low < 16 → (16 * high + low) % 16 ≡ low
 low_half high low small = omega arith
 
 -- the two digits of the byte that two digits spell
-encoded_pair : (high low : ℕ) (digits : List ℕ) → is_hexadecimal high ≡ true → is_hexadecimal low ≡ true → encoded ((16 * hexadecimal high + hexadecimal low) ∷ digits) ≡ high ∷ low ∷ encoded digits
+encoded_pair : (high low : ℕ) (digits : List ℕ) → is_hexadecimal high ≡ true → is_hexadecimal low ≡ true →
+    encoded ((16 * hexadecimal high + hexadecimal low) ∷ digits) ≡ high ∷ low ∷ encoded digits
 encoded_pair high low digits is_high is_low =
     let small = hexadecimal-small low is_low in
-    ap (λ d. digit_of d ∷ digit_of ((16 * hexadecimal high + hexadecimal low) % 16) ∷ encoded digits) (high_half (hexadecimal high) (hexadecimal low) small)
+    ap (λ d. digit_of d ∷ digit_of ((16 * hexadecimal high + hexadecimal low) % 16) ∷ encoded digits)
+    (high_half (hexadecimal high) (hexadecimal low) small)
     ∙ ap (λ d. digit_of (hexadecimal high) ∷ digit_of d ∷ encoded digits) (low_half (hexadecimal high) (hexadecimal low) small)
     ∙ ap (λ d. d ∷ digit_of (hexadecimal low) ∷ encoded digits) (digit_of-hexadecimal high is_high)
     ∙ ap (λ d. high ∷ d ∷ encoded digits) (digit_of-hexadecimal low is_low)
 
 -- an even number of digits is the text of the bytes that they spell
-pub encoded-decoded : (digits : List ℕ) → length digits % 2 ≡ 0 → list_all is_hexadecimal digits ≡ true → encoded (decoded digits) ≡ digits
+pub encoded-decoded : (digits : List ℕ) → length digits % 2 ≡ 0 → list_all is_hexadecimal digits ≡ true →
+    encoded (decoded digits) ≡ digits
 encoded-decoded [] even all = refl
 encoded-decoded (high ∷ []) even all = absurd (omega arith)
 encoded-decoded (high ∷ low ∷ digits) even all =

@@ -12,11 +12,13 @@ pub script_size : (bytes : List ℕ) (script : ScriptModel) → IsScript bytes s
 script_size bytes script is = (spells bytes script is).size
 
 -- a text of a script has no fault
-pub no_fault : (bytes : List ℕ) (script : ScriptModel) (refusal : Refusal) → IsScript bytes script → first_fault bytes ≡ Some refusal → ⊥
+pub no_fault : (bytes : List ℕ) (script : ScriptModel) (refusal : Refusal) → IsScript bytes script →
+    first_fault bytes ≡ Some refusal → ⊥
 unfolding IsScript first_fault
 no_fault bytes script refusal is fault = cc (ap fault_of is, fault)
 
 -- a text has one script
-pub one_script : (bytes : List ℕ) (first second : ScriptModel) → IsScript bytes first → IsScript bytes second → first ≡ second
+pub one_script : (bytes : List ℕ) (first second : ScriptModel) → IsScript bytes first → IsScript bytes second →
+    first ≡ second
 unfolding IsScript
 one_script bytes first second one other = cc (one, other)

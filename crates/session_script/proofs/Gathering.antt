@@ -16,20 +16,28 @@ pub around_whole : (script : ScriptModel) → Around script 0 [] script.acts
 around_whole script = record { continues = continues_none script.acts; inner = λ q in'. refl }
 
 -- a part of a part
-pub numbers_of_part : (q : Place) {a b c d : List Entry} → Continues a b → Continues b c → Continues c d → new_numbers q a b ≡ [] → new_numbers q c d ≡ [] → new_numbers q a d ≡ new_numbers q b c
+pub numbers_of_part : (q : Place) {a b c d : List Entry} → Continues a b → Continues b c → Continues c d →
+    new_numbers q a b ≡ [] → new_numbers q c d ≡ [] → new_numbers q a d ≡ new_numbers q b c
 numbers_of_part q {a} {b} {c} {d} first second third none none' =
-    let left : new_numbers q a d ≡ new_numbers q a c ++ new_numbers q c d = new_numbers-both q (continues_both first second) third in
+    let left : new_numbers q a d ≡ new_numbers q a c ++ new_numbers q c d =
+    new_numbers-both q (continues_both first second) third in
     let right : new_numbers q a c ≡ new_numbers q a b ++ new_numbers q b c = new_numbers-both q first second in
     left ∙ rw (right, none, none') (append-nil (new_numbers q b c))
 
-inside_less : (low low' high high' : ℕ) (q : Place) → low ≤ low' → high' ≤ high → Inside low' high' q → Inside low high q
+inside_less : (low low' high high' : ℕ) (q : Place) → low ≤ low' → high' ≤ high → Inside low' high' q →
+    Inside low high q
 inside_less low low' high high' None up down in' = in'
 inside_less low low' high high' (Some at) up down in' = (omega arith, omega arith)
 
-pub around_part : {script : ScriptModel} {low low' : ℕ} {a b c d : List Entry} → Around script low a d → Continues a b → Continues b c → Continues c d → low ≤ low' → ((q : Place) → Inside low' (length c) q → (new_numbers q a b ≡ []) × (new_numbers q c d ≡ [])) → Around script low' b c
+pub around_part : {script : ScriptModel} {low low' : ℕ} {a b c d : List Entry} → Around script low a d → Continues a b →
+    Continues b c → Continues c d → low ≤ low' →
+    ((q : Place) → Inside low' (length c) q → (new_numbers q a b ≡ []) × (new_numbers q c d ≡ [])) →
+    Around script low' b c
 around_part {low = low} {low' = low'} {c = c} {d = d} around first second third up none = record {
   continues = continues_both third around.continues;
-  inner = λ q in'. around.inner q (inside_less low low' (length d) (length c) q up (continues_longer third) in') ∙ numbers_of_part q first second third (none q in').0 (none q in').1;
+  inner = λ q in'.
+      around.inner q (inside_less low low' (length d) (length c) q up (continues_longer third) in')
+      ∙ numbers_of_part q first second third (none q in').0 (none q in').1;
 }
 
 -- `open`, or a branch of an operation before this number
@@ -77,22 +85,37 @@ same_place-self None = refl
 same_place-self (Some p) = rw (eq-eqb p.0 p.0 refl) (same_class-self p.1)
 
 -- an act, its bodies and the acts after them
-pub numbers_of_act : (before : List Entry) (e : Entry) {mid after : List Entry} → IsEarlier (length before) e.parent → Appends (Away (length before)) (before ++ e ∷ []) mid → Continues mid after → new_numbers e.parent before after ≡ length before ∷ new_numbers e.parent mid after
+pub numbers_of_act : (before : List Entry) (e : Entry) {mid after : List Entry} → IsEarlier (length before) e.parent →
+    Appends (Away (length before)) (before ++ e ∷ []) mid → Continues mid after →
+    new_numbers e.parent before after ≡ length before ∷ new_numbers e.parent mid after
 numbers_of_act before e {mid} {after} below bodies others =
     let one : Continues before (before ++ e ∷ []) = record { new = e ∷ []; is = refl } in
-    let itself : new_numbers e.parent before (before ++ e ∷ []) ≡ length before ∷ [] = new_numbers-one e.parent before e ∙ rw (same_place-self e.parent) refl in
+    let itself : new_numbers e.parent before (before ++ e ∷ []) ≡ length before ∷ [] =
+    new_numbers-one e.parent before e ∙ rw (same_place-self e.parent) refl in
     let longer : length before ≤ length (before ++ e ∷ []) = continues_longer one in
-    let none : new_numbers e.parent (before ++ e ∷ []) mid ≡ [] = bodies.elsewhere e.parent (below_away (length before) e.parent below) (below_outside (length before) (length (before ++ e ∷ [])) (length mid) e.parent longer below) in
-    let whole : new_numbers e.parent before after ≡ new_numbers e.parent before (before ++ e ∷ []) ++ new_numbers e.parent (before ++ e ∷ []) after = new_numbers-both e.parent one (continues_both bodies.continues others) in
-    let rest : new_numbers e.parent (before ++ e ∷ []) after ≡ new_numbers e.parent (before ++ e ∷ []) mid ++ new_numbers e.parent mid after = new_numbers-both e.parent bodies.continues others in
+    let none : new_numbers e.parent (before ++ e ∷ []) mid ≡ [] =
+    bodies.elsewhere e.parent (below_away (length before) e.parent below)
+    (below_outside (length before) (length (before ++ e ∷ [])) (length mid) e.parent longer below) in
+    let whole : new_numbers e.parent before after
+    ≡ new_numbers e.parent before (before ++ e ∷ []) ++ new_numbers e.parent (before ++ e ∷ []) after =
+    new_numbers-both e.parent one (continues_both bodies.continues others) in
+    let rest : new_numbers e.parent (before ++ e ∷ []) after
+    ≡ new_numbers e.parent (before ++ e ∷ []) mid ++ new_numbers e.parent mid after =
+    new_numbers-both e.parent bodies.continues others in
     whole ∙ rw (itself, rest, none) refl
 
-module _ {script : ScriptModel} (before : List Entry) (e : Entry) {mid after : List Entry} (below : IsEarlier (length before) e.parent) (around : Around script (length before) before after) (bodies : Appends (Away (length before)) (before ++ e ∷ []) mid) (others : Appends (NotIn e.parent) mid after) where
+module _ {script : ScriptModel} (before : List Entry) (e : Entry) {mid after : List Entry}
+    (below : IsEarlier (length before) e.parent) (around : Around script (length before) before after)
+    (bodies : Appends (Away (length before)) (before ++ e ∷ []) mid) (others : Appends (NotIn e.parent) mid after) where
   -- the bodies of an act
   pub around_bodies : Around script (length before) (before ++ e ∷ []) mid
-  around_bodies = around_part around (record { new = e ∷ []; is = refl }) bodies.continues others.continues (omega arith) (λ q in'.
-      let apart : NotIn e.parent q = below_not_in (length before) (length mid) e.parent q below in' in
-      (new_numbers-one q before e ∙ ap (λ here. cond here (length before ∷ []) []) apart, others.elsewhere q apart (above_outside (length before) (length mid) (length after) q in')))
+  around_bodies =
+      around_part around (record { new = e ∷ []; is = refl }) bodies.continues others.continues (omega arith)
+      (λ q in'.
+      let apart : NotIn e.parent q = below_not_in (length before) (length mid) e.parent q below in' in (
+        new_numbers-one q before e ∙ ap (λ here. cond here (length before ∷ []) []) apart,
+        others.elsewhere q apart (above_outside (length before) (length mid) (length after) q in'),
+      ))
 
   -- the acts after it
   pub around_others : Around script (length mid) mid after
@@ -100,15 +123,22 @@ module _ {script : ScriptModel} (before : List Entry) (e : Entry) {mid after : L
       let act = act_appends before e mid bodies in
       let longer : length before ≤ length mid = continues_longer act.continues in
       around_part around act.continues others.continues (continues_none after) longer (λ q in'.
-      let apart : NotIn e.parent q = below_not_in (length before) (length after) e.parent q below (inside_less (length before) (length mid) (length after) (length after) q longer (omega arith) in') in
+      let apart : NotIn e.parent q =
+      below_not_in (length before) (length after) e.parent q below
+      (inside_less (length before) (length mid) (length after) (length after) q longer (omega arith) in') in
       (act.elsewhere q apart (beyond_outside (length before) (length mid) (length after) q in'), new_numbers-none q after))
 
 -- a body that appends no act of its own appends none
-acts_none : {version levels : ℕ} {place : Place} {before after : List Entry} {ws rest : Words} → IsActsText version levels place before after ws rest → IsEarlier (length before) place → new_numbers place before after ≡ [] → before ≡ after
+acts_none : {version levels : ℕ} {place : Place} {before after : List Entry} {ws rest : Words} →
+    IsActsText version levels place before after ws rest → IsEarlier (length before) place →
+    new_numbers place before after ≡ [] → before ≡ after
 acts_none no_act below none = refl
 acts_none {place = place} {before = before} (an_act made mid a b act bodies acts) below none =
-    let some = numbers_of_act before (record { act = made; parent = place }) below (bodies_append bodies) (acts_append acts).continues in
+    let some =
+    numbers_of_act before (record { act = made; parent = place }) below (bodies_append bodies) (acts_append acts).continues in
     cc (some, none)
 
-pub body_none : {version levels : ℕ} {place : Place} {before after : List Entry} {ws rest : Words} → IsBodyText version levels place before after ws rest → IsEarlier (length before) place → new_numbers place before after ≡ [] → before ≡ after
+pub body_none : {version levels : ℕ} {place : Place} {before after : List Entry} {ws rest : Words} →
+    IsBodyText version levels place before after ws rest → IsEarlier (length before) place →
+    new_numbers place before after ≡ [] → before ≡ after
 body_none (in_braces a b opens acts closes) below none = acts_none acts below none

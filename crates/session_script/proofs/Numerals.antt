@@ -15,17 +15,20 @@ use Rattle.session_script.proofs.Tokenizing.{IsToken}
 use Rattle.session_script.proofs.DataLemmas.{encoded-decoded}
 
 -- what is given where one test refuses
-not_barred : {A : Type 0} (test : Bool) (violated : Rule) (r : Result A Rule) (value : A) → cond test (Err violated) r ≡ Ok value → (test ≡ false) × (r ≡ Ok value)
+not_barred : {A : Type 0} (test : Bool) (violated : Rule) (r : Result A Rule) (value : A) →
+    cond test (Err violated) r ≡ Ok value → (test ≡ false) × (r ≡ Ok value)
 not_barred true violated r value e = absurd (cc)
 not_barred false violated r value e = (refl, e)
 
 -- what is given where one test is to be passed
-guarded : {A : Type 0} (test : Bool) (violated : Rule) (given value : A) → cond test (Ok given) (Err violated) ≡ Ok value → (test ≡ true) × (given ≡ value)
+guarded : {A : Type 0} (test : Bool) (violated : Rule) (given value : A) →
+    cond test (Ok given) (Err violated) ≡ Ok value → (test ≡ true) × (given ≡ value)
 guarded true violated given value e = (refl, cc)
 guarded false violated given value e = absurd (cc)
 
 -- what passes a test passes a weaker one
-weaker_test : (p q : ℕ → Bool) (xs : List ℕ) → ((x : ℕ) → p x ≡ true → q x ≡ true) → list_all p xs ≡ true → list_all q xs ≡ true
+weaker_test : (p q : ℕ → Bool) (xs : List ℕ) → ((x : ℕ) → p x ≡ true → q x ≡ true) → list_all p xs ≡ true →
+    list_all q xs ≡ true
 weaker_test p q [] less all = refl
 weaker_test p q (x ∷ xs) less all =
     let parts = both (p x) (list_all p xs) all in
@@ -61,7 +64,13 @@ numeral_of w n e =
     let fits = guarded (nat_lt (decimal_from 0 w) (2 ^ 64)) _ (decimal_from 0 w) n lead.1 in
     let is = both (not (length w == 0)) (list_all is_digit w) (not_false (is_number w) kind.0) in
     let some = is_some w is.0 in
-    record { some = some; digits = is.1; no_zero = alone (get_or w 0 0) (length w) some lead.0; small = (Decides-ltb (decimal_from 0 w) (2 ^ 64)).0 fits.0; value = fits.1 }
+    record {
+      some = some;
+      digits = is.1;
+      no_zero = alone (get_or w 0 0) (length w) some lead.0;
+      small = (Decides-ltb (decimal_from 0 w) (2 ^ 64)).0 fits.0;
+      value = fits.1;
+    }
 
 -- digits and their value are those that std reads
 pub decimal_model : IsNumeralModel (λ ds. list_all is_digit ds ≡ true) (decimal_from 0)
@@ -111,7 +120,8 @@ digits_of most w digits e =
     let parts = data_parts most w digits e in
     subst (IsDataOf w) parts.1 (data_of w parts.0)
 
-pub digits_are_hexadecimal : (most : ℕ) (w digits : List ℕ) → data_digits most w ≡ Ok digits → list_all is_hexadecimal digits ≡ true
+pub digits_are_hexadecimal : (most : ℕ) (w digits : List ℕ) → data_digits most w ≡ Ok digits →
+    list_all is_hexadecimal digits ≡ true
 digits_are_hexadecimal most w digits e = (digits_of most w digits e).all
 
 -- DATA is the text of the bytes that it spells
@@ -134,7 +144,8 @@ short_enough : (a b : ℕ) → a ≤ b → nat_le a b ≡ true
 short_enough a b h = grind (arith, nat_tests)
 
 -- DATA is read where it is short enough, whatever it was that was allowed
-pub data_reads : (most other : ℕ) (w digits : List ℕ) → data_digits most w ≡ Ok digits → length (decoded digits) ≤ other → data_digits other w ≡ Ok digits
+pub data_reads : (most other : ℕ) (w digits : List ℕ) → data_digits most w ≡ Ok digits →
+    length (decoded digits) ≤ other → data_digits other w ≡ Ok digits
 unfolding data_digits
 data_reads most other w digits e fits =
     let parts = data_parts most w digits e in

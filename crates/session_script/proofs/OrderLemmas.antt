@@ -29,15 +29,35 @@ first_or_later : (test : ℕ → Bool) (low high : ℕ) → low < high → First
 first_or_later test low high lt later = by_test (test low) refl
   where
     fails : test low ≡ false → (n : ℕ) → low ≤ n → n < later.at → test n ≡ false
-    fails is n le lt = elim (same_or_above low n le) [ inl same ↦ ap test same ∙ is | inr above ↦ later.before n (omega arith) lt ]
+    fails is n le lt =
+        elim (same_or_above low n le) [ inl same ↦ ap test same ∙ is | inr above ↦ later.before n (omega arith) lt ]
 
     by_test : (passes : Bool) → test low ≡ passes → First test low high
-    by_test true is = record { at = low; above = omega arith; within = omega arith; before = λ n le lt. absurd (omega arith); here = λ lt. is }
-    by_test false is = record { at = later.at; above = omega (arith, later.above); within = later.within; before = fails is; here = later.here }
+    by_test true is = record {
+      at = low;
+      above = omega arith;
+      within = omega arith;
+      before = λ n le lt. absurd (omega arith);
+      here = λ lt. is;
+    }
+    by_test false is = record {
+      at = later.at;
+      above = omega (arith, later.above);
+      within = later.within;
+      before = fails is;
+      here = later.here;
+    }
 
 pub first_from : (test : ℕ → Bool) (count low high : ℕ) → low + count ≡ high → First test low high
-first_from test zero low high e = record { at = low; above = omega arith; within = omega arith; before = λ n le lt. absurd (omega arith); here = λ lt. absurd (omega arith) }
-first_from test (suc count) low high e = first_or_later test low high (omega arith) (first_from test count (suc low) high (omega arith))
+first_from test zero low high e = record {
+  at = low;
+  above = omega arith;
+  within = omega arith;
+  before = λ n le lt. absurd (omega arith);
+  here = λ lt. absurd (omega arith);
+}
+first_from test (suc count) low high e =
+    first_or_later test low high (omega arith) (first_from test count (suc low) high (omega arith))
 
 same_class-true : (a b : Class) → same_class a b ≡ true → a ≡ b
 same_class-true class.Ok class.Ok is = refl
@@ -78,7 +98,8 @@ not_first class.Ok is = absurd (cc is)
 not_first class.Abort is = omega arith
 not_first class.Other is = omega arith
 
-pub further_is : (op : ℕ) (place : Place) → is_further op place ≡ true → (branch : Class) × (place ≡ Some (op, branch)) × (1 ≤ class_number branch)
+pub further_is : (op : ℕ) (place : Place) → is_further op place ≡ true →
+    (branch : Class) × (place ≡ Some (op, branch)) × (1 ≤ class_number branch)
 further_is op None is = absurd (cc is)
 further_is op (Some at) is =
     let parts = both_true (at.0 == op) (not (same_class at.1 class.Ok)) is in
@@ -90,7 +111,8 @@ first_only op class.Ok is = refl
 first_only op class.Abort is = absurd (cc (rw (eq-eqb op op refl) at is))
 first_only op class.Other is = absurd (cc (rw (eq-eqb op op refl) at is))
 
-pub second_only : (op : ℕ) (branch : Class) → 1 ≤ class_number branch → same_place (Some (op, class.Other)) (Some (op, branch)) ≡ false → branch ≡ class.Abort
+pub second_only : (op : ℕ) (branch : Class) → 1 ≤ class_number branch →
+    same_place (Some (op, class.Other)) (Some (op, branch)) ≡ false → branch ≡ class.Abort
 second_only op class.Ok some is = absurd (omega arith)
 second_only op class.Abort some is = refl
 second_only op class.Other some is = absurd (same_place-false (Some (op, class.Other)) (Some (op, class.Other)) is refl)
@@ -104,13 +126,15 @@ number_of_branch : Place → ℕ
 number_of_branch None = 0
 number_of_branch (Some at) = class_number at.1
 
-same_number : (place : Place) (op : ℕ) (first second : Class) → place ≡ Some (op, first) → place ≡ Some (op, second) → class_number first ≤ class_number second
+same_number : (place : Place) (op : ℕ) (first second : Class) → place ≡ Some (op, first) → place ≡ Some (op, second) →
+    class_number first ≤ class_number second
 unfolding number_of_branch
 same_number place op first second is is' = omega (arith, ap number_of_branch is, ap number_of_branch is')
 
 module _ (script : ScriptModel) (order : IsInTextOrder script) where
   -- behind an act of an earlier place, what stands under an act from a number on stands under one from that act on
-  pub under_later : (low at n : ℕ) → IsEarlier low (parent_of script at) → at ≤ n → StandsUnder low (parent_of script n) → StandsUnder at (parent_of script n)
+  pub under_later : (low at n : ℕ) → IsEarlier low (parent_of script at) → at ≤ n →
+      StandsUnder low (parent_of script n) → StandsUnder at (parent_of script n)
   under_later low at n earlier le under = by_place (parent_of script n) refl under
     where
       no_earlier : (op : ℕ) (here : Place) → low ≤ op → IsEarlier low here → StandsUnder op here → ⊥
@@ -126,12 +150,18 @@ module _ (script : ScriptModel) (order : IsInTextOrder script) where
           by_test true test =
               let less : there.0 < at = grind (arith, nat_tests) in
               elim (same_or_above at n le) [
-                | inl same ↦ let here : IsEarlier low (Some there) = subst (IsEarlier low) (ap (parent_of script) (sym same) ∙ is) earlier in absurd (omega arith)
-                | inr above ↦ absurd (no_earlier there.0 (parent_of script at) under earlier (order.under there.0 at n there.1 less above is))
+                | inl same ↦
+                    let here : IsEarlier low (Some there) =
+                    subst (IsEarlier low) (ap (parent_of script) (sym same) ∙ is) earlier in
+                    absurd (omega arith)
+                | inr above ↦
+                    absurd (no_earlier there.0 (parent_of script at) under earlier
+                    (order.under there.0 at n there.1 less above is))
               ]
 
   -- later acts of one operation stand in branches that are no earlier
-  pub branch_later : (op at n : ℕ) (first second : Class) → at ≤ n → parent_of script at ≡ Some (op, first) → parent_of script n ≡ Some (op, second) → class_number first ≤ class_number second
+  pub branch_later : (op at n : ℕ) (first second : Class) → at ≤ n → parent_of script at ≡ Some (op, first) →
+      parent_of script n ≡ Some (op, second) → class_number first ≤ class_number second
   branch_later op at n first second le is is' =
       elim (same_or_above at n le) [
         | inl same ↦ same_number (parent_of script n) op first second (ap (parent_of script) same ∙ is) is'

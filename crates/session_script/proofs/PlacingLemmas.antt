@@ -14,9 +14,11 @@ use Rattle.session_script.proofs.ReadingBack.{spells}
 
 -- there are no more than either version allows
 acts_are_few : (script : ScriptModel) → IsScript (spelling_of script) script → length script.acts ≤ most_acts
-acts_are_few script is = omega (arith, (spells (spelling_of script) script is).limits.acts.count, acts_allowed script.version)
+acts_are_few script is =
+    omega (arith, (spells (spelling_of script) script is).limits.acts.count, acts_allowed script.version)
 
-pub entries_are_few : (parts : ScriptParts) → IsScript (spelling_of (model_of parts)) (model_of parts) → length parts.acts.items ≤ most_acts
+pub entries_are_few : (parts : ScriptParts) → IsScript (spelling_of (model_of parts)) (model_of parts) →
+    length parts.acts.items ≤ most_acts
 unfolding model_of
 entries_are_few parts is = omega (arith, acts_are_few (model_of parts) is, length-entries parts.acts.items)
 

@@ -11,18 +11,24 @@ use Rattle.session_script.proofs.Accepting.{Accepts, weaker_accepts, TakesWord, 
 pub record ReadsAs {A : Type 0} (r : Tokens → Result (A × Tokens) Refusal) (a : A) (ws rest : Words) : Type 0 where
   pub reads : (ts : Tokens) → words_of ts ≡ ws → (left : Tokens) × (words_of left ≡ rest) × (r ts ≡ Ok (a, left))
 
-pub by_accepts : {A : Type 0} {P : A → Words → Words → Type 0} {r : Tokens → Result (A × Tokens) Refusal} → Accepts P r → (a : A) (ws rest : Words) → P a ws rest → ReadsAs r a ws rest
-by_accepts {P = P} accepts a ws rest p = record { reads = λ ts is. accepts.accepts a ts rest (subst (λ now. P a now rest) (sym is) p) }
+pub by_accepts : {A : Type 0} {P : A → Words → Words → Type 0} {r : Tokens → Result (A × Tokens) Refusal} →
+    Accepts P r → (a : A) (ws rest : Words) → P a ws rest → ReadsAs r a ws rest
+by_accepts {P = P} accepts a ws rest p =
+    record { reads = λ ts is. accepts.accepts a ts rest (subst (λ now. P a now rest) (sym is) p) }
 
-pub accepts_by : {A : Type 0} (P : A → Words → Words → Type 0) {r : Tokens → Result (A × Tokens) Refusal} → ((a : A) (ws rest : Words) → P a ws rest → ReadsAs r a ws rest) → Accepts P r
+pub accepts_by : {A : Type 0} (P : A → Words → Words → Type 0) {r : Tokens → Result (A × Tokens) Refusal} →
+    ((a : A) (ws rest : Words) → P a ws rest → ReadsAs r a ws rest) → Accepts P r
 accepts_by P reading = record { accepts = λ a ts rest p. (reading a (words_of ts) rest p).reads ts refl }
 
 -- one word that a test takes as a value
-pub tested_accepts : {A : Type 0} (test : List ℕ → Result A Rule) (P : A → Words → Words → Type 0) → ((a : A) (ws rest : Words) → P a ws rest → TakesWord test a ws rest) → Accepts P (one test)
+pub tested_accepts : {A : Type 0} (test : List ℕ → Result A Rule) (P : A → Words → Words → Type 0) →
+    ((a : A) (ws rest : Words) → P a ws rest → TakesWord test a ws rest) → Accepts P (one test)
 tested_accepts test P passes = weaker_accepts (TakesWord test) P passes (one_accepts test)
 
 -- a part, and what comes after it
-pub then_reads_as : {A B : Type 0} {r : Tokens → Result (A × Tokens) Refusal} {a : A} {b : B} {ws mid rest : Words} (f : A → Tokens → Result (B × Tokens) Refusal) → ReadsAs r a ws mid → ReadsAs (f a) b mid rest → ReadsAs (r >>= f) b ws rest
+pub then_reads_as : {A B : Type 0} {r : Tokens → Result (A × Tokens) Refusal} {a : A} {b : B} {ws mid rest : Words}
+    (f : A → Tokens → Result (B × Tokens) Refusal) → ReadsAs r a ws mid → ReadsAs (f a) b mid rest →
+    ReadsAs (r >>= f) b ws rest
 then_reads_as f first next = record {
   reads = λ ts is.
       let x = first.reads ts is in
@@ -38,7 +44,8 @@ module _ {A : Type 0} (text : List ℕ) (value : A) (r : Tokens → Result (A ×
   abbrev pub if_begun : Tokens → Result (A × Tokens) Refusal
   if_begun ts = cond (begins text ts) (r ts) (Ok (value, ts))
 
-  pub begun_reads_as : (a : A) (ws rest : Words) → starts text ws ≡ true → ReadsAs r a ws rest → ReadsAs if_begun a ws rest
+  pub begun_reads_as : (a : A) (ws rest : Words) → starts text ws ≡ true → ReadsAs r a ws rest →
+      ReadsAs if_begun a ws rest
   begun_reads_as a ws rest begun reading = record {
     reads = λ ts is.
         let x = reading.reads ts is in

@@ -19,16 +19,23 @@ pub has_room : (most so_far : ℕ) → so_far < most → nat_le most so_far ≡ 
 has_room most so_far below = grind (arith, nat_tests)
 
 -- a turn appends one more, unless there are as many as the limit
-abbrev pub ReadsOneMore : {A : Type 0} → (A → Words → Words → Type 0) → ℕ → (List A → Tokens → Result (List A × Tokens) Refusal) → Type 0
-ReadsOneMore {A = A} P limit next = (so_far : List A) (x : A) (ws rest : Words) → length so_far < limit → P x ws rest → ReadsAs (next so_far) (so_far ++ x ∷ []) ws rest
+abbrev pub ReadsOneMore : {A : Type 0} → (A → Words → Words → Type 0) → ℕ →
+    (List A → Tokens → Result (List A × Tokens) Refusal) → Type 0
+ReadsOneMore {A = A} P limit next =
+    (so_far : List A) (x : A) (ws rest : Words) → length so_far < limit → P x ws rest →
+    ReadsAs (next so_far) (so_far ++ x ∷ []) ws rest
 
-module _ {A : Type 0} (P : A → Words → Words → Type 0) (goes : Words → Bool) (begins : (x : A) (ws rest : Words) → P x ws rest → goes ws ≡ true) (limit : ℕ) (next : List A → Tokens → Result (List A × Tokens) Refusal) (appends : ReadsOneMore P limit next) where
-  pub sequence_turns : (so_far xs : List A) (ws rest : Words) → length so_far + length xs ≤ limit → Sequence P xs ws rest → goes rest ≡ false → Turns goes (λ s. ReadsAs (next s)) so_far (so_far ++ xs) ws rest
+module _ {A : Type 0} (P : A → Words → Words → Type 0) (goes : Words → Bool)
+    (begins : (x : A) (ws rest : Words) → P x ws rest → goes ws ≡ true) (limit : ℕ)
+    (next : List A → Tokens → Result (List A × Tokens) Refusal) (appends : ReadsOneMore P limit next) where
+  pub sequence_turns : (so_far xs : List A) (ws rest : Words) → length so_far + length xs ≤ limit →
+      Sequence P xs ws rest → goes rest ≡ false → Turns goes (λ s. ReadsAs (next s)) so_far (so_far ++ xs) ws rest
   sequence_turns so_far [] ws rest fits is stops =
       subst (λ (now : Words). Turns goes (λ s. ReadsAs (next s)) so_far (so_far ++ []) now rest) (sym is)
-      (subst (λ (after : List A). Turns goes (λ s. ReadsAs (next s)) so_far after rest rest) (sym (append-nil so_far)) (over stops))
+      (subst (λ (after : List A). Turns goes (λ s. ReadsAs (next s)) so_far after rest rest) (sym (append-nil so_far))
+      (over stops))
   sequence_turns so_far (x ∷ xs) ws rest fits p stops =
       let one : length (so_far ++ x ∷ []) ≡ length so_far + 1 = length-append so_far (x ∷ []) in
       turn (so_far ++ x ∷ []) p.0 (begins x ws p.0 p.1) (appends so_far x ws p.0 (omega arith) p.1)
-      (subst (λ (after : List A). Turns goes (λ s. ReadsAs (next s)) (so_far ++ x ∷ []) after p.0 rest) (append_assoc so_far (x ∷ []) xs)
-      (sequence_turns (so_far ++ x ∷ []) xs p.0 rest (omega arith) p.2 stops))
+      (subst (λ (after : List A). Turns goes (λ s. ReadsAs (next s)) (so_far ++ x ∷ []) after p.0 rest)
+      (append_assoc so_far (x ∷ []) xs) (sequence_turns (so_far ++ x ∷ []) xs p.0 rest (omega arith) p.2 stops))

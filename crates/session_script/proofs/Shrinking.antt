@@ -24,9 +24,11 @@ below_more m n (Ok read) le h = omega arith
 below_more m n (Err refusal) le h = tt
 
 pub keeps_taking : {A : Type 0} {r : Tokens → Result (A × Tokens) Refusal} → Shrinks r → Keeps r
-keeps_taking {r = r} takes = record { below = λ n ts lt. below_more (token_count ts) n (r ts) (omega arith) (takes.below ts) }
+keeps_taking {r = r} takes =
+    record { below = λ n ts lt. below_more (token_count ts) n (r ts) (omega arith) (takes.below ts) }
 
-judged_below : {A : Type 0} (n : ℕ) (test : Result A Rule) (at : Position) (rest : Tokens) → token_count rest < n → Below n (judged test at rest)
+judged_below : {A : Type 0} (n : ℕ) (test : Result A Rule) (at : Position) (rest : Tokens) → token_count rest < n →
+    Below n (judged test at rest)
 judged_below n (Ok value) at rest lt = lt
 judged_below n (Err _) at rest lt = tt
 
@@ -37,23 +39,32 @@ one_below test (token bytes at rest) = judged_below (token_count rest + 1) (test
 pub one_takes : {A : Type 0} (test : List ℕ → Result A Rule) → Shrinks (one test)
 one_takes test = record { below = one_below test }
 
-and_then_below : {A B : Type 0} (n : ℕ) (r : Result (A × Tokens) Refusal) (f : A → Tokens → Result (B × Tokens) Refusal) → Below n r → ((a : A) → Keeps (f a)) → Below n (and_then r f)
+and_then_below : {A B : Type 0} (n : ℕ) (r : Result (A × Tokens) Refusal)
+    (f : A → Tokens → Result (B × Tokens) Refusal) → Below n r → ((a : A) → Keeps (f a)) → Below n (and_then r f)
 and_then_below n (Ok read) f below keeps = (keeps read.0).below n read.1 below
 and_then_below n (Err refusal) f below keeps = tt
 
 -- one reader and then another
-pub then_keeps : {A B : Type 0} {r : Tokens → Result (A × Tokens) Refusal} {f : A → Tokens → Result (B × Tokens) Refusal} → Keeps r → ((a : A) → Keeps (f a)) → Keeps (r >>= f)
-then_keeps {r = r} {f = f} first second = record { below = λ n ts lt. and_then_below n (r ts) f (first.below n ts lt) second }
+pub then_keeps : {A B : Type 0} {r : Tokens → Result (A × Tokens) Refusal}
+    {f : A → Tokens → Result (B × Tokens) Refusal} → Keeps r → ((a : A) → Keeps (f a)) → Keeps (r >>= f)
+then_keeps {r = r} {f = f} first second =
+    record { below = λ n ts lt. and_then_below n (r ts) f (first.below n ts lt) second }
 
-pub then_takes : {A B : Type 0} {r : Tokens → Result (A × Tokens) Refusal} {f : A → Tokens → Result (B × Tokens) Refusal} → Shrinks r → ((a : A) → Keeps (f a)) → Shrinks (r >>= f)
-then_takes {r = r} {f = f} first second = record { below = λ ts. and_then_below (token_count ts) (r ts) f (first.below ts) second }
+pub then_takes : {A B : Type 0} {r : Tokens → Result (A × Tokens) Refusal}
+    {f : A → Tokens → Result (B × Tokens) Refusal} → Shrinks r → ((a : A) → Keeps (f a)) → Shrinks (r >>= f)
+then_takes {r = r} {f = f} first second =
+    record { below = λ ts. and_then_below (token_count ts) (r ts) f (first.below ts) second }
 
-takes_second : {A B : Type 0} (n : ℕ) (r : Result (A × Tokens) Refusal) (f : A → Tokens → Result (B × Tokens) Refusal) → Below (n + 1) r → ((a : A) → Shrinks (f a)) → Below n (and_then r f)
-takes_second n (Ok read) f below takes = below_more (token_count read.1) n (f read.0 read.1) (omega arith) ((takes read.0).below read.1)
+takes_second : {A B : Type 0} (n : ℕ) (r : Result (A × Tokens) Refusal) (f : A → Tokens → Result (B × Tokens) Refusal) →
+    Below (n + 1) r → ((a : A) → Shrinks (f a)) → Below n (and_then r f)
+takes_second n (Ok read) f below takes =
+    below_more (token_count read.1) n (f read.0 read.1) (omega arith) ((takes read.0).below read.1)
 takes_second n (Err refusal) f below takes = tt
 
-pub keeps_then_takes : {A B : Type 0} {r : Tokens → Result (A × Tokens) Refusal} {f : A → Tokens → Result (B × Tokens) Refusal} → Keeps r → ((a : A) → Shrinks (f a)) → Shrinks (r >>= f)
-keeps_then_takes {r = r} {f = f} first second = record { below = λ ts. takes_second (token_count ts) (r ts) f (first.below (token_count ts + 1) ts (omega arith)) second }
+pub keeps_then_takes : {A B : Type 0} {r : Tokens → Result (A × Tokens) Refusal}
+    {f : A → Tokens → Result (B × Tokens) Refusal} → Keeps r → ((a : A) → Shrinks (f a)) → Shrinks (r >>= f)
+keeps_then_takes {r = r} {f = f} first second =
+    record { below = λ ts. takes_second (token_count ts) (r ts) f (first.below (token_count ts + 1) ts (omega arith)) second }
 
 pub done_keeps : {A : Type 0} (value : A) → Keeps (done value)
 done_keeps value = record { below = λ n ts lt. lt }
@@ -97,22 +108,36 @@ pub optional_keeps : (count : ℕ) → Keeps (optional count)
 optional_keeps count = keeps_taking (optional_takes count)
 
 -- a choice of two
-pub chosen_below : {A : Type 0} (n : ℕ) (test : Bool) (r s : Result (A × Tokens) Refusal) → Below n r → Below n s → Below n (cond test r s)
+pub chosen_below : {A : Type 0} (n : ℕ) (test : Bool) (r s : Result (A × Tokens) Refusal) → Below n r → Below n s →
+    Below n (cond test r s)
 chosen_below n true r s first second = first
 chosen_below n false r s first second = second
 
 -- a reader where a test of the tokens says so, and else a value
-pub if_keeps : {A : Type 0} {r : Tokens → Result (A × Tokens) Refusal} (test : Tokens → Bool) (value : A) → Keeps r → Keeps (λ ts. cond (test ts) (r ts) (Ok (value, ts)))
-if_keeps {r = r} test value keeps = record { below = λ n ts lt. chosen_below n (test ts) (r ts) (Ok (value, ts)) (keeps.below n ts lt) lt }
+pub if_keeps : {A : Type 0} {r : Tokens → Result (A × Tokens) Refusal} (test : Tokens → Bool) (value : A) → Keeps r →
+    Keeps (λ ts. cond (test ts) (r ts) (Ok (value, ts)))
+if_keeps {r = r} test value keeps =
+    record { below = λ n ts lt. chosen_below n (test ts) (r ts) (Ok (value, ts)) (keeps.below n ts lt) lt }
 
 -- a value where a test of the tokens says so, and else a reader
-pub else_keeps : {A : Type 0} {r : Tokens → Result (A × Tokens) Refusal} (test : Tokens → Bool) (value : A) → Keeps r → Keeps (λ ts. cond (test ts) (Ok (value, ts)) (r ts))
-else_keeps {r = r} test value keeps = record { below = λ n ts lt. chosen_below n (test ts) (Ok (value, ts)) (r ts) lt (keeps.below n ts lt) }
+pub else_keeps : {A : Type 0} {r : Tokens → Result (A × Tokens) Refusal} (test : Tokens → Bool) (value : A) → Keeps r →
+    Keeps (λ ts. cond (test ts) (Ok (value, ts)) (r ts))
+else_keeps {r = r} test value keeps =
+    record { below = λ n ts lt. chosen_below n (test ts) (Ok (value, ts)) (r ts) lt (keeps.below n ts lt) }
 
-many_below : {S : Type 0} (more : Tokens → Bool) (reader : S → Tokens → Result (S × Tokens) Refusal) → ((s : S) → Keeps (reader s)) → (fuel : ℕ) (s : S) → Keeps (many more reader fuel s)
+many_below : {S : Type 0} (more : Tokens → Bool) (reader : S → Tokens → Result (S × Tokens) Refusal) →
+    ((s : S) → Keeps (reader s)) → (fuel : ℕ) (s : S) → Keeps (many more reader fuel s)
 many_below more reader keeps zero s = record { below = λ n ts lt. lt }
-many_below more reader keeps (suc fuel) s = record { below = λ n ts lt. chosen_below n (more ts) (and_then (reader s ts) (many more reader fuel)) (Ok (s, ts)) (and_then_below n (reader s ts) (many more reader fuel) ((keeps s).below n ts lt) (many_below more reader keeps fuel)) lt }
+many_below more reader keeps (suc fuel) s =
+    record {
+      below = λ n ts lt.
+          chosen_below n (more ts) (and_then (reader s ts) (many more reader fuel)) (Ok (s, ts))
+          (and_then_below n (reader s ts) (many more reader fuel) ((keeps s).below n ts lt)
+          (many_below more reader keeps fuel)) lt;
+    }
 
-pub repeated_keeps : {S : Type 0} (more : Tokens → Bool) (reader : S → Tokens → Result (S × Tokens) Refusal) → ((s : S) → Keeps (reader s)) → (s : S) → Keeps (repeated more reader s)
+pub repeated_keeps : {S : Type 0} (more : Tokens → Bool) (reader : S → Tokens → Result (S × Tokens) Refusal) →
+    ((s : S) → Keeps (reader s)) → (s : S) → Keeps (repeated more reader s)
 unfolding repeated
-repeated_keeps more reader keeps s = record { below = λ n ts lt. (many_below more reader keeps (token_count ts) s).below n ts lt }
+repeated_keeps more reader keeps s =
+    record { below = λ n ts lt. (many_below more reader keeps (token_count ts) s).below n ts lt }

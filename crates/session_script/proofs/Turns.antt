@@ -26,7 +26,11 @@ happens_keeps h world.Room = then_keeps (bounded_keeps _ _) (λ room. done_keeps
 
 pub line_takes : (h : Header) (full : Bool) → Shrinks (world_line h full)
 unfolding world_line
-line_takes h full = then_takes (another_takes _ full) (λ _. then_keeps (bounded_keeps _ _) (λ time. then_keeps (one_keeps _) (λ happens. then_keeps (declared_keeps _) (λ stream. then_keeps (happens_keeps h happens) (λ what. done_keeps _)))))
+line_takes h full =
+    then_takes (another_takes _ full) (λ _.
+    then_keeps (bounded_keeps _ _) (λ time.
+    then_keeps (one_keeps _) (λ happens.
+    then_keeps (declared_keeps _) (λ stream. then_keeps (happens_keeps h happens) (λ what. done_keeps _)))))
 
 pub next_line_takes : (h : Header) (so_far : List Line) → Shrinks (next_world_line h so_far)
 unfolding next_world_line
@@ -38,7 +42,9 @@ restart_keeps full = if_keeps _ _ (then_keeps (another_keeps _ full) (λ _. done
 
 pub round_takes : (h : Header) (full : Bool) → Shrinks (round h full)
 unfolding round
-round_takes h full = keeps_then_takes (restart_keeps full) (λ restarted. then_takes (one_takes _) (λ pace. then_keeps (bounded_keeps _ _) (λ workers. done_keeps _)))
+round_takes h full =
+    keeps_then_takes (restart_keeps full)
+    (λ restarted. then_takes (one_takes _) (λ pace. then_keeps (bounded_keeps _ _) (λ workers. done_keeps _)))
 
 pub next_round_takes : (h : Header) (so_far : List Round) → Shrinks (next_round h so_far)
 unfolding next_round

@@ -72,11 +72,21 @@ module _ (h : Header) (more : Limits) (allows : Allows h.limits more) where
   fits_act (act.Cancel timer) f = f
   fits_act (act.CancelOne timer) f = f
   fits_act (act.Emit slot kinds) f = f
-  fits_act (act.ReadSome stream size strand slot filter) f = (f.0, size_allows h.limits.size more.size size allows.size f.1, f.2, f.3)
-  fits_act (act.ReadAll stream size strand slot filter) f = (f.0, size_allows h.limits.size more.size size allows.size f.1, f.2, f.3)
-  fits_act (act.Until stream delimiter max strand slot filter) f = (f.0, size_allows h.limits.delimiter more.delimiter (length delimiter) allows.delimiter f.1, size_allows h.limits.size more.size max allows.size f.2, f.3, f.4)
-  fits_act (act.WriteSome stream bytes strand slot filter) f = (f.0, size_allows h.limits.size more.size (length bytes) allows.size f.1, f.2, f.3)
-  fits_act (act.WriteAll stream bytes strand slot filter) f = (f.0, size_allows h.limits.size more.size (length bytes) allows.size f.1, f.2, f.3)
+  fits_act (act.ReadSome stream size strand slot filter) f =
+      (f.0, size_allows h.limits.size more.size size allows.size f.1, f.2, f.3)
+  fits_act (act.ReadAll stream size strand slot filter) f =
+      (f.0, size_allows h.limits.size more.size size allows.size f.1, f.2, f.3)
+  fits_act (act.Until stream delimiter max strand slot filter) f = (
+    f.0,
+    size_allows h.limits.delimiter more.delimiter (length delimiter) allows.delimiter f.1,
+    size_allows h.limits.size more.size max allows.size f.2,
+    f.3,
+    f.4,
+  )
+  fits_act (act.WriteSome stream bytes strand slot filter) f =
+      (f.0, size_allows h.limits.size more.size (length bytes) allows.size f.1, f.2, f.3)
+  fits_act (act.WriteAll stream bytes strand slot filter) f =
+      (f.0, size_allows h.limits.size more.size (length bytes) allows.size f.1, f.2, f.3)
   fits_act (act.Close stream) f = f
   fits_act (act.Release guard) f = f
   fits_act act.Stop f = f
@@ -96,14 +106,21 @@ module _ (h : Header) (more : Limits) (allows : Allows h.limits more) where
   unfolding wider
   fits_round round f = size_allows h.limits.workers more.workers round.workers allows.workers f
 
-  wider_nest : (acts : List Entry) (place : Place) → (depth : ℕ) × (depth ≤ h.limits.nesting) × IsNested acts place depth → (depth : ℕ) × (depth ≤ more.nesting) × IsNested acts place depth
+  wider_nest : (acts : List Entry) (place : Place) →
+      (depth : ℕ) × (depth ≤ h.limits.nesting) × IsNested acts place depth →
+      (depth : ℕ) × (depth ≤ more.nesting) × IsNested acts place depth
   wider_nest acts place nested = (nested.0, omega (arith, nested.1, allows.nesting), nested.2)
 
   is_forest : (acts : List Entry) → IsForest h acts → IsForest wider acts
   unfolding wider
   is_forest acts forest = record {
     count = omega (arith, forest.count, allows.acts);
-    placed = λ n entry there. record { fits = fits_act entry.act (forest.placed n entry there).fits; parent = (forest.placed n entry there).parent; nested = wider_nest acts entry.parent (forest.placed n entry there).nested };
+    placed = λ n entry there.
+        record {
+          fits = fits_act entry.act (forest.placed n entry there).fits;
+          parent = (forest.placed n entry there).parent;
+          nested = wider_nest acts entry.parent (forest.placed n entry there).nested;
+        };
   }
 
 -- a script of either version is well formed in version 2
@@ -120,10 +137,12 @@ upgraded_is_well_formed script is =
       guards = omega (arith, is.guards, allows.guards);
       acts = is_forest (header_of script) (limits_of 2) allows script.acts is.acts;
       line_count = omega (arith, is.line_count, allows.lines);
-      lines = λ k d lt. fits_line (header_of script) (limits_of 2) allows (get_or script.world.lines k d) (is.lines k d lt);
+      lines = λ k d lt.
+          fits_line (header_of script) (limits_of 2) allows (get_or script.world.lines k d) (is.lines k d lt);
       some_round = is.some_round;
       round_count = omega (arith, is.round_count, allows.rounds);
-      rounds = λ k d lt. fits_round (header_of script) (limits_of 2) allows (get_or script.rounds k d) (is.rounds k d lt);
+      rounds = λ k d lt.
+          fits_round (header_of script) (limits_of 2) allows (get_or script.rounds k d) (is.rounds k d lt);
       released = is.released;
     }
 

@@ -46,42 +46,67 @@ AreLines h ls = All (FitsLine h) ls × (length ls ≤ h.limits.lines)
 
 next_line_reads : (h : Header) (so_far : List Line) → AreLines h so_far → Reads (AreLines h) (next_world_line h so_far)
 unfolding next_world_line
-next_line_reads h so_far are = then_reads (line_reads h (nat_le h.limits.lines (length so_far))) (λ next fits. done_reads (All-push (FitsLine h) so_far next are.0 fits.0, omega (arith, length-append so_far (next ∷ []), is_below h.limits.lines (length so_far) fits.1)))
+next_line_reads h so_far are =
+    then_reads (line_reads h (nat_le h.limits.lines (length so_far))) (λ next fits.
+    done_reads (
+      All-push (FitsLine h) so_far next are.0 fits.0,
+      omega (arith, length-append so_far (next ∷ []), is_below h.limits.lines (length so_far) fits.1),
+    ))
 
 lines_reads : (h : Header) → Reads (AreLines h) (world_lines h)
 unfolding world_lines
-lines_reads h = repeated_reads (AreLines h) (begins (codes "at")) (next_world_line h) (next_line_reads h) [] ((λ k d lt. absurd (omega arith)), omega arith)
+lines_reads h =
+    repeated_reads (AreLines h) (begins (codes "at")) (next_world_line h) (next_line_reads h) []
+    ((λ k d lt. absurd (omega arith)), omega arith)
 
-pace_passes : (full : Bool) (pace : Pace) (violated : Rule) → Passes (λ p. full ≡ false) (cond full (Err violated) (Ok pace))
+pace_passes : (full : Bool) (pace : Pace) (violated : Rule) →
+    Passes (λ p. full ≡ false) (cond full (Err violated) (Ok pace))
 pace_passes true pace violated = tt
 pace_passes false pace violated = refl
 
-choice_passes : {A : Type 0} (P : A → Type 0) (test : Bool) (r s : Result A Rule) → Passes P r → Passes P s → Passes P (cond test r s)
+choice_passes : {A : Type 0} (P : A → Type 0) (test : Bool) (r s : Result A Rule) → Passes P r → Passes P s →
+    Passes P (cond test r s)
 choice_passes P true r s first second = first
 choice_passes P false r s first second = second
 
 pace_reads : (full : Bool) → Reads (λ p. full ≡ false) (one (pace_word full))
 unfolding pace_word
-pace_reads full = one_reads (pace_word full) (λ bs. choice_passes (λ p. full ≡ false) (bytes_eq bs (codes "run")) _ _ (pace_passes full _ _) (choice_passes (λ p. full ≡ false) (bytes_eq bs (codes "poll")) _ _ (pace_passes full _ _) tt))
+pace_reads full =
+    one_reads (pace_word full) (λ bs.
+    choice_passes (λ p. full ≡ false) (bytes_eq bs (codes "run")) _ _ (pace_passes full _ _)
+    (choice_passes (λ p. full ≡ false) (bytes_eq bs (codes "poll")) _ _ (pace_passes full _ _) tt))
 
 round_reads : (h : Header) (full : Bool) → Reads (λ r. FitsRound h r × (full ≡ false)) (round h full)
 unfolding round
-round_reads h full = then_reads (any_reads (restart full)) (λ restarted _. then_reads (pace_reads full) (λ pace free. then_reads (bounded_reads 1 h.limits.workers) (λ workers is_size. done_reads (is_size, free))))
+round_reads h full =
+    then_reads (any_reads (restart full)) (λ restarted _.
+    then_reads (pace_reads full)
+    (λ pace free. then_reads (bounded_reads 1 h.limits.workers) (λ workers is_size. done_reads (is_size, free))))
 
 abbrev AreRounds : Header → List Round → Type 0
 AreRounds h rs = All (FitsRound h) rs × (1 ≤ length rs) × (length rs ≤ h.limits.rounds)
 
 next_round_reads : (h : Header) (so_far : List Round) → AreRounds h so_far → Reads (AreRounds h) (next_round h so_far)
 unfolding next_round
-next_round_reads h so_far are = then_reads (round_reads h (nat_le h.limits.rounds (length so_far))) (λ next fits. done_reads (All-push (FitsRound h) so_far next are.0 fits.0, omega (arith, length-append so_far (next ∷ [])), omega (arith, length-append so_far (next ∷ []), is_below h.limits.rounds (length so_far) fits.1)))
+next_round_reads h so_far are =
+    then_reads (round_reads h (nat_le h.limits.rounds (length so_far))) (λ next fits.
+    done_reads (
+      All-push (FitsRound h) so_far next are.0 fits.0,
+      omega (arith, length-append so_far (next ∷ [])),
+      omega (arith, length-append so_far (next ∷ []), is_below h.limits.rounds (length so_far) fits.1),
+    ))
 
 rounds_reads : (h : Header) → 1 ≤ h.limits.rounds → Reads (AreRounds h) (session_rounds h)
 unfolding session_rounds
-rounds_reads h some = then_reads (round_reads h false) (λ first fits. repeated_reads (AreRounds h) begins_round (next_round h) (next_round_reads h) (first ∷ []) (All-push (FitsRound h) [] first (λ k d lt. absurd (omega arith)) fits.0, omega arith, some))
+rounds_reads h some =
+    then_reads (round_reads h false) (λ first fits.
+    repeated_reads (AreRounds h) begins_round (next_round h) (next_round_reads h) (first ∷ [])
+    (All-push (FitsRound h) [] first (λ k d lt. absurd (omega arith)) fits.0, omega arith, some))
 
 count_reads : (text : List ℕ) (most : ℕ) → Reads (λ n. n ≤ most) (count text most)
 unfolding count
-count_reads text most = if_reads {P = λ n. n ≤ most} (begins text) 0 (omega arith) (then_reads (any_reads (word text)) (λ _ _. time_reads most))
+count_reads text most =
+    if_reads {P = λ n. n ≤ most} (begins text) 0 (omega arith) (then_reads (any_reads (word text)) (λ _ _. time_reads most))
 
 -- what the reader of declarations gives
 record Declares (h : Header) : Type 0 where
@@ -113,18 +138,31 @@ rounds_allowed : (v : ℕ) → 1 ≤ (limits_of v).rounds
 unfolding limits_of
 rounds_allowed v = some_rounds (nat_eq v 1)
 
-released_holds : (b : Bool) (ts : Tokens) (refusal : Refusal) → Holds {A = Unit {0}} (λ u. b ≡ true) (cond b (Ok (tt, ts)) (Err refusal))
+released_holds : (b : Bool) (ts : Tokens) (refusal : Refusal) →
+    Holds {A = Unit {0}} (λ u. b ≡ true) (cond b (Ok (tt, ts)) (Err refusal))
 released_holds true ts refusal = refl
 released_holds false ts refusal = tt
 
-end_holds : (guards : ℕ) (acts : List Entry) (ts : Tokens) → Holds (λ u. are_released guards acts ≡ true) (ends guards acts ts)
+end_holds : (guards : ℕ) (acts : List Entry) (ts : Tokens) →
+    Holds (λ u. are_released guards acts ≡ true) (ends guards acts ts)
 end_holds guards acts (end at) = released_holds (are_released guards acts) (end at) _
 end_holds guards acts (token bs at rest) = tt
 
 -- all parts of a script together
-module _ (head : Header) (declares : Declares head) (lines : List Line) (are_lines : AreLines head lines) (acts : List Entry) (forest : IsForest head acts) (rounds : List Round) (are_rounds : AreRounds head rounds) (released : are_released head.guards acts ≡ true) where
+module _ (head : Header) (declares : Declares head) (lines : List Line) (are_lines : AreLines head lines)
+    (acts : List Entry) (forest : IsForest head acts) (rounds : List Round) (are_rounds : AreRounds head rounds)
+    (released : are_released head.guards acts ≡ true) where
   all_of_it : ScriptModel
-  all_of_it = record { version = head.version; strands = head.strands; timers = head.timers; slots = head.slots; guards = head.guards; acts = acts; world = record { streams = head.streams; lines = lines }; rounds = rounds }
+  all_of_it = record {
+    version = head.version;
+    strands = head.strands;
+    timers = head.timers;
+    slots = head.slots;
+    guards = head.guards;
+    acts = acts;
+    world = record { streams = head.streams; lines = lines };
+    rounds = rounds;
+  }
 
   same_header : head ≡ header_of all_of_it
   unfolding all_of_it
@@ -168,4 +206,5 @@ holds_told (Err refusal) p = tt
 
 -- a script is well formed
 pub script_is_well_formed : (bytes : List ℕ) (model : ScriptModel) → IsScript bytes model → IsWellFormed model
-script_is_well_formed bytes model is = script_has IsWellFormed bytes model (holds_told (script (tokens_of bytes)) (script_reads.holds (tokens_of bytes))) is
+script_is_well_formed bytes model is =
+    script_has IsWellFormed bytes model (holds_told (script (tokens_of bytes)) (script_reads.holds (tokens_of bytes))) is

@@ -34,7 +34,8 @@ unfolding number is_number
 decimal_is_numeral n small =
     let some : not (length (decimal n) == 0) ≡ true = is_some (length (decimal n)) (decimal_nonempty n small) in
     let digits : list_all is_digit (decimal n) ≡ true = digits_decimal decimal_model n small in
-    let leads : (nat_lt 1 (length (decimal n)) && (slice_index (decimal n) 0 == 48)) ≡ false = no_zero_leads (slice_index (decimal n) 0) (length (decimal n)) (zero_or_more n small) in
+    let leads : (nat_lt 1 (length (decimal n)) && (slice_index (decimal n) 0 == 48)) ≡ false =
+    no_zero_leads (slice_index (decimal n) 0) (length (decimal n)) (zero_or_more n small) in
     let value : decimal_from 0 (decimal n) ≡ n = digits_value-decimal decimal_model n small in
     rw (some, digits, leads, value, is_small n (2 ^ 64) small) refl
 
@@ -51,14 +52,22 @@ digit_of-is_hexadecimal d lt = grind (arith, nat_tests)
 byte_of_halves : (b high low : ℕ) → high ≡ b / 16 → low ≡ b % 16 → 16 * high + low ≡ b
 byte_of_halves b high low e f = omega arith
 
-encoded_digits : (bytes : List ℕ) → AllByRecursion (λ b. b < 2 ^ 8) bytes → list_all is_hexadecimal (encoded bytes) ≡ true
+encoded_digits : (bytes : List ℕ) → AllByRecursion (λ b. b < 2 ^ 8) bytes →
+    list_all is_hexadecimal (encoded bytes) ≡ true
 encoded_digits [] are = refl
-encoded_digits (b ∷ bytes) are = rw (digit_of-is_hexadecimal (b / 16) (omega (arith, are.0)), digit_of-is_hexadecimal (b % 16) (omega arith)) (encoded_digits bytes are.1)
+encoded_digits (b ∷ bytes) are =
+    rw (digit_of-is_hexadecimal (b / 16) (omega (arith, are.0)), digit_of-is_hexadecimal (b % 16) (omega arith))
+    (encoded_digits bytes are.1)
 
 decoded_encoded : (bytes : List ℕ) → AllByRecursion (λ b. b < 2 ^ 8) bytes → decoded (encoded bytes) ≡ bytes
 decoded_encoded [] are = refl
 decoded_encoded (b ∷ bytes) are =
-    rw (hexadecimal-digit_of (b / 16) (omega (arith, are.0)), hexadecimal-digit_of (b % 16) (omega arith), decoded_encoded bytes are.1, byte_of_halves b (b / 16) (b % 16) refl refl) refl
+    rw (
+      hexadecimal-digit_of (b / 16) (omega (arith, are.0)),
+      hexadecimal-digit_of (b % 16) (omega arith),
+      decoded_encoded bytes are.1,
+      byte_of_halves b (b / 16) (b % 16) refl refl,
+    ) refl
 
 -- bytes are those of the digits that they are written as
 pub decoded-encoded : (bytes : List ℕ) → AreBytes bytes → decoded (encoded bytes) ≡ bytes
@@ -71,10 +80,14 @@ fits : (size bytes : ℕ) → size ≡ 2 * bytes → nat_le (suc size / 2) bytes
 fits size bytes e = grind (arith, nat_tests)
 
 -- the text of bytes is their DATA
-pub data_text_is_data : (bytes : List ℕ) → 1 ≤ length bytes → AreBytes bytes → data_digits (length bytes) (data_text bytes) ≡ Ok (encoded bytes)
+pub data_text_is_data : (bytes : List ℕ) → 1 ≤ length bytes → AreBytes bytes →
+    data_digits (length bytes) (data_text bytes) ≡ Ok (encoded bytes)
 unfolding data_digits is_data
 data_text_is_data bytes some are =
-    let long : (nat_le 3 (length (data_text bytes)) && (length (data_text bytes) % 2 == 1)) ≡ true = three_long (length (encoded bytes)) (length bytes) (length-encoded bytes) some in
-    let digits : list_all is_hexadecimal (encoded bytes) ≡ true = encoded_digits bytes (recursion_from_All (λ b. b < 2 ^ 8) bytes are) in
-    let short : nat_le (length (data_text bytes) / 2) (length bytes) ≡ true = fits (length (encoded bytes)) (length bytes) (length-encoded bytes) in
+    let long : (nat_le 3 (length (data_text bytes)) && (length (data_text bytes) % 2 == 1)) ≡ true =
+    three_long (length (encoded bytes)) (length bytes) (length-encoded bytes) some in
+    let digits : list_all is_hexadecimal (encoded bytes) ≡ true =
+    encoded_digits bytes (recursion_from_All (λ b. b < 2 ^ 8) bytes are) in
+    let short : nat_le (length (data_text bytes) / 2) (length bytes) ≡ true =
+    fits (length (encoded bytes)) (length bytes) (length-encoded bytes) in
     rw (long, digits, short) refl

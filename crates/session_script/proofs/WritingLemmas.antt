@@ -25,18 +25,22 @@ version_is_small : (version : ℕ) → (version ≡ 1) ⊎ (version ≡ 2) → v
 version_is_small version (inl one) = omega arith
 version_is_small version (inr two) = omega arith
 
-body_has_text : (script : ScriptModel) → IsWellFormed script → IsWritable script → HasText (IsBodyText script.version (limits_of script.version).nesting None [] script.acts)
+body_has_text : (script : ScriptModel) → IsWellFormed script → IsWritable script →
+    HasText (IsBodyText script.version (limits_of script.version).nesting None [] script.acts)
 body_has_text script well writable =
     let nesting = (limits_of script.version).nesting in
     let is : suc (nesting - 1) ≡ nesting = omega (arith, nesting_is script.version) in
-    subst (λ (levels : ℕ). HasText (IsBodyText script.version levels None [] script.acts)) is (opening_has_text script well writable (nesting - 1) (omega (arith, nesting_is script.version)))
+    subst (λ (levels : ℕ). HasText (IsBodyText script.version levels None [] script.acts)) is
+    (opening_has_text script well writable (nesting - 1) (omega (arith, nesting_is script.version)))
 
-script_has_text : (script : ScriptModel) → IsWellFormed script → IsWritable script → (ws : Words) × IsScriptText script ws
+script_has_text : (script : ScriptModel) → IsWellFormed script → IsWritable script →
+    (ws : Words) × IsScriptText script ws
 script_has_text script well writable =
     let small = header_is_small script well in
     let rounds = (rounds_have_text (header_of script) small script.rounds well.rounds).text [] in
     let body = (body_has_text script well writable).text rounds.0 in
-    let lines = (lines_have_text (header_of script) small script.world.lines well.lines writable.fed).text (codes "open" ∷ body.0) in
+    let lines =
+    (lines_have_text (header_of script) small script.world.lines well.lines writable.fed).text (codes "open" ∷ body.0) in
     let decls = (declarations_have_text script small).text lines.0 in
     let version = (number_has_text script.version (version_is_small script.version well.version)).text decls.0 in (
       codes "session" ∷ version.0,
@@ -58,7 +62,8 @@ script_has_text script well writable =
       },
     )
 
-pub writable_is_script : (script : ScriptModel) → IsWellFormed script → IsWritable script → IsScript (spelling_of script) script
+pub writable_is_script : (script : ScriptModel) → IsWellFormed script → IsWritable script →
+    IsScript (spelling_of script) script
 writable_is_script script well writable =
     let found = script_has_text script well writable in
     canonical_is_read script found.0 found.1 well writable.size

@@ -56,7 +56,8 @@ or_else None other = other
 
 -- the words that begin an act
 unfoldable pub act_word_of : ℕ → List ℕ → Option ActWord
-act_word_of version bytes = or_else (context_word bytes) (or_else (timer_word version bytes) (stream_word bytes))
+act_word_of version bytes =
+    or_else (context_word bytes) (or_else (timer_word version bytes) (stream_word bytes))
 
 -- an act word, while there is room for one more act
 abbrev pub while_room : Bool → List ℕ → Option ActWord → Result ActWord Rule
@@ -150,28 +151,35 @@ abbrev pub BodyReader : Type 0
 BodyReader = Place → List Entry → Tokens → Result (List Entry × Tokens) Refusal
 
 -- a body after its word, if the word is there
-unfoldable pub branch : List ℕ → BodyReader → Place → List Entry → Tokens → Result (List Entry × Tokens) Refusal
-branch text body place entries tokens = if begins text tokens then (word text >>= λ _. body place entries) tokens else Ok (entries, tokens)
+unfoldable pub branch : List ℕ → BodyReader → Place → List Entry → Tokens →
+    Result (List Entry × Tokens) Refusal
+branch text body place entries tokens =
+    if begins text tokens then (word text >>= λ _. body place entries) tokens
+    else Ok (entries, tokens)
 
 -- bodies = body ("abort" body)? ("other" body)?
-unfoldable pub branches : BodyReader → ℕ → List Entry → Tokens → Result (List Entry × Tokens) Refusal
+unfoldable pub branches : BodyReader → ℕ → List Entry → Tokens →
+    Result (List Entry × Tokens) Refusal
 branches body op entries = do
   after_ok ← body (Some (op, class.Ok)) entries
   after_abort ← branch (codes "abort") body (Some (op, class.Abort)) after_ok
   branch (codes "other") body (Some (op, class.Other)) after_abort
 
 -- the bodies of an operation
-abbrev pub bodies_after : BodyReader → ℕ → Bodies → List Entry → Tokens → Result (List Entry × Tokens) Refusal
+abbrev pub bodies_after : BodyReader → ℕ → Bodies → List Entry → Tokens →
+    Result (List Entry × Tokens) Refusal
 bodies_after body op bodies.Nothing = done
 bodies_after body op bodies.Posting = body (Some (op, class.Ok))
 bodies_after body op bodies.Operation = branches body op
 
 -- an act with its bodies; its number is how many acts stand before it
-unfoldable pub entry : Header → BodyReader → Place → List Entry → Tokens → Result (List Entry × Tokens) Refusal
+unfoldable pub entry : Header → BodyReader → Place → List Entry → Tokens →
+    Result (List Entry × Tokens) Refusal
 entry h body place entries = do
   begun ← one (act_word h.version (nat_le h.limits.acts (length entries)))
   made ← fields h begun
-  bodies_after body (length entries) (bodies_of made) (entries ++ record { act = made; parent = place } ∷ [])
+  bodies_after body (length entries) (bodies_of made)
+      (entries ++ record { act = made; parent = place } ∷ [])
 
 -- "{" act* "}", with a reader of the bodies in it
 unfoldable pub braced : Header → Bool → BodyReader → BodyReader
@@ -181,7 +189,8 @@ braced h full inner place entries = do
   _ ← word (codes "}")
   done filled
 
--- body = "{" act* "}", where so many levels are left, this one among them; with none left the brace is refused
+-- body = "{" act* "}", where so many levels are left, this one among them; with none left the brace
+-- is refused
 unfoldable pub body : Header → ℕ → BodyReader
 body h zero = braced h true (λ place entries. done entries)
 body h (suc levels) = braced h false (body h levels)

@@ -29,7 +29,8 @@ are_released (suc guard) entries = is_released guard entries && are_released gua
 
 -- the end of the text
 abbrev pub ends : ℕ → List Entry → Tokens → Result (Unit × Tokens) Refusal
-ends guards entries (end at) = if are_released guards entries then Ok (tt, end at) else Err (refused rule.Guard at)
+ends guards entries (end at) =
+    if are_released guards entries then Ok (tt, end at) else Err (refused rule.Guard at)
 ends guards entries (token bytes at rest) = Err (refused (misplaced bytes) at)
 
 -- script = "session" ("1" | "2") decls line* "open" body round+
@@ -41,7 +42,16 @@ script = do
   acts ← body head head.limits.nesting None []
   rounds ← session_rounds head
   _ ← ends head.guards acts
-  done (record { version = head.version; strands = head.strands; timers = head.timers; slots = head.slots; guards = head.guards; acts = acts; world = record { streams = head.streams; lines = lines }; rounds = rounds })
+  done (record {
+    version = head.version;
+    strands = head.strands;
+    timers = head.timers;
+    slots = head.slots;
+    guards = head.guards;
+    acts = acts;
+    world = record { streams = head.streams; lines = lines };
+    rounds = rounds;
+  })
 
 -- a byte that may stand in a script: a printable one, a space, TAB, LF or CR
 unfoldable pub is_text : ℕ → Bool
@@ -58,8 +68,10 @@ whole (Err refusal) = Err refusal
 -- what the bytes say, or their first fault
 unfoldable pub reading : List ℕ → Result ScriptModel Refusal
 reading bytes =
-    if nat_lt most_bytes (length bytes) then Err (record { rule = rule.TooLong; line = 0; token = 0 })
-    else (if nat_lt (text_len bytes) (length bytes) then Err (refused rule.NotText (end_of (tokens_of (take (text_len bytes) bytes))))
+    if nat_lt most_bytes (length bytes)
+    then Err (record { rule = rule.TooLong; line = 0; token = 0 })
+    else (if nat_lt (text_len bytes) (length bytes)
+    then Err (refused rule.NotText (end_of (tokens_of (take (text_len bytes) bytes))))
     else whole (script (tokens_of bytes)))
 
 -- the bytes are a text of this script

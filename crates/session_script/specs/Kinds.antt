@@ -1,5 +1,6 @@
--- The kinds of tokens, and what each place of the grammar wants of one. A test gives what the token says, or the first
--- rule that it breaks: a token of no kind, another kind or word, then the number itself, then what it names or exceeds.
+-- The kinds of tokens, and what each place of the grammar wants of one. A test gives what the token
+-- says, or the first rule that it breaks: a token of no kind, another kind or word, then the number
+-- itself, then what it names or exceeds.
 use Rattle.std.specs.Prelude.{ℕ, ◌+◌, ◌-◌, ◌*◌, ◌/◌, ◌%◌, ◌^◌, Bool, not, ◌&&◌, ◌||◌, ◌==◌, nat_lt, nat_le, List, [], ◌∷◌, length, drop, Option, Some, None, Result, Ok, Err, if◌then◌else◌, slice_index}
 use Rattle.std.specs.List.{list_all}
 use Rattle.std.specs.Str.{bytes_eq}
@@ -29,15 +30,20 @@ is_number bytes = not (length bytes == 0) && list_all is_digit bytes
 
 -- `x` and an even, positive number of hexadecimal digits
 unfoldable pub is_data : List ℕ → Bool
-is_data bytes = nat_le 3 (length bytes) && (length bytes % 2 == 1) && (slice_index bytes 0 == 120) && list_all is_hexadecimal (drop 1 bytes)
+is_data bytes =
+    nat_le 3 (length bytes) && (length bytes % 2 == 1) && (slice_index bytes 0 == 120)
+    && list_all is_hexadecimal (drop 1 bytes)
 
 -- `{`, `}` or `-`
 abbrev pub is_mark : List ℕ → Bool
-is_mark bytes = bytes_eq bytes (codes "{") || bytes_eq bytes (codes "}") || bytes_eq bytes (codes "-")
+is_mark bytes =
+    bytes_eq bytes (codes "{") || bytes_eq bytes (codes "}") || bytes_eq bytes (codes "-")
 
 -- what a token breaks that isn't of the kind, or isn't the word, that the grammar wants there
 unfoldable pub misplaced : List ℕ → Rule
-misplaced bytes = if is_word bytes || is_number bytes || is_data bytes || is_mark bytes then rule.Shape else rule.Token
+misplaced bytes =
+    if is_word bytes || is_number bytes || is_data bytes || is_mark bytes then rule.Shape
+    else rule.Token
 
 infixl 10 ◌>>=◌
 abbrev pub ◌>>=◌ : {A B : Type 0} → Result A Rule → (A → Result B Rule) → Result B Rule
@@ -80,7 +86,8 @@ known count bytes = do
 
 -- `-`, or such a number
 unfoldable pub chosen : ℕ → List ℕ → Result (Option ℕ) Rule
-chosen count bytes = if bytes_eq bytes (codes "-") then Ok None else (known count bytes >>= λ value. Ok (Some value))
+chosen count bytes =
+    if bytes_eq bytes (codes "-") then Ok None else (known count bytes >>= λ value. Ok (Some value))
 
 -- `1` or `2`
 unfoldable pub version : List ℕ → Result ℕ Rule
@@ -90,7 +97,9 @@ version bytes = do
 
 -- the digits of DATA of so many bytes at most
 unfoldable pub data_digits : ℕ → List ℕ → Result (List ℕ) Rule
-data_digits most bytes = if not (is_data bytes) then Err (misplaced bytes) else (if nat_le (length bytes / 2) most then Ok (drop 1 bytes) else Err rule.Limit)
+data_digits most bytes =
+    if not (is_data bytes) then Err (misplaced bytes)
+    else (if nat_le (length bytes / 2) most then Ok (drop 1 bytes) else Err rule.Limit)
 
 -- the value of a hexadecimal digit
 abbrev pub hexadecimal : ℕ → ℕ

@@ -1,5 +1,5 @@
--- The lane of each act, and which dispatches execute inside their call (Asio reference, Overview, "Strands: Use Threads
--- Without Explicit Locking"; `asio::dispatch`).
+-- The lane of each act, and which dispatches execute inside their call (Asio reference, Overview,
+-- "Strands: Use Threads Without Explicit Locking"; `asio::dispatch`).
 use Rattle.std.specs.Prelude.{ℕ, Bool, true, false, ◌==◌, List, [], ◌∷◌, ◌++◌, length, Option, Some, None, slice_get, slice_index_or, if◌then◌else◌}
 use Rattle.asio_types.specs.declared.number.Lane.{Lane}
 use Rattle.asio_types.specs.declared.number.Lane.TheVariants as lane
@@ -31,7 +31,8 @@ is_strand strand (lane.Strand other) = other == strand
 is_strand strand (lane.Own op) = false
 is_strand strand lane.Reactor = false
 
--- a dispatch by a handler executes inside its call where it names no strand, or the one on which the handler executes
+-- a dispatch by a handler executes inside its call where it names no strand, or the one on which
+-- the handler executes
 abbrev pub is_inside : Option Lane → Act → Bool
 is_inside (Some caller) (act.Dispatch None) = true
 is_inside (Some caller) (act.Dispatch (Some strand)) = is_strand strand caller
@@ -47,7 +48,8 @@ abbrev pub place_lane : ℕ → Option ℕ → Lane
 place_lane n None = lane.Own n
 place_lane n (Some strand) = lane.Strand strand
 
--- the lane of act n: that of its caller inside its call and for a stop, and the reactor for a control act
+-- the lane of act n: that of its caller inside its call and for a stop, and the reactor for a
+-- control act
 abbrev pub lane_in : Option Lane → ℕ → Act → Lane
 lane_in caller n act =
     if is_inside caller act then lane_or_reactor caller
@@ -57,7 +59,9 @@ lane_in caller n act =
 -- the lanes of further acts after those of all acts before them
 abbrev pub lanes_after : List Lane → List Entry → List Lane
 lanes_after lanes [] = lanes
-lanes_after lanes (entry ∷ entries) = lanes_after (lanes ++ lane_in (caller_lane lanes entry.parent) (length lanes) entry.act ∷ []) entries
+lanes_after lanes (entry ∷ entries) =
+    lanes_after (lanes ++ lane_in (caller_lane lanes entry.parent) (length lanes) entry.act ∷ [])
+    entries
 
 -- the lanes of all acts
 abbrev pub lanes_of : ScriptModel → List Lane

@@ -8,4 +8,6 @@ use Rattle.session_script.specs.Groups.{class_number}
 pub record HoldsPlaces (acts : List Entry) (groups : List (List ℕ)) : Type 0 where
   pub count : length groups ≡ 3 * length acts + 2
   pub opening : slice_index_or groups 0 [] ≡ numbers_in None 0 acts
-  pub branches : (op : ℕ) (class : Class) → op < length acts → slice_index_or groups (1 + 3 * op + class_number class) [] ≡ numbers_in (Some (op, class)) 0 acts
+  pub branches : (op : ℕ) (class : Class) → op < length acts →
+      slice_index_or groups (1 + 3 * op + class_number class) []
+      ≡ numbers_in (Some (op, class)) 0 acts

@@ -27,12 +27,14 @@ Takes (Ok next) rest before = before ≡ token next.bytes.now next.at rest
 Takes (Err missing) rest before = Misses before missing
 
 -- an answer, and the tokens after it, are what reading gives, unless memory ran out
-abbrev pub Gives : {X Y : Type 0} → (X → Y) → Result X ScriptFault → Tokens → Result (Y × Tokens) Refusal → Type 0
+abbrev pub Gives : {X Y : Type 0} → (X → Y) → Result X ScriptFault → Tokens →
+    Result (Y × Tokens) Refusal → Type 0
 Gives view (Ok value) rest read = read ≡ Ok (view value, rest)
 Gives view (Err missing) rest read = Fails missing read
 
 -- the same, for what was appended to
-abbrev pub Leaves : {Y : Type 0} → Result (Unit {0}) ScriptFault → Y → Tokens → Result (Y × Tokens) Refusal → Type 0
+abbrev pub Leaves : {Y : Type 0} → Result (Unit {0}) ScriptFault → Y → Tokens →
+    Result (Y × Tokens) Refusal → Type 0
 Leaves (Ok value) left rest read = read ≡ Ok (left, rest)
 Leaves (Err missing) left rest read = Fails missing read
 
@@ -55,4 +57,13 @@ entries_of entries = map entry_of entries
 
 -- the model of what was read
 unfoldable pub model_of : ScriptParts → script.ScriptModel
-model_of parts = record { version = parts.version; strands = parts.strands; timers = parts.timers; slots = parts.slots; guards = parts.guards; acts = entries_of parts.acts.items; world = parts.world; rounds = parts.rounds.items }
+model_of parts = record {
+  version = parts.version;
+  strands = parts.strands;
+  timers = parts.timers;
+  slots = parts.slots;
+  guards = parts.guards;
+  acts = entries_of parts.acts.items;
+  world = parts.world;
+  rounds = parts.rounds.items;
+}

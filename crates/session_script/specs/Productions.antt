@@ -1,5 +1,5 @@
--- The productions of the grammar as readers: each takes its tokens from the left, and gives what they say and the tokens
--- after them, or the refusal at the first token that breaks a rule.
+-- The productions of the grammar as readers: each takes its tokens from the left, and gives what
+-- they say and the tokens after them, or the refusal at the first token that breaks a rule.
 use Rattle.std.specs.Prelude.{ℕ, zero, suc, Bool, true, false, not, ◌||◌, ◌==◌, nat_le, List, [], ◌∷◌, ◌++◌, length, Option, Result, Ok, Err, if◌then◌else◌, is_none}
 use Rattle.std.specs.Str.{bytes_eq}
 use lib.Chars.{codes}
@@ -23,12 +23,14 @@ abbrev pub refused : Rule → Position → Refusal
 refused violated at = record { rule = violated; line = at.line; token = at.token }
 
 -- then read on
-abbrev pub and_then : {A B : Type 0} → Result (A × Tokens) Refusal → (A → Tokens → Result (B × Tokens) Refusal) → Result (B × Tokens) Refusal
+abbrev pub and_then : {A B : Type 0} → Result (A × Tokens) Refusal →
+    (A → Tokens → Result (B × Tokens) Refusal) → Result (B × Tokens) Refusal
 and_then (Ok read) f = f read.0 read.1
 and_then (Err refusal) f = Err refusal
 
 infixl 10 ◌>>=◌
-abbrev pub ◌>>=◌ : {A B : Type 0} → (Tokens → Result (A × Tokens) Refusal) → (A → Tokens → Result (B × Tokens) Refusal) → Tokens → Result (B × Tokens) Refusal
+abbrev pub ◌>>=◌ : {A B : Type 0} → (Tokens → Result (A × Tokens) Refusal) →
+    (A → Tokens → Result (B × Tokens) Refusal) → Tokens → Result (B × Tokens) Refusal
 (r >>= f) tokens = and_then (r tokens) f
 
 -- nothing more is read
@@ -45,12 +47,16 @@ one test (end at) = Err (refused rule.Shape at)
 one test (token bytes at rest) = judged (test bytes) at rest
 
 -- one after the other, as long as one more begins
-abbrev pub many : {S : Type 0} → (Tokens → Bool) → (S → Tokens → Result (S × Tokens) Refusal) → ℕ → S → Tokens → Result (S × Tokens) Refusal
+abbrev pub many : {S : Type 0} → (Tokens → Bool) → (S → Tokens → Result (S × Tokens) Refusal) → ℕ →
+    S → Tokens → Result (S × Tokens) Refusal
 many more reader zero so_far tokens = Ok (so_far, tokens)
-many more reader (suc n) so_far tokens = if more tokens then and_then (reader so_far tokens) (many more reader n) else Ok (so_far, tokens)
+many more reader (suc n) so_far tokens =
+    if more tokens then and_then (reader so_far tokens) (many more reader n)
+    else Ok (so_far, tokens)
 
 -- Each takes a token at least, so there are no more of them than tokens.
-unfoldable pub repeated : {S : Type 0} → (Tokens → Bool) → (S → Tokens → Result (S × Tokens) Refusal) → S → Tokens → Result (S × Tokens) Refusal
+unfoldable pub repeated : {S : Type 0} → (Tokens → Bool) →
+    (S → Tokens → Result (S × Tokens) Refusal) → S → Tokens → Result (S × Tokens) Refusal
 repeated more reader so_far tokens = many more reader (token_count tokens) so_far tokens
 
 -- a quoted word, or a brace
@@ -82,7 +88,10 @@ unfoldable pub plug : Header → Tokens → Result ((Option ℕ × ℕ) × Token
 plug header = optional header.slots >>= λ slot tokens. filter slot tokens
   where
     filter : Option ℕ → Tokens → Result ((Option ℕ × ℕ) × Tokens) Refusal
-    filter slot tokens = if is_none slot || (header.version == 1) || not (begins (codes "only") tokens) then Ok ((slot, 7), tokens) else (word (codes "only") >>= λ _. types >>= λ kinds. done (slot, kinds)) tokens
+    filter slot tokens =
+        if is_none slot || (header.version == 1) || not (begins (codes "only") tokens)
+        then Ok ((slot, 7), tokens)
+        else (word (codes "only") >>= λ _. types >>= λ kinds. done (slot, kinds)) tokens
 
 -- DATA of so many bytes at most
 unfoldable pub bytes : ℕ → Tokens → Result (List ℕ × Tokens) Refusal
@@ -90,7 +99,8 @@ bytes most = one (data_digits most) >>= λ digits. done (decoded digits)
 
 -- one declaration, as ("strands" N)?
 unfoldable pub count : List ℕ → ℕ → Tokens → Result (ℕ × Tokens) Refusal
-count text most tokens = if begins text tokens then (word text >>= λ _. bounded 0 most) tokens else Ok (0, tokens)
+count text most tokens =
+    if begins text tokens then (word text >>= λ _. bounded 0 most) tokens else Ok (0, tokens)
 
 -- "session" ("1" | "2") decls
 unfoldable pub header : Tokens → Result (Header × Tokens) Refusal
@@ -102,7 +112,15 @@ header = do
   slots ← count (codes "slots") (limits_of number).slots
   streams ← count (codes "streams") (limits_of number).streams
   guards ← count (codes "guards") (limits_of number).guards
-  done (record { version = number; limits = limits_of number; strands = strands; timers = timers; slots = slots; streams = streams; guards = guards })
+  done (record {
+    version = number;
+    limits = limits_of number;
+    strands = strands;
+    timers = timers;
+    slots = slots;
+    streams = streams;
+    guards = guards;
+  })
 
 -- what happens in a line
 unfoldable pub world_word : List ℕ → Result WorldWord Rule
@@ -132,7 +150,9 @@ world_line header full = do
 
 -- one more line
 unfoldable pub next_world_line : Header → List Line → Tokens → Result (List Line × Tokens) Refusal
-next_world_line header so_far = world_line header (nat_le header.limits.lines (length so_far)) >>= λ next. done (so_far ++ next ∷ [])
+next_world_line header so_far =
+    world_line header (nat_le header.limits.lines (length so_far)) >>= λ next.
+    done (so_far ++ next ∷ [])
 
 -- line*
 unfoldable pub world_lines : Header → Tokens → Result (List Line × Tokens) Refusal
@@ -140,7 +160,10 @@ world_lines header = repeated (begins (codes "at")) (next_world_line header) []
 
 -- "restart"?
 unfoldable pub restart : Bool → Tokens → Result (Bool × Tokens) Refusal
-restart full tokens = if begins (codes "restart") tokens then (another (codes "restart") full >>= λ _. done true) tokens else Ok (false, tokens)
+restart full tokens =
+    if begins (codes "restart") tokens
+    then (another (codes "restart") full >>= λ _. done true) tokens
+    else Ok (false, tokens)
 
 -- round = "restart"? ("run" | "poll") N
 unfoldable pub round : Header → Bool → Tokens → Result (Round × Tokens) Refusal
@@ -152,12 +175,16 @@ round header full = do
 
 -- a token with which a round begins
 unfoldable pub begins_round : Tokens → Bool
-begins_round tokens = begins (codes "restart") tokens || begins (codes "run") tokens || begins (codes "poll") tokens
+begins_round tokens =
+    begins (codes "restart") tokens || begins (codes "run") tokens || begins (codes "poll") tokens
 
 -- one more round
 unfoldable pub next_round : Header → List Round → Tokens → Result (List Round × Tokens) Refusal
-next_round header so_far = round header (nat_le header.limits.rounds (length so_far)) >>= λ next. done (so_far ++ next ∷ [])
+next_round header so_far =
+    round header (nat_le header.limits.rounds (length so_far)) >>= λ next.
+    done (so_far ++ next ∷ [])
 
 -- round+
 unfoldable pub session_rounds : Header → Tokens → Result (List Round × Tokens) Refusal
-session_rounds header = round header false >>= λ first. repeated begins_round (next_round header) (first ∷ [])
+session_rounds header =
+    round header false >>= λ first. repeated begins_round (next_round header) (first ∷ [])

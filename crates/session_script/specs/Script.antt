@@ -46,10 +46,13 @@ same_place None (Some q) = false
 same_place (Some p) None = false
 same_place (Some p) (Some q) = (p.0 == q.0) && same_class p.1 q.1
 
--- the numbers of the acts that stand in a place, in text order; the first act of the list has number n
+-- the numbers of the acts that stand in a place, in text order; the first act of the list has
+-- number n
 abbrev pub numbers_in : Place → ℕ → List Entry → List ℕ
 numbers_in place n [] = []
-numbers_in place n (entry ∷ entries) = if same_place place entry.parent then n ∷ numbers_in place (n + 1) entries else numbers_in place (n + 1) entries
+numbers_in place n (entry ∷ entries) =
+    if same_place place entry.parent then n ∷ numbers_in place (n + 1) entries
+    else numbers_in place (n + 1) entries
 
 -- the acts of `open` itself
 abbrev pub opening_of : ScriptModel → List ℕ

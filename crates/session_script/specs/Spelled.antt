@@ -7,7 +7,8 @@ use Rattle.session_script.specs.Grammar.{text_len}
 use Rattle.session_script.specs.Text.{words_of, IsScriptText}
 use Rattle.session_script.specs.WellFormed.{IsWellFormed}
 
--- The bytes aren't too many, each may stand in a script, and their words spell this script, which is within its limits.
+-- The bytes aren't too many, each may stand in a script, and their words spell this script, which
+-- is within its limits.
 pub record SpellsScript (bytes : List ℕ) (script : ScriptModel) : Type 0 where
   pub size : length bytes ≤ most_bytes
   pub text : text_len bytes ≡ length bytes

@@ -54,7 +54,9 @@ line_words line = codes "at" ∷ decimal line.time ∷ what_words line.stream li
 
 -- a slot and the types that it lets through; all of them are left out
 abbrev pub plug_words : Option ℕ → ℕ → Words
-plug_words slot filter = if filter == 7 then number_or_dash slot ∷ [] else number_or_dash slot ∷ codes "only" ∷ decimal filter ∷ []
+plug_words slot filter =
+    if filter == 7 then number_or_dash slot ∷ []
+    else number_or_dash slot ∷ codes "only" ∷ decimal filter ∷ []
 
 -- what an act does: to which object, and how much
 abbrev pub object_words : Act → Words
@@ -69,7 +71,8 @@ object_words (act.CancelOne timer) = decimal timer ∷ []
 object_words (act.Emit slot kinds) = decimal slot ∷ decimal kinds ∷ []
 object_words (act.ReadSome stream size strand slot filter) = decimal stream ∷ decimal size ∷ []
 object_words (act.ReadAll stream size strand slot filter) = decimal stream ∷ decimal size ∷ []
-object_words (act.Until stream delimiter max strand slot filter) = decimal stream ∷ data_text delimiter ∷ decimal max ∷ []
+object_words (act.Until stream delimiter max strand slot filter) =
+    decimal stream ∷ data_text delimiter ∷ decimal max ∷ []
 object_words (act.WriteSome stream bytes strand slot filter) = decimal stream ∷ data_text bytes ∷ []
 object_words (act.WriteAll stream bytes strand slot filter) = decimal stream ∷ data_text bytes ∷ []
 object_words (act.Close stream) = decimal stream ∷ []
@@ -117,7 +120,10 @@ branch_words body text (first ∷ others) = text ∷ body (first ∷ others)
 abbrev pub bodies_words : BodyWords → ScriptModel → ℕ → Bodies → Words
 bodies_words body script op bodies.Nothing = []
 bodies_words body script op bodies.Posting = body (branch_of script op class.Ok)
-bodies_words body script op bodies.Operation = body (branch_of script op class.Ok) ++ (branch_words body (codes "abort") (branch_of script op class.Abort) ++ branch_words body (codes "other") (branch_of script op class.Other))
+bodies_words body script op bodies.Operation =
+    body (branch_of script op class.Ok)
+    ++ (branch_words body (codes "abort") (branch_of script op class.Abort)
+    ++ branch_words body (codes "other") (branch_of script op class.Other))
 
 -- an act with its bodies
 abbrev pub entry_words : BodyWords → ScriptModel → ℕ → Words
@@ -125,24 +131,39 @@ entry_words body script n = words_in (act_of script n)
   where
     words_in : Option Act → Words
     words_in None = []
-    words_in (Some found) = act_text found ∷ (field_words found ++ bodies_words body script n (bodies_of found))
+    words_in (Some found) =
+        act_text found ∷ (field_words found ++ bodies_words body script n (bodies_of found))
 
 -- a body, where so many levels are left
 abbrev pub body_words : ℕ → ScriptModel → BodyWords
 body_words zero script acts = []
-body_words (suc levels) script acts = codes "{" ∷ (flat_map (entry_words (body_words levels script) script) acts ++ codes "}" ∷ [])
+body_words (suc levels) script acts =
+    codes "{" ∷ (flat_map (entry_words (body_words levels script) script) acts ++ codes "}" ∷ [])
 
 abbrev pub round_words : Round → Words
-round_words round = if round.restart then codes "restart" ∷ pace_text round.pace ∷ decimal round.workers ∷ [] else pace_text round.pace ∷ decimal round.workers ∷ []
+round_words round =
+    if round.restart then codes "restart" ∷ pace_text round.pace ∷ decimal round.workers ∷ []
+    else pace_text round.pace ∷ decimal round.workers ∷ []
 
 abbrev pub declared_words : ScriptModel → Words
-declared_words script = count_words (codes "strands") script.strands ++ (count_words (codes "timers") script.timers ++ (count_words (codes "slots") script.slots ++ (count_words (codes "streams") script.world.streams ++ count_words (codes "guards") script.guards)))
+declared_words script =
+    count_words (codes "strands") script.strands
+    ++ (count_words (codes "timers") script.timers
+    ++ (count_words (codes "slots") script.slots
+    ++ (count_words (codes "streams") script.world.streams
+    ++ count_words (codes "guards") script.guards)))
 
 -- all words but the first
 unfoldable pub words_after_session : ScriptModel → Words
-words_after_session script = decimal script.version ∷ (declared_words script ++ (flat_map line_words script.world.lines ++ codes "open" ∷ (body_words (limits_of script.version).nesting script (opening_of script) ++ flat_map round_words script.rounds)))
+words_after_session script =
+    decimal script.version
+    ∷ (declared_words script
+    ++ (flat_map line_words script.world.lines ++ codes "open"
+    ∷ (body_words (limits_of script.version).nesting script (opening_of script)
+    ++ flat_map round_words script.rounds)))
 
--- the text of a script: its words with one space between two, and nothing before the first or after the last
+-- the text of a script: its words with one space between two, and nothing before the first or after
+-- the last
 unfoldable pub spelling_of : ScriptModel → List ℕ
 spelling_of script = written (codes "session") (words_after_session script)
 

@@ -5,7 +5,8 @@ use Rattle.session_script.specs.declared.token.Position.{Position}
 use Rattle.session_script.specs.declared.token.Token.{Token}
 use Rattle.session_script.specs.declared.token.Cursor.{Cursor}
 
--- the tokens from some token on, each with its bytes and its line and number, and where the text ends
+-- the tokens from some token on, each with its bytes and its line and number, and where the text
+-- ends
 pub data Tokens : Type 0 where
   end : Position → Tokens
   token : List ℕ → Position → Tokens → Tokens
@@ -27,11 +28,14 @@ abbrev pub closed : ℕ → ℕ → List ℕ → (ℕ → Tokens) → Tokens
 closed line count [] after = after count
 closed line count (b ∷ run) after = token (b ∷ run) (position_of line count) (after (count + 1))
 
--- The tokens of the text that is left. It begins in this line, so many tokens are complete before it, and this run of
--- printable bytes stands right before it. A token is a longest run of printable bytes.
+-- The tokens of the text that is left. It begins in this line, so many tokens are complete before
+-- it, and this run of printable bytes stands right before it. A token is a longest run of printable
+-- bytes.
 unfoldable pub tokens_from : ℕ → ℕ → List ℕ → List ℕ → Tokens
 tokens_from line count run [] = closed line count run (λ n. end (position_of line n))
-tokens_from line count run (b ∷ text) = if is_printable b then tokens_from line count (run ++ b ∷ []) text else closed line count run (λ n. tokens_from (line_after line b) n [] text)
+tokens_from line count run (b ∷ text) =
+    if is_printable b then tokens_from line count (run ++ b ∷ []) text
+    else closed line count run (λ n. tokens_from (line_after line b) n [] text)
 
 -- the tokens of a text
 abbrev pub tokens_of : List ℕ → Tokens
@@ -60,7 +64,8 @@ goes_on word (token bytes at rest) = not (bytes_eq bytes word)
 -- what a cursor has before it
 abbrev pub tokens_before : Option Token → Position → List ℕ → Tokens
 tokens_before None before rest = end (position_of before.line before.token)
-tokens_before (Some next) before rest = token next.bytes.now next.at (tokens_from before.line before.token [] rest)
+tokens_before (Some next) before rest =
+    token next.bytes.now next.at (tokens_from before.line before.token [] rest)
 
 unfoldable pub tokens_at : Cursor → Tokens
 tokens_at cursor = tokens_before cursor.next cursor.before cursor.rest.now

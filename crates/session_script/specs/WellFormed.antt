@@ -1,4 +1,5 @@
--- What holds of every script: its counts and numbers are within the limits of its version, and acts stand under acts.
+-- What holds of every script: its counts and numbers are within the limits of its version, and acts
+-- stand under acts.
 use Rattle.std.specs.Prelude.{◌≡◌, ℕ, suc, ◌<◌, ◌≤◌, ◌⊎◌, Bool, true, false, List, length, Option, Some, None, IfSome, slice_get}
 use Rattle.std.specs.List.{All}
 use Rattle.asio_types.specs.declared.code.Class.{Class}
@@ -19,7 +20,15 @@ use Rattle.session_script.specs.Grammar.{are_released}
 
 -- what stands before the world lines of a script
 abbrev pub header_of : ScriptModel → Header
-header_of script = record { version = script.version; limits = limits_of script.version; strands = script.strands; timers = script.timers; slots = script.slots; streams = script.world.streams; guards = script.guards }
+header_of script = record {
+  version = script.version;
+  limits = limits_of script.version;
+  strands = script.strands;
+  timers = script.timers;
+  slots = script.slots;
+  streams = script.world.streams;
+  guards = script.guards;
+}
 
 -- from one to so many
 abbrev pub IsSize : ℕ → ℕ → Type 0
@@ -40,15 +49,24 @@ FitsAct h (act.Defer strand) = IsLane h strand
 FitsAct h (act.Dispatch strand) = IsLane h strand
 FitsAct h (act.Expires timer after) = (timer < h.timers) × (after ≤ h.limits.time)
 FitsAct h (act.ExpiresAt timer at) = (timer < h.timers) × (at ≤ h.limits.time)
-FitsAct h (act.Wait timer strand slot filter) = (timer < h.timers) × IsLane h strand × IsPlug h slot filter
+FitsAct h (act.Wait timer strand slot filter) =
+    (timer < h.timers) × IsLane h strand × IsPlug h slot filter
 FitsAct h (act.Cancel timer) = timer < h.timers
 FitsAct h (act.CancelOne timer) = timer < h.timers
 FitsAct h (act.Emit slot kinds) = (slot < h.slots) × (kinds ≤ 7)
-FitsAct h (act.ReadSome stream size strand slot filter) = (stream < h.streams) × IsSize h.limits.size size × IsLane h strand × IsPlug h slot filter
-FitsAct h (act.ReadAll stream size strand slot filter) = (stream < h.streams) × IsSize h.limits.size size × IsLane h strand × IsPlug h slot filter
-FitsAct h (act.Until stream delimiter max strand slot filter) = (stream < h.streams) × IsSize h.limits.delimiter (length delimiter) × IsSize h.limits.size max × IsLane h strand × IsPlug h slot filter
-FitsAct h (act.WriteSome stream bytes strand slot filter) = (stream < h.streams) × IsSize h.limits.size (length bytes) × IsLane h strand × IsPlug h slot filter
-FitsAct h (act.WriteAll stream bytes strand slot filter) = (stream < h.streams) × IsSize h.limits.size (length bytes) × IsLane h strand × IsPlug h slot filter
+FitsAct h (act.ReadSome stream size strand slot filter) =
+    (stream < h.streams) × IsSize h.limits.size size × IsLane h strand × IsPlug h slot filter
+FitsAct h (act.ReadAll stream size strand slot filter) =
+    (stream < h.streams) × IsSize h.limits.size size × IsLane h strand × IsPlug h slot filter
+FitsAct h (act.Until stream delimiter max strand slot filter) =
+    (stream < h.streams) × IsSize h.limits.delimiter (length delimiter) × IsSize h.limits.size max
+    × IsLane h strand × IsPlug h slot filter
+FitsAct h (act.WriteSome stream bytes strand slot filter) =
+    (stream < h.streams) × IsSize h.limits.size (length bytes) × IsLane h strand
+    × IsPlug h slot filter
+FitsAct h (act.WriteAll stream bytes strand slot filter) =
+    (stream < h.streams) × IsSize h.limits.size (length bytes) × IsLane h strand
+    × IsPlug h slot filter
 FitsAct h (act.Close stream) = stream < h.streams
 FitsAct h (act.Release guard) = guard < h.guards
 FitsAct h act.Stop = Unit {0}
@@ -66,7 +84,8 @@ FitsLine h line = (line.time ≤ h.limits.time) × (line.stream < h.streams) × 
 abbrev pub FitsRound : Header → Round → Type 0
 FitsRound h round = IsSize h.limits.workers round.workers
 
--- the branches of an act: a posting has the one of class Ok, an asynchronous operation one of each class
+-- the branches of an act: a posting has the one of class Ok, an asynchronous operation one of each
+-- class
 abbrev pub has_branch : Bodies → Class → Bool
 has_branch bodies.Nothing wanted = false
 has_branch bodies.Posting class.Ok = true
@@ -77,12 +96,17 @@ has_branch bodies.Operation wanted = true
 -- an act that comes after so many stands in `open` or in a branch of an earlier act
 abbrev pub HasParent : List Entry → ℕ → Place → Type 0
 HasParent acts n None = Unit {0}
-HasParent acts n (Some place) = (place.0 < n) × ((parent : Entry) × (slice_get acts place.0 ≡ Some parent) × (has_branch (bodies_of parent.act) place.1 ≡ true))
+HasParent acts n (Some place) =
+    (place.0 < n)
+    × ((parent : Entry) × (slice_get acts place.0 ≡ Some parent)
+    × (has_branch (bodies_of parent.act) place.1 ≡ true))
 
 -- how deep a body lies, the body of `open` being 1
 pub data IsNested (acts : List Entry) : Place → ℕ → Type 0 where
   in_open : IsNested acts None 1
-  in_branch : {op : ℕ} {branch : Class} {parent : Entry} {depth : ℕ} → slice_get acts op ≡ Some parent → IsNested acts parent.parent depth → IsNested acts (Some (op, branch)) (suc depth)
+  in_branch : {op : ℕ} {branch : Class} {parent : Entry} {depth : ℕ} →
+      slice_get acts op ≡ Some parent → IsNested acts parent.parent depth →
+      IsNested acts (Some (op, branch)) (suc depth)
 
 -- the act with a number
 pub record IsPlaced (h : Header) (acts : List Entry) (n : ℕ) (entry : Entry) : Type 0 where

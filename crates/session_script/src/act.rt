@@ -4,8 +4,8 @@ ghost use Rattle.session_script.specs.Acts.{bodies_of};
 
 use asio_types::{Bytes, GuardNo, SlotNo, StrandNo, StreamNo, TimerNo, Types};
 
-/// One act of a script: a posting, an asynchronous operation, a control act, or a stop. Postings and asynchronous
-/// operations have a handler, whose body is the script's (see `Script::branch`).
+/// One act of a script: a posting, an asynchronous operation, a control act, or a stop. Postings
+/// and asynchronous operations have a handler, whose body is the script's (see `Script::branch`).
 #[derive(Clone, Debug, Drop)]
 pub enum Act {
     /// `asio::post`, to a strand or to the context.

@@ -60,7 +60,8 @@ fn is_data(bytes: &[u8]) -> bool
     bytes.len() >= 3 && bytes.len() % 2 == 1 && bytes[0] == b'x' && are_hexadecimal(&bytes[1..])
 }
 
-/// What a token of another kind, or another word, than is wanted breaks: a token of no kind has a rule of its own.
+/// What a token of another kind, or another word, than is wanted breaks: a token of no kind has a
+/// rule of its own.
 #[tactic(auto, unfolding(crate::specs::Kinds::misplaced))]
 pub(crate) fn misplaced(bytes: &[u8]) -> Rule
     ensures { result ≡ misplaced bytes.now }
@@ -98,7 +99,8 @@ pub(crate) fn another_word(word: &[u8], full: bool, bytes: &[u8]) -> Result<(), 
 
 /// The value of decimal digits, if it is below 2^64.
 fn decimal(digits: &[u8]) -> Option<u64>
-    ensures { MatchOption result (2 ^ 64 ≤ decimal_from 0 digits.now) (λ value. decimal_from 0 digits.now ≡ value) }
+    ensures { MatchOption result (2 ^ 64 ≤ decimal_from 0 digits.now)
+        (λ value. decimal_from 0 digits.now ≡ value) }
 {
     let mut value: u64 = 0;
     for digit in digits {
@@ -186,7 +188,8 @@ pub(crate) fn version(bytes: &[u8]) -> Result<u8, Rule>
 /// The hexadecimal digits of so many bytes at most.
 #[tactic(auto, unfolding(crate::specs::Kinds::data_digits, crate::specs::Kinds::is_data))]
 pub(crate) fn data(most: u32, bytes: &[u8]) -> Result<&[u8], Rule>
-    ensures value { MatchResult result (λ digits. data_digits most bytes.now ≡ Ok digits.now) (λ rule. data_digits most bytes.now ≡ Err rule) }
+    ensures value { MatchResult result (λ digits. data_digits most bytes.now ≡ Ok digits.now)
+        (λ rule. data_digits most bytes.now ≡ Err rule) }
     ensures digits { IfOk result (λ digits. list_all is_hexadecimal digits.now ≡ true) }
 {
     if !is_data(bytes) {

@@ -1,8 +1,9 @@
-//! The language of sessions, in its two versions. A text is read as a script exactly where the grammar as it is written
-//! spells that script and the script is within the limits of its version; every other text is refused, with its first
-//! fault. A script is written as one text, which reads back as that script and than which no text of it is shorter. Its
-//! readers can rely on its counts, its numbers, and its acts standing under earlier operations. The history, the context
-//! and the program stand on it.
+//! The language of sessions, in its two versions. A text is read as a script exactly where the
+//! grammar as it is written spells that script and the script is within the limits of its version;
+//! every other text is refused, with its first fault. A script is written as one text, which reads
+//! back as that script and than which no text of it is shorter. Its readers can rely on its counts,
+//! its numbers, and its acts standing under earlier operations. The history, the context and the
+//! program stand on it.
 #![tactic(auto)]
 
 mod act;

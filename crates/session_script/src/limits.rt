@@ -13,7 +13,8 @@ pub const MOST_READ: usize = MOST_BYTES + 1;
 /// How deep bodies nest at most, in both versions, the body of `open` being 1.
 pub const MOST_NESTING: u32 = 32;
 
-/// The greatest values that a version allows. The least are 0, and 1 for rounds, workers, sizes, bytes and room.
+/// The greatest values that a version allows. The least are 0, and 1 for rounds, workers, sizes,
+/// bytes and room.
 #[derive(Clone, Copy)]
 pub(crate) struct Limits {
     /// How many acts there are; so for strands, timers, slots, streams, guards and rounds.
@@ -30,7 +31,8 @@ pub(crate) struct Limits {
     pub(crate) rounds: u32,
     /// Workers of one round.
     pub(crate) workers: u8,
-    /// The size of a read and the limit of a read until a delimiter, and the bytes of a write or a feed.
+    /// The size of a read and the limit of a read until a delimiter, and the bytes of a write or a
+    /// feed.
     pub(crate) size: u32,
     /// The bytes of a delimiter.
     pub(crate) delimiter: u32,

@@ -12,7 +12,8 @@ pub struct PlacedAct {
     pub parent: Option<(OpNo, Class)>,
 }
 
-/// What stands before the world lines: a version with its limits, and how many objects of each kind there are.
+/// What stands before the world lines: a version with its limits, and how many objects of each kind
+/// there are.
 #[derive(Clone, Copy)]
 pub(crate) struct Header {
     pub(crate) version: u8,

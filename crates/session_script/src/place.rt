@@ -38,7 +38,8 @@ fn place_number(acts: usize, place: Option<(OpNo, Class)>) -> u32
 /// The numbers of the places where acts stand.
 fn place_numbers(alloc: Global, acts: &[PlacedAct]) -> Result<Vec<u32>, NoMemory>
     requires { length acts.now ≤ most_acts }
-    ensures value { IfOk result (λ numbers. numbers.items ≡ map (λ entry. place_number (length acts.now) entry.parent) acts.now) }
+    ensures value { IfOk result (λ numbers.
+        numbers.items ≡ map (λ entry. place_number (length acts.now) entry.parent) acts.now) }
 {
     let mut numbers = Vec::with_capacity(alloc, acts.len())?;
     for entry in acts {

@@ -81,7 +81,9 @@ pub(crate) fn read_parts(alloc: Global, bytes: &[u8]) -> Result<ScriptParts, Scr
     read_text(alloc, bytes)
 }
 
-/// A text is read as a script exactly where the grammar as it is written spells that script, within the limits.
+/// A text is read as a script exactly where the grammar as it is written spells that script, within
+/// the limits.
 pub fn scripts_are_spelled()
-    ensures { (bytes : List ℕ) (script : ScriptModel) → IsScript bytes script ↔ SpellsScript bytes script }
+    ensures { (bytes : List ℕ) (script : ScriptModel) →
+        IsScript bytes script ↔ SpellsScript bytes script }
 {}

@@ -12,7 +12,8 @@ pub enum Rule {
     TooLong,
     /// A token is of no kind.
     Token,
-    /// A token is of another kind, or another word, than the grammar allows there, or the text ends too early.
+    /// A token is of another kind, or another word, than the grammar allows there, or the text ends
+    /// too early.
     Shape,
     /// A number has a leading zero or isn't below 2^64.
     Number,

@@ -14,7 +14,8 @@ pub(crate) fn is_printable(byte: u8) -> bool
 /// The bytes from the next printable one on, and its line.
 fn skip_space(bytes: &[u8], line: u32) -> (&[u8], u32)
     requires { line + length bytes.now < 2 ^ 32 }
-    ensures same { (count : ℕ) → tokens_from result.1 count [] result.0.now ≡ tokens_from line count [] bytes.now }
+    ensures same { (count : ℕ) →
+        tokens_from result.1 count [] result.0.now ≡ tokens_from line count [] bytes.now }
     ensures countable { result.1 + length result.0.now ≤ line + length bytes.now }
     ensures shorter { length result.0.now ≤ length bytes.now }
     ensures stops { 0 < length result.0.now → is_printable (slice_index result.0.now 0) ≡ true }
@@ -33,8 +34,11 @@ fn skip_space(bytes: &[u8], line: u32) -> (&[u8], u32)
 /// How many printable bytes stand at the front.
 fn run_len(bytes: &[u8]) -> usize
     ensures in_range { result ≤ length bytes.now }
-    ensures same { (line count : ℕ) → tokens_from line count (take result bytes.now) (drop result bytes.now) ≡ tokens_from line count [] bytes.now }
-    ensures stops { result < length bytes.now → is_printable (slice_index bytes.now result) ≡ false }
+    ensures same { (line count : ℕ) →
+        tokens_from line count (take result bytes.now) (drop result bytes.now)
+        ≡ tokens_from line count [] bytes.now }
+    ensures stops { result < length bytes.now →
+        is_printable (slice_index bytes.now result) ≡ false }
 {
     let mut count = 0;
     while count < bytes.len() && is_printable(bytes[count]) {

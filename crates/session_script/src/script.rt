@@ -19,8 +19,8 @@ use asio_types::{ActNo, Class, Lane, NoMemory, OpNo, World};
 use std::alloc::Global;
 use std::marker::Model;
 
-/// A session as its script says it. Contracts see its acts with their places, what it declares, its world and its
-/// rounds, apart from how the text spelled them.
+/// A session as its script says it. Contracts see its acts with their places, what it declares, its
+/// world and its rounds, apart from how the text spelled them.
 #[derive(Debug, Drop)]
 pub struct Script {
     /// What it says.
@@ -54,8 +54,9 @@ impl Model for Script {
 }
 
 impl Script {
-    /// The script that these parts say. Parts that are well formed and stand in text order are those of a script, by
-    /// `writable_scripts_are_scripts`. Takes memory in proportion to the number of acts.
+    /// The script that these parts say. Parts that are well formed and stand in text order are
+    /// those of a script, by `writable_scripts_are_scripts`. Takes memory in proportion to the
+    /// number of acts.
     #[tactic(auto, unfolding(crate::specs::Outcome::model_of))]
     pub fn make(alloc: Global, parts: ScriptParts) -> Result<Script, NoMemory>
         requires { IsScript (spelling_of (model_of parts)) (model_of parts) }
@@ -96,7 +97,8 @@ impl Script {
         &self.parts.acts[a as usize].act
     }
 
-    /// The operation in whose branch an act stands, with the branch's class; none for an act of `open` itself.
+    /// The operation in whose branch an act stands, with the branch's class; none for an act of
+    /// `open` itself.
     #[tactic(auto, unfolding(crate::specs::Outcome::model_of))]
     pub fn parent_of(&self, a: ActNo) -> Option<(OpNo, Class)>
         requires { a < length self.now.acts }
@@ -131,7 +133,8 @@ impl Script {
         is_inside(caller_lane(self.lanes.as_slice(), entry.parent), &entry.act)
     }
 
-    /// The lane of an act: where an operation executes, the reactor's for a control act, and its caller's for a stop.
+    /// The lane of an act: where an operation executes, the reactor's for a control act, and its
+    /// caller's for a stop.
     #[tactic(auto, unfolding(crate::specs::Outcome::model_of))]
     pub fn lane_of(&self, a: ActNo) -> Lane
         requires { a < length self.now.acts }
@@ -147,7 +150,8 @@ impl Script {
         self.places.get(0)
     }
 
-    /// The acts of the branch of an operation for a class, in text order. A posting has only the branch of class Ok.
+    /// The acts of the branch of an operation for a class, in text order. A posting has only the
+    /// branch of class Ok.
     #[tactic(auto, unfolding(crate::specs::Outcome::model_of))]
     pub fn branch(&self, o: OpNo, class: Class) -> &[ActNo]
         requires { o < length self.now.acts }
@@ -213,7 +217,8 @@ impl Script {
     }
 }
 
-/// The script that the bytes spell, or their first fault. Takes time and memory in proportion to the bytes.
+/// The script that the bytes spell, or their first fault. Takes time and memory in proportion to
+/// the bytes.
 pub fn read_script(alloc: Global, bytes: &[u8]) -> Result<Script, ScriptFault>
     // What is read is a script of this text.
     ensures script { IfOk result (λ script. IsScript bytes.now script) }
@@ -227,7 +232,8 @@ pub fn read_script(alloc: Global, bytes: &[u8]) -> Result<Script, ScriptFault>
     }
 }
 
-/// The same session in version 2, whose limits are no less. Takes time and memory in proportion to the script.
+/// The same session in version 2, whose limits are no less. Takes time and memory in proportion to
+/// the script.
 #[tactic(auto, unfolding(crate::specs::Outcome::model_of))]
 pub fn upgrade(alloc: Global, script: &Script) -> Result<Script, NoMemory>
     ensures { IfOk result (λ new. new ≡ upgraded script.now) }

@@ -101,7 +101,8 @@ fn repeated(
     Ok(text)
 }
 
-/// A front, a part that is repeated, how often it may be, a back, and the token of the fault in a text with one more.
+/// A front, a part that is repeated, how often it may be, a back, and the token of the fault in a
+/// text with one more.
 type Limited = (&'static str, &'static str, u32, &'static str, u32);
 
 const LIMITED: &[Limited] = &[

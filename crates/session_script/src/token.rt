@@ -80,7 +80,9 @@ impl<'a> Cursor<'a> {
 
     /// The refusal at the token that is missing at the end of the text.
     pub(crate) fn missing(&self, rule: Rule) -> ScriptFault
-        ensures { result ≡ ScriptFault.Refused (refused rule (position_of self.now.before.line self.now.before.token)) }
+        ensures { result
+            ≡ ScriptFault.Refused
+            (refused rule (position_of self.now.before.line self.now.before.token)) }
     {
         let at = Position {
             line: self.before.line,
@@ -92,7 +94,8 @@ impl<'a> Cursor<'a> {
     /// Goes to the end of the text.
     #[tactic(auto, unfolding(crate::specs::Tokens::tokens_at))]
     pub(crate) fn skip_all(&mut self)
-        ensures { position_of self.new.before.line self.new.before.token ≡ end_of (tokens_at self.old) }
+        ensures { position_of self.new.before.line self.new.before.token
+            ≡ end_of (tokens_at self.old) }
     {
         while self.next.is_some() {
             *self = tokens_after(self.rest, self.before);

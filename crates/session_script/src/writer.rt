@@ -98,7 +98,8 @@ fn round(round: &Round, out: &mut Vec<u8>) -> Result<(), NoMemory>
 
 /// The rounds.
 fn rounds(rounds: &[Round], out: &mut Vec<u8>) -> Result<(), NoMemory>
-    ensures { OnOk result (out.new.items ≡ written out.old.items (flat_map round_words rounds.now)) }
+    ensures { OnOk result
+        (out.new.items ≡ written out.old.items (flat_map round_words rounds.now)) }
 {
     for next in rounds {
         round(next, out)?;
@@ -120,15 +121,17 @@ fn after_session(script: &Script, out: &mut Vec<u8>) -> Result<(), NoMemory>
     rounds(script.rounds(), out)
 }
 
-/// The text of a script: its words with one space between two, where a declaration of 0, an empty `abort` or `other` body
-/// and an `only` of all types are left out. Takes time and memory in proportion to the text.
+/// The text of a script: its words with one space between two, where a declaration of 0, an empty
+/// `abort` or `other` body and an `only` of all types are left out. Takes time and memory in
+/// proportion to the text.
 #[tactic(auto, unfolding(crate::specs::Spelling::spelling_of))]
 pub fn write_script(alloc: Global, script: &Script) -> Result<Vec<u8>, NoMemory>
     ensures text { IfOk result (λ text. text.items ≡ spelling_of script.now) }
     // Reading it gives the same script.
     ensures reads_back { IfOk result (λ text. IsScript text.items script.now) }
     // No text of the script is shorter.
-    ensures shortest { (bytes : List ℕ) → IsScript bytes script.now → IfOk result (λ text. vec_len text ≤ length bytes) }
+    ensures shortest { (bytes : List ℕ) → IsScript bytes script.now →
+        IfOk result (λ text. vec_len text ≤ length bytes) }
 {
     script.reads_back();
     let mut out = Vec::from_slice(alloc, b"session")?;

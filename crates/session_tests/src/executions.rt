@@ -1,4 +1,5 @@
-//! Handlers executed over ready lanes on one thread: their histories are legal, and are those of the worked sessions.
+//! Handlers executed over ready lanes on one thread: their histories are legal, and are those of
+//! the worked sessions.
 
 ghost use Rattle.std.specs.Prelude.{◌≡◌, ◌<◌, ◌++◌, ◌∷◌, [], length};
 
@@ -76,7 +77,8 @@ impl<'a, R: Abort> Poster for Recorder<'a, R> {
     ghost first_part = { λ p first rest taken. tt };
 }
 
-/// The postings of some calls are ready, in their order. Answers whether one of the calls was a stop.
+/// The postings of some calls are ready, in their order. Answers whether one of the calls was a
+/// stop.
 fn ready_by(script: &Script, posted: &[Posted], ready: &mut PlainLanes) -> bool
     requires { ready.old.acts ≡ length script.now.acts }
     ensures { ready.new.acts ≡ ready.old.acts }
@@ -118,8 +120,8 @@ fn execute_on<'a, R: Abort>(
     };
 }
 
-/// Executes what is ready on the strands 0 and 1, oldest first, until nothing is or the context is stopped, and answers
-/// whether it is.
+/// Executes what is ready on the strands 0 and 1, oldest first, until nothing is or the context is
+/// stopped, and answers whether it is.
 fn run_ready<'a, R: Abort>(
     recorder: &mut Recorder<'a, R>,
     script: &'a Script,
@@ -240,7 +242,8 @@ fn destroy<'a, R: Abort>(
     hands.discard_all();
 }
 
-/// The history of a session of postings on the strands 0 and 1, of which the second has nothing left in the end.
+/// The history of a session of postings on the strands 0 and 1, of which the second has nothing
+/// left in the end.
 fn history_of<R: Abort + Copy>(rt: R, alloc: Global, script: &Script) -> Result<Vec<Event>, Fail> {
     let mut ready = PlainLanes::make(alloc, script)?;
     let mut first = hands_of(&rt, alloc, script, 0);
@@ -314,7 +317,8 @@ fn executions_over_ready_lanes_make_legal_histories(rt: HostRuntime) -> Result<(
     Ok(())
 }
 
-/// Sessions on strands, with dispatches and stops of handlers, and their traces where the oldest ready operation runs first.
+/// Sessions on strands, with dispatches and stops of handlers, and their traces where the oldest
+/// ready operation runs first.
 const SESSIONS: [(&str, &str); 6] = [
     (
         "session 1 strands 1 open { post 0 { } post 0 { } } run 4",

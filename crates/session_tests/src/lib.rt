@@ -1,4 +1,5 @@
-//! Tests that cross crates: what one crate does is judged by another that knows nothing of it. Nothing stands on it.
+//! Tests that cross crates: what one crate does is judged by another that knows nothing of it.
+//! Nothing stands on it.
 #![tactic(auto)]
 
 #[cfg(test)]

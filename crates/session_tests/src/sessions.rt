@@ -32,7 +32,8 @@ pub(crate) fn words_of(alloc: Global, text: &str) -> Result<Vec<String>, Fail> {
     Ok(words)
 }
 
-/// A session with this source and this out over the scripted world, in which these calls fail; and its note.
+/// A session with this source and this out over the scripted world, in which these calls fail; and
+/// its note.
 pub(crate) fn session<R: Abort + Threads + Wait + Sync, S: Source, K: Sink>(
     rt: &R,
     alloc: Global,

@@ -1,4 +1,5 @@
-//! Worked sessions: each of these scripts has one text that its trace may be, or some of which each is legal.
+//! Worked sessions: each of these scripts has one text that its trace may be, or some of which each
+//! is legal.
 
 use crate::marked::{Marks, PLAIN};
 use crate::sessions::{is_legal, lines, ran, ran_well};
@@ -223,7 +224,8 @@ const ONE_TEXT: [(&str, &str); 32] = [
     ),
 ];
 
-/// Scripts that may write several texts: lines that stand together in each, and a text that stands in none.
+/// Scripts that may write several texts: lines that stand together in each, and a text that stands
+/// in none.
 const SEVERAL_TEXTS: [(&str, &str, &str); 14] = [
     (
         "session 1 open { post - { } post - { } } run 4",

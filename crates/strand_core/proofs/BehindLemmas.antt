@@ -6,9 +6,11 @@ use Rattle.strand_core.specs.Hands.{behind, in_list}
 
 module _ {H : Type 0} where
   pub length-behind : (first : ℕ) (hs : List (Option H)) → length (behind first hs) ≡ first + length hs
-  length-behind first hs = omega (arith, length-append (replicate first None) hs, length-replicate {A = Option H} first None)
+  length-behind first hs =
+      omega (arith, length-append (replicate first None) hs, length-replicate {A = Option H} first None)
 
-  pub in_behind : (first : ℕ) (hs : List (Option H)) (n k : ℕ) → n ≡ first + k → in_list (behind first hs) n ≡ in_list hs k
+  pub in_behind : (first : ℕ) (hs : List (Option H)) (n k : ℕ) → n ≡ first + k →
+      in_list (behind first hs) n ≡ in_list hs k
   in_behind zero hs n k is = let same : n ≡ k = omega (arith, is) in ap (in_list hs) same
   in_behind (suc first) hs zero k is = absurd (omega (arith, is))
   in_behind (suc first) hs (suc n) k is = in_behind first hs n k (omega (arith, is))
@@ -23,7 +25,8 @@ module _ {H : Type 0} where
   none_past (h ∷ hs) zero past = absurd (omega arith)
   none_past (h ∷ hs) (suc n) past = none_past hs n (omega arith)
 
-  pub set-behind : (first : ℕ) (hs : List (Option H)) (n k : ℕ) (h : Option H) → n ≡ first + k → slice_set (behind first hs) n h ≡ behind first (slice_set hs k h)
+  pub set-behind : (first : ℕ) (hs : List (Option H)) (n k : ℕ) (h : Option H) → n ≡ first + k →
+      slice_set (behind first hs) n h ≡ behind first (slice_set hs k h)
   set-behind zero hs n k h is = let same : n ≡ k = omega (arith, is) in ap (λ i. slice_set hs i h) same
   set-behind (suc first) hs zero k h is = absurd (omega (arith, is))
   set-behind (suc first) hs (suc n) k h is = ap (λ rest. None ∷ rest) (set-behind first hs n k h (omega (arith, is)))
@@ -36,5 +39,7 @@ module _ {H : Type 0} where
   free_at (h ∷ hs) (suc k) less none = free_at hs k (omega arith) none
 
   -- a place with nothing, where nothing is at its number
-  pub free-behind : (first : ℕ) (hs : List (Option H)) (n k : ℕ) → n ≡ first + k → n < first + length hs → in_list (behind first hs) n ≡ None → slice_get hs k ≡ Some None
-  free-behind first hs n k is less none = free_at hs k (omega (arith, is, less)) (sym (in_behind first hs n k is) ∙ none)
+  pub free-behind : (first : ℕ) (hs : List (Option H)) (n k : ℕ) → n ≡ first + k → n < first + length hs →
+      in_list (behind first hs) n ≡ None → slice_get hs k ≡ Some None
+  free-behind first hs n k is less none =
+      free_at hs k (omega (arith, is, less)) (sym (in_behind first hs n k is) ∙ none)

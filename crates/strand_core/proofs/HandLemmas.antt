@@ -10,7 +10,8 @@ taken_same [] op = refl
 taken_same (h ∷ hs) zero = refl
 taken_same (h ∷ hs) (suc op) = taken_same hs op
 
-pub taken_other : {H : Type 0} (hs : List (Option H)) (op n : ℕ) → op ≢ n → in_list (slice_set hs op None) n ≡ in_list hs n
+pub taken_other : {H : Type 0} (hs : List (Option H)) (op n : ℕ) → op ≢ n →
+    in_list (slice_set hs op None) n ≡ in_list hs n
 taken_other [] op n differ = refl
 taken_other (h ∷ hs) zero zero differ = absurd (differ refl)
 taken_other (h ∷ hs) zero (suc n) differ = refl
@@ -38,37 +39,50 @@ pub same_or_not : (a b : ℕ) → (a ≡ b) ⊎ (a ≢ b)
 same_or_not zero zero = inl refl
 same_or_not zero (suc b) = inr (λ same. absurd (cc))
 same_or_not (suc a) zero = inr (λ same. absurd (cc))
-same_or_not (suc a) (suc b) = elim (same_or_not a b) [ inl same ↦ inl (ap suc same) | inr differ ↦ inr (λ same. differ (omega (arith, same))) ]
+same_or_not (suc a) (suc b) =
+    elim (same_or_not a b) [ inl same ↦ inl (ap suc same) | inr differ ↦ inr (λ same. differ (omega (arith, same))) ]
 
-there_before : {H : Type 0} (hs : List (Option H)) (op n : ℕ) → IsSome (in_list (slice_set hs op None) n) → IsSome (in_list hs n) × (op ≢ n)
+there_before : {H : Type 0} (hs : List (Option H)) (op n : ℕ) → IsSome (in_list (slice_set hs op None) n) →
+    IsSome (in_list hs n) × (op ≢ n)
 there_before hs op n some =
     elim (same_or_not op n) [
-      | inl same ↦ absurd (let none : in_list (slice_set hs op None) n ≡ None = ap (in_list (slice_set hs op None)) (sym same) ∙ taken_same hs op in let some' : IsSome (in_list (slice_set hs op None) n) = some in cc (none, some'))
+      | inl same ↦
+          absurd (let none : in_list (slice_set hs op None) n ≡ None =
+          ap (in_list (slice_set hs op None)) (sym same) ∙ taken_same hs op in
+          let some' : IsSome (in_list (slice_set hs op None) n) = some in cc (none, some'))
       | inr differ ↦ (subst IsSome (taken_other hs op n differ) some, differ)
     ]
 
-module _ {H : Type 0} (script : ScriptModel) (ordered : (n : ℕ) → HasParent script.acts n (parent_of script n)) (hs : List (Option H)) (op : ℕ) where
+module _ {H : Type 0} (script : ScriptModel) (ordered : (n : ℕ) → HasParent script.acts n (parent_of script n))
+    (hs : List (Option H)) (op : ℕ) where
   pub callee_later : (caller n : ℕ) → IsInlineOf script caller n → caller < n
   callee_later caller n inside = (subst (HasParent script.acts n) inside.1 (ordered n)).0
 
   -- with the handler of an operation that isn't inside another one's execution, what executes inside it may stay
-  pub keeps_taken : KeepsInline script hs → CallerIsGone (record { script = script; handlers = hs }) op → KeepsInline script (slice_set hs op None)
+  pub keeps_taken : KeepsInline script hs → CallerIsGone (record { script = script; handlers = hs }) op →
+      KeepsInline script (slice_set hs op None)
   keeps_taken keeps gone caller some n inside =
       let before = there_before hs op caller some in
       let there : IsSome (in_list hs n) = keeps caller before.0 n inside in
-      let differ : op ≢ n = λ same. let none : in_list hs caller ≡ None = gone caller (subst (IsInlineOf script caller) (sym same) inside) in let some' : IsSome (in_list hs caller) = before.0 in absurd (cc (none, some')) in
+      let differ : op ≢ n = λ same.
+      let none : in_list hs caller ≡ None = gone caller (subst (IsInlineOf script caller) (sym same) inside) in
+      let some' : IsSome (in_list hs caller) = before.0 in absurd (cc (none, some')) in
       subst IsSome (sym (taken_other hs op n differ)) there
 
   pub inside_taken : KeepsInline script hs → IsSome (in_list hs op) → HasInlineOf script (slice_set hs op None) op
   inside_taken keeps some n inside =
-      subst IsSome (sym (taken_other hs op n (λ same. absurd (omega (arith, callee_later op n inside, same))))) (keeps op some n inside)
+      subst IsSome (sym (taken_other hs op n (λ same. absurd (omega (arith, callee_later op n inside, same)))))
+      (keeps op some n inside)
 
 pub script_length : {H : Type 0} {a b : Held H} → a ≡ b → length a.script.acts ≡ length b.script.acts
 script_length same = ap (λ v. length v.script.acts) same
 
 -- nothing calls the first act
-pub none_calls_first : {H : Type 0} (script : ScriptModel) (ordered : (n : ℕ) → HasParent script.acts n (parent_of script n)) (hands : Held H) → hands.script ≡ script → CallerIsGone hands 0
+pub none_calls_first : {H : Type 0} (script : ScriptModel)
+    (ordered : (n : ℕ) → HasParent script.acts n (parent_of script n)) (hands : Held H) → hands.script ≡ script →
+    CallerIsGone hands 0
 none_calls_first script ordered hands same caller inside =
     let called : IsInlineOf script caller 0 = subst (λ (s : ScriptModel). IsInlineOf s caller 0) same inside in
-    let before : HasParent script.acts 0 (Some (caller, inside.0)) = subst (HasParent script.acts 0) called.1 (ordered 0) in
+    let before : HasParent script.acts 0 (Some (caller, inside.0)) =
+    subst (HasParent script.acts 0) called.1 (ordered 0) in
     absurd (omega (arith, before.0))

@@ -23,18 +23,23 @@ get_seam [] ys x = refl
 get_seam (y ∷ xs) ys x = get_seam xs ys x
 
 -- further acts leave the lanes of those before them
-lanes_stay : (lanes : List Lane) (entries : List Entry) (k : ℕ) → k < length lanes → slice_get (lanes_after lanes entries) k ≡ slice_get lanes k
+lanes_stay : (lanes : List Lane) (entries : List Entry) (k : ℕ) → k < length lanes →
+    slice_get (lanes_after lanes entries) k ≡ slice_get lanes k
 lanes_stay lanes [] k less = refl
 lanes_stay lanes (e ∷ entries) k less =
     let own : Lane = lane_in (caller_lane lanes e.parent) (length lanes) e.act in
-    lanes_stay (lanes ++ own ∷ []) entries k (omega (arith, less, length-append lanes (own ∷ []))) ∙ get_front lanes (own ∷ []) k less
+    lanes_stay (lanes ++ own ∷ []) entries k (omega (arith, less, length-append lanes (own ∷ [])))
+    ∙ get_front lanes (own ∷ []) k less
 
-caller_stays : (all : List Entry) (lanes : List Lane) (entries : List Entry) (n : ℕ) (place : Place) → HasParent all n place → n ≤ length lanes → caller_lane (lanes_after lanes entries) place ≡ caller_lane lanes place
+caller_stays : (all : List Entry) (lanes : List Lane) (entries : List Entry) (n : ℕ) (place : Place) →
+    HasParent all n place → n ≤ length lanes → caller_lane (lanes_after lanes entries) place ≡ caller_lane lanes place
 caller_stays all lanes entries n None parent within = refl
-caller_stays all lanes entries n (Some place) parent within = lanes_stay lanes entries place.0 (omega (arith, parent.0, within))
+caller_stays all lanes entries n (Some place) parent within =
+    lanes_stay lanes entries place.0 (omega (arith, parent.0, within))
 
 -- the lane of each act by the lanes of all
-lane_at : (all : List Entry) (lanes : List Lane) (entries : List Entry) (k n : ℕ) (e : Entry) → n ≡ length lanes + k → slice_get entries k ≡ Some e → HasParent all n e.parent →
+lane_at : (all : List Entry) (lanes : List Lane) (entries : List Entry) (k n : ℕ) (e : Entry) → n ≡ length lanes + k →
+    slice_get entries k ≡ Some e → HasParent all n e.parent →
     slice_get (lanes_after lanes entries) n ≡ Some (lane_in (caller_lane (lanes_after lanes entries) e.parent) n e.act)
 lane_at all lanes [] k n e is stands parent = absurd (cc stands)
 lane_at all lanes (f ∷ entries) zero n e is stands parent =
@@ -42,10 +47,15 @@ lane_at all lanes (f ∷ entries) zero n e is stands parent =
     let here : n ≡ length lanes = omega (arith, is) in
     let same : f ≡ e = cc stands in
     let found : slice_get (lanes_after (lanes ++ own ∷ []) entries) (length lanes) ≡ Some own =
-    lanes_stay (lanes ++ own ∷ []) entries (length lanes) (omega (arith, length-append lanes (own ∷ []))) ∙ get_seam lanes [] own in
-    let first : own ≡ lane_in (caller_lane lanes e.parent) (length lanes) e.act = ap (λ (x : Entry). lane_in (caller_lane lanes x.parent) (length lanes) x.act) same in
-    let second : lane_in (caller_lane lanes e.parent) (length lanes) e.act ≡ lane_in (caller_lane lanes e.parent) n e.act = ap (λ m. lane_in (caller_lane lanes e.parent) m e.act) (sym here) in
-    let third : lane_in (caller_lane lanes e.parent) n e.act ≡ lane_in (caller_lane (lanes_after lanes (f ∷ entries)) e.parent) n e.act =
+    lanes_stay (lanes ++ own ∷ []) entries (length lanes) (omega (arith, length-append lanes (own ∷ [])))
+    ∙ get_seam lanes [] own in
+    let first : own ≡ lane_in (caller_lane lanes e.parent) (length lanes) e.act =
+    ap (λ (x : Entry). lane_in (caller_lane lanes x.parent) (length lanes) x.act) same in
+    let second : lane_in (caller_lane lanes e.parent) (length lanes) e.act
+    ≡ lane_in (caller_lane lanes e.parent) n e.act =
+    ap (λ m. lane_in (caller_lane lanes e.parent) m e.act) (sym here) in
+    let third : lane_in (caller_lane lanes e.parent) n e.act
+    ≡ lane_in (caller_lane (lanes_after lanes (f ∷ entries)) e.parent) n e.act =
     ap (λ c. lane_in c n e.act) (sym (caller_stays all lanes (f ∷ entries) n e.parent parent (omega (arith, here)))) in
     ap (slice_get (lanes_after (lanes ++ own ∷ []) entries)) here ∙ found ∙ ap Some (first ∙ second ∙ third)
 lane_at all lanes (f ∷ entries) (suc k) n e is stands parent =
@@ -61,13 +71,16 @@ or_reactor : (found : Option Lane) → lane_or_reactor found ≡ unwrap_or found
 or_reactor None = refl
 or_reactor (Some found) = refl
 
-module _ (script : ScriptModel) (ordered : (n : ℕ) → HasParent script.acts n (parent_of script n)) (caller n : ℕ) (inside : IsInlineOf script caller n) where
+module _ (script : ScriptModel) (ordered : (n : ℕ) → HasParent script.acts n (parent_of script n)) (caller n : ℕ)
+    (inside : IsInlineOf script caller n) where
   record OnLane : Type 0 where
     op : is_op script n ≡ true
     lane : lane_of script n ≡ lane_of script caller
 
   on_lane_by : (entry : Option Entry) → slice_get script.acts n ≡ entry → OnLane
-  on_lane_by None stands = absurd (let none : is_inline script n ≡ false = rw stands refl in let some : is_inline script n ≡ true = inside.2 in cc (none, some))
+  on_lane_by None stands =
+      absurd (let none : is_inline script n ≡ false = rw stands refl in
+      let some : is_inline script n ≡ true = inside.2 in cc (none, some))
   on_lane_by (Some e) stands =
       let lanes : List Lane = lanes_of script in
       let is_parent : parent_of script n ≡ e.parent = rw stands refl in
@@ -75,14 +88,19 @@ module _ (script : ScriptModel) (ordered : (n : ℕ) → HasParent script.acts n
       let opened : is_inline script n ≡ is_inside (caller_lane lanes e.parent) e.act = rw (stands, stands) refl in
       let is_in : is_inside (caller_lane lanes e.parent) e.act ≡ true = sym opened ∙ inside.2 in
       let has_parent : HasParent script.acts n e.parent = subst (HasParent script.acts n) is_parent (ordered n) in
-      let found : slice_get lanes n ≡ Some (lane_in (caller_lane lanes e.parent) n e.act) = lane_at script.acts [] script.acts n n e (omega arith) stands has_parent in
-      let called : lane_in (caller_lane lanes e.parent) n e.act ≡ lane_or_reactor (caller_lane lanes e.parent) = rw is_in refl in
+      let found : slice_get lanes n ≡ Some (lane_in (caller_lane lanes e.parent) n e.act) =
+      lane_at script.acts [] script.acts n n e (omega arith) stands has_parent in
+      let called : lane_in (caller_lane lanes e.parent) n e.act ≡ lane_or_reactor (caller_lane lanes e.parent) =
+      rw is_in refl in
       let of_caller : lane_or_reactor (caller_lane lanes e.parent) ≡ lane_of script caller =
-      ap (λ p. lane_or_reactor (caller_lane lanes p)) parent ∙ or_reactor (slice_get lanes caller) ∙ unwrap_or-slice_get lanes caller lane.Reactor in
+      ap (λ p. lane_or_reactor (caller_lane lanes p)) parent ∙ or_reactor (slice_get lanes caller)
+      ∙ unwrap_or-slice_get lanes caller lane.Reactor in
       let opened_op : is_op script n ≡ is_operation e.act = rw stands refl in
       record {
         op = opened_op ∙ is_dispatch (caller_lane lanes e.parent) e.act is_in;
-        lane = get_or_from_slice_get lanes n (lane_in (caller_lane lanes e.parent) n e.act) lane.Reactor found ∙ called ∙ of_caller;
+        lane =
+            get_or_from_slice_get lanes n (lane_in (caller_lane lanes e.parent) n e.act) lane.Reactor found ∙ called
+            ∙ of_caller;
       }
 
   both : (a b c d : Bool) → a ≡ true → (b && c) ≡ true → d ≡ c → (a && d) ≡ true
@@ -94,7 +112,8 @@ module _ (script : ScriptModel) (ordered : (n : ℕ) → HasParent script.acts n
   callee_of_lane : (of : Lane) → is_of_lane script of caller ≡ true → is_of_lane script of n ≡ true
   callee_of_lane of of_lane =
       let found : OnLane = on_lane_by (slice_get script.acts n) refl in
-      both (is_op script n) (is_op script caller) (same_lane (lane_of script caller) of) (same_lane (lane_of script n) of) found.op of_lane (ap (λ l. same_lane l of) found.lane)
+      both (is_op script n) (is_op script caller) (same_lane (lane_of script caller) of)
+      (same_lane (lane_of script n) of) found.op of_lane (ap (λ l. same_lane l of) found.lane)
 
   pub callee_of : (of : Option Lane) → is_op_of script of caller ≡ true → is_op_of script of n ≡ true
   callee_of (Some lane) of_lane = callee_of_lane lane of_lane
@@ -115,7 +134,8 @@ op_within script n is = elim (cases_lt n (length script.acts)) [
 ]
 
 pub of_within : (script : ScriptModel) (of : Option Lane) (n : ℕ) → is_op_of script of n ≡ true → n < length script.acts
-of_within script (Some lane) n is = op_within script n (first_of (is_op script n) (same_lane (lane_of script n) lane) is).0
+of_within script (Some lane) n is =
+    op_within script n (first_of (is_op script n) (same_lane (lane_of script n) lane) is).0
 of_within script None n is = op_within script n is
 
 same_number : (m k l : ℕ) → (m == k) ≡ true → (m == l) ≡ true → (k == l) ≡ true
@@ -139,12 +159,15 @@ same_both lane.Reactor lane.Reactor (lane.Strand l) is_a is_b = absurd (cc is_b)
 same_both lane.Reactor lane.Reactor (lane.Own l) is_a is_b = absurd (cc is_b)
 
 -- an operation is of one lane
-pub lanes_apart : (script : ScriptModel) (a b : Lane) (n : ℕ) → same_lane a b ≡ false → is_of_lane script b n ≡ true → is_of_lane script a n ≡ false
+pub lanes_apart : (script : ScriptModel) (a b : Lane) (n : ℕ) → same_lane a b ≡ false → is_of_lane script b n ≡ true →
+    is_of_lane script a n ≡ false
 lanes_apart script a b n differ is_b = by (is_of_lane script a n) refl
   where
     by : (t : Bool) → is_of_lane script a n ≡ t → is_of_lane script a n ≡ false
     by false is_a = is_a
     by true is_a =
-        let on_a : same_lane (lane_of script n) a ≡ true = (first_of (is_op script n) (same_lane (lane_of script n) a) is_a).1 in
-        let on_b : same_lane (lane_of script n) b ≡ true = (first_of (is_op script n) (same_lane (lane_of script n) b) is_b).1 in
+        let on_a : same_lane (lane_of script n) a ≡ true =
+        (first_of (is_op script n) (same_lane (lane_of script n) a) is_a).1 in
+        let on_b : same_lane (lane_of script n) b ≡ true =
+        (first_of (is_op script n) (same_lane (lane_of script n) b) is_b).1 in
         absurd (cc (differ, same_both (lane_of script n) a b on_a on_b))

@@ -23,14 +23,18 @@ differ_too : (a b : ℕ) (t : Bool) → eqb a b ≡ false → eqb b a ≡ t → 
 differ_too a b false differ is = refl
 differ_too a b true differ is = absurd (cc (differ, eq-eqb a b (sym (eqb-true b a is))))
 
-pub once_more : (acts : ℕ) (r : Ready) (pushed : List Ready) → AreOnce acts pushed → r.0 < acts → is_among r.0 pushed ≡ false → AreOnce acts (pushed ++ r ∷ [])
+pub once_more : (acts : ℕ) (r : Ready) (pushed : List Ready) → AreOnce acts pushed → r.0 < acts →
+    is_among r.0 pushed ≡ false → AreOnce acts (pushed ++ r ∷ [])
 once_more acts r [] once below new = (below, refl, tt)
 once_more acts r (x ∷ xs) once below new =
     let parts = neither (x.0 == r.0) (is_among r.0 xs) new in
-    let apart : is_among x.0 (xs ++ r ∷ []) ≡ false = list_any-append (λ ready. ready.0 == x.0) xs (r ∷ []) ∙ rw (once.1, differ_too x.0 r.0 (r.0 == x.0) parts.0 refl) refl in
+    let apart : is_among x.0 (xs ++ r ∷ []) ≡ false =
+    list_any-append (λ ready. ready.0 == x.0) xs (r ∷ [])
+    ∙ rw (once.1, differ_too x.0 r.0 (r.0 == x.0) parts.0 refl) refl in
     (once.0, apart, once_more acts r xs once.2 below parts.1)
 
-apart_from : (op : ℕ) (pushed : List Ready) → is_among op pushed ≡ false → AllByRecursion (λ y. eqb op y ≡ false) (numbers pushed)
+apart_from : (op : ℕ) (pushed : List Ready) → is_among op pushed ≡ false →
+    AllByRecursion (λ y. eqb op y ≡ false) (numbers pushed)
 apart_from op [] new = tt
 apart_from op (x ∷ xs) new =
     let parts = neither (x.0 == op) (is_among op xs) new in
@@ -45,7 +49,8 @@ first_or_more : (a b : Bool) → (a || b) ≡ true → (a ≡ true) ⊎ (b ≡ t
 first_or_more true b is = inl refl
 first_or_more false b is = inr is
 
-all_below : (acts : ℕ) (pushed : List Ready) → AreOnce acts pushed → (q : ℕ) → list_any (eqb q) (numbers pushed) ≡ true → q < acts
+all_below : (acts : ℕ) (pushed : List Ready) → AreOnce acts pushed → (q : ℕ) →
+    list_any (eqb q) (numbers pushed) ≡ true → q < acts
 all_below acts [] once q is = absurd (cc is)
 all_below acts (x ∷ xs) once q is =
     elim (first_or_more (eqb q x.0) (list_any (eqb q) (numbers xs)) is) [
@@ -58,10 +63,15 @@ length-numbers [] = refl
 length-numbers (x ∷ xs) = ap suc (length-numbers xs)
 
 -- where one more isn't pushed, there is room for it
-pub fewer_once : (acts op : ℕ) (pushed : List Ready) → AreOnce acts pushed → op < acts → is_among op pushed ≡ false → length pushed < acts
+pub fewer_once : (acts op : ℕ) (pushed : List Ready) → AreOnce acts pushed → op < acts → is_among op pushed ≡ false →
+    length pushed < acts
 unfolding IsDistinct
 fewer_once acts op pushed once below new =
     let all : IsDistinct eqb (op ∷ numbers pushed) = (apart_from op pushed new, distinct acts pushed once) in
     let within : (q : ℕ) → list_any (eqb q) (op ∷ numbers pushed) ≡ true → q < acts =
-    λ q is. elim (first_or_more (eqb q op) (list_any (eqb q) (numbers pushed)) is) [ inl same ↦ omega (arith, below, eqb-true q op same) | inr more ↦ all_below acts pushed once q more ] in
+    λ q is.
+    elim (first_or_more (eqb q op) (list_any (eqb q) (numbers pushed)) is) [
+      | inl same ↦ omega (arith, below, eqb-true q op same)
+      | inr more ↦ all_below acts pushed once q more
+    ] in
     omega (arith, length-le_from_distinct_below (op ∷ numbers pushed) acts all within, length-numbers pushed)

@@ -15,9 +15,11 @@ use Rattle.strand_core.specs.declared.execution.Execution.TheVariants as executi
 abbrev pub CanExecute : {H : Type 0} → Held H → ℕ → Type 0
 CanExecute hands op = IsSome (held_at hands op) × (is_inline hands.script op ≡ false)
 
--- a poster takes every whole execution of an operation with its code and size, whatever the marks of its ends
+-- a poster takes every whole execution of an operation with its code and size, whatever the marks
+-- of its ends
 abbrev pub TakesWhole : (List Posted → Type 0) → ScriptModel → ℕ → Code → ℕ → Type 0
-TakesWhole Takes script op code size = (calls : List Posted) → IsWholeExecution script AnyMark op code size calls → Takes calls
+TakesWhole Takes script op code size =
+    (calls : List Posted) → IsWholeExecution script AnyMark op code size calls → Takes calls
 
 -- where the execution is whole
 abbrev pub IfWhole : Execution → (ℕ → Type 0) → Type 0
@@ -29,23 +31,30 @@ abbrev pub IfMissing : Execution → (ℕ → Type 0) → Type 0
 IfMissing (execution.Whole mark) P = ⊤
 IfMissing (execution.Missing op) P = P op
 
--- these calls and no other were made; the handlers of the operations that began in them were spent and the others stayed;
--- and what would have been taken after these calls is taken now
-pub record HasMade {H : Type 0} (calls : List Posted) (old new : Held H) (old_made new_made : List Posted) (OldTakes NewTakes : List Posted → Type 0) : Type 0 where
+-- these calls and no other were made; the handlers of the operations that began in them were spent
+-- and the others stayed; and what would have been taken after these calls is taken now
+pub record HasMade {H : Type 0} (calls : List Posted) (old new : Held H)
+    (old_made new_made : List Posted) (OldTakes NewTakes : List Posted → Type 0) : Type 0 where
   pub made : new_made ≡ old_made ++ calls
   pub script : new.script ≡ old.script
   pub spent : (n : ℕ) → held_at new n ≡ left_at (begins n calls) (held_at old n)
   pub rest : (rest : List Posted) → OldTakes (calls ++ rest) → NewTakes rest
 
 -- one whole execution was made, with the marks of the handlers that were held
-pub record HasExecuted {H : Type 0} (marks : H → Marks) (op : ℕ) (code : Code) (size : ℕ) (old new : Held H) (old_made new_made : List Posted) (OldTakes NewTakes : List Posted → Type 0) : Type 0 where
+pub record HasExecuted {H : Type 0} (marks : H → Marks) (op : ℕ) (code : Code) (size : ℕ)
+    (old new : Held H) (old_made new_made : List Posted) (OldTakes NewTakes : List Posted → Type 0)
+    : Type 0 where
   pub calls : List Posted
   pub whole : IsWholeExecution old.script (HasRunMark marks old) op code size calls
   pub did : HasMade calls old new old_made new_made OldTakes NewTakes
 
 -- the same of an operation whose handler, with this mark, was taken before
-pub record HasRun {H : Type 0} (marks : H → Marks) (mark op : ℕ) (code : Code) (size : ℕ) (old new : Held H) (old_made new_made : List Posted) (OldTakes NewTakes : List Posted → Type 0) : Type 0 where
+pub record HasRun {H : Type 0} (marks : H → Marks) (mark op : ℕ) (code : Code) (size : ℕ)
+    (old new : Held H) (old_made new_made : List Posted) (OldTakes NewTakes : List Posted → Type 0)
+    : Type 0 where
   pub begun : ℕ
   pub body : List Posted
-  pub acts : AreCalls old.script (HasRunMark marks old) (branch_of old.script op (class_of_code code)) body
-  pub did : HasMade (execution_of op code size begun mark body) old new old_made new_made OldTakes NewTakes
+  pub acts : AreCalls old.script (HasRunMark marks old)
+      (branch_of old.script op (class_of_code code)) body
+  pub did : HasMade (execution_of op code size begun mark body) old new old_made new_made OldTakes
+      NewTakes

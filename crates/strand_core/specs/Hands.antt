@@ -29,19 +29,23 @@ held_at hands op = in_list hands.handlers op
 
 -- an operation that executes inside another one's execution
 abbrev pub IsInlineOf : ScriptModel → ℕ → ℕ → Type 0
-IsInlineOf script caller op = (class : Class) × (parent_of script op ≡ Some (caller, class)) × (is_inline script op ≡ true)
+IsInlineOf script caller op =
+    (class : Class) × (parent_of script op ≡ Some (caller, class)) × (is_inline script op ≡ true)
 
 -- the handlers of all that execute inside an operation's execution
 abbrev pub HasInlineOf : {H : Type 0} → ScriptModel → List (Option H) → ℕ → Type 0
-HasInlineOf script handlers caller = (op : ℕ) → IsInlineOf script caller op → IsSome (in_list handlers op)
+HasInlineOf script handlers caller =
+    (op : ℕ) → IsInlineOf script caller op → IsSome (in_list handlers op)
 
 -- with the handler of an operation those of all that execute inside it
 abbrev pub KeepsInline : {H : Type 0} → ScriptModel → List (Option H) → Type 0
-KeepsInline script handlers = (op : ℕ) → IsSome (in_list handlers op) → HasInlineOf script handlers op
+KeepsInline script handlers =
+    (op : ℕ) → IsSome (in_list handlers op) → HasInlineOf script handlers op
 
 -- the handler in whose execution an operation executes, if there is one, is not held
 abbrev pub CallerIsGone : {H : Type 0} → Held H → ℕ → Type 0
-CallerIsGone hands op = (caller : ℕ) → IsInlineOf hands.script caller op → held_at hands caller ≡ None
+CallerIsGone hands op =
+    (caller : ℕ) → IsInlineOf hands.script caller op → held_at hands caller ≡ None
 
 -- two lanes are the same
 abbrev pub same_lane : Lane → Lane → Bool

@@ -23,4 +23,5 @@ was_pushed line op = is_among op line.pushed
 -- operations below a number, none twice
 abbrev pub AreOnce : ℕ → List (ℕ × Code × ℕ) → Type 0
 AreOnce acts [] = Unit {0}
-AreOnce acts (ready ∷ pushed) = (ready.0 < acts) × (is_among ready.0 pushed ≡ false) × AreOnce acts pushed
+AreOnce acts (ready ∷ pushed) =
+    (ready.0 < acts) × (is_among ready.0 pushed ≡ false) × AreOnce acts pushed

@@ -15,7 +15,8 @@ use session_script::{Script, parents_come_first};
 pub enum Execution {
     /// It is whole; this is the run mark of the operation's handler.
     Whole(u64),
-    /// The handler of this operation isn't held, or the operation executes inside another one's call alone.
+    /// The handler of this operation isn't held, or the operation executes inside another one's
+    /// call alone.
     Missing(OpNo),
 }
 
@@ -34,7 +35,8 @@ fn is_inline(script: &Script, op: OpNo) -> bool
     op < script.acts() && script.is_inline(op)
 }
 
-/// Executes a handler that was taken out of the hands, and in its body those that execute inside it.
+/// Executes a handler that was taken out of the hands, and in its body those that execute inside
+/// it.
 fn run<P: Poster, H: CompletionHandler>(
     poster: &mut P,
     script: &Script,
@@ -46,10 +48,12 @@ fn run<P: Poster, H: CompletionHandler>(
     requires act { completed.op < length script.now.acts }
     requires taken { held_at hands.old completed.op ≡ None }
     requires inside { HasInlineOf script.now hands.old.handlers completed.op }
-    requires takes { TakesWhole (P.takes poster.old) script.now completed.op completed.code completed.size }
+    requires takes { TakesWhole (P.takes poster.old) script.now completed.op completed.code
+        completed.size }
     ensures mark { result ≡ (H.marks handler).run }
-    ensures ran { HasRun H.marks (H.marks handler).run completed.op completed.code completed.size hands.old hands.new
-        (P.made poster.old) (P.made poster.new) (P.takes poster.old) (P.takes poster.new) }
+    ensures ran { HasRun H.marks (H.marks handler).run completed.op completed.code completed.size
+        hands.old hands.new (P.made poster.old) (P.made poster.new) (P.takes poster.old)
+        (P.takes poster.new) }
 {
     parents_come_first(script);
     let Completed { op, code, size } = completed;
@@ -84,14 +88,16 @@ fn run<P: Poster, H: CompletionHandler>(
     ran.mark
 }
 
-/// Executes the handler of an operation that completed with this code and size, and inside it the dispatches that execute
-/// inside their call. The handler is called once, at the position that its begin got. Handlers that don't begin stay.
+/// Executes the handler of an operation that completed with this code and size, and inside it the
+/// dispatches that execute inside their call. The handler is called once, at the position that its
+/// begin got. Handlers that don't begin stay.
 ///
-/// It is how a completion handler is called, and how `asio::dispatch` may call one inside its own call (Asio reference,
-/// `asio::dispatch`; Overview, "Strands: Use Threads Without Explicit Locking").
+/// It is how a completion handler is called, and how `asio::dispatch` may call one inside its own
+/// call (Asio reference, `asio::dispatch`; Overview, "Strands: Use Threads Without Explicit
+/// Locking").
 ///
-/// `Missing` comes before any call, exactly where the handler isn't held or the operation is inline. Takes no memory, and
-/// recurses as deep as bodies nest.
+/// `Missing` comes before any call, exactly where the handler isn't held or the operation is
+/// inline. Takes no memory, and recurses as deep as bodies nest.
 pub fn execute<P: Poster, H: CompletionHandler>(
     poster: &mut P,
     script: &Script,
@@ -101,7 +107,8 @@ pub fn execute<P: Poster, H: CompletionHandler>(
     size: u32,
 ) -> Execution
     requires script { hands.old.script ≡ script.now }
-    requires takes { CanExecute hands.old op → TakesWhole (P.takes poster.old) script.now op code size }
+    requires takes { CanExecute hands.old op →
+        TakesWhole (P.takes poster.old) script.now op code size }
     ensures script { hands.new.script ≡ hands.old.script }
     ensures can { IfWhole result (λ mark. CanExecute hands.old op) }
     ensures mark { IfWhole result (λ mark. HasRunMark H.marks hands.old op mark) }

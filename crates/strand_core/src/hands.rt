@@ -11,9 +11,10 @@ use session_script::{Script, parents_come_first};
 use std::alloc::Global;
 use std::marker::Model;
 
-/// The handlers of the operations of one lane of a script, or of all lanes, each found by its number at constant cost.
-/// With the handler of an operation they hold those of all operations that execute inside it. They must be spent or given
-/// back (Asio reference, "Requirements on asynchronous operations": a handler is called at most once, or destroyed).
+/// The handlers of the operations of one lane of a script, or of all lanes, each found by its
+/// number at constant cost. With the handler of an operation they hold those of all operations that
+/// execute inside it. They must be spent or given back (Asio reference, "Requirements on
+/// asynchronous operations": a handler is called at most once, or destroyed).
 ///
 /// Contracts see the script, and at each number a handler or nothing.
 pub struct Hands<'a, H = Handler> {
@@ -31,7 +32,8 @@ impl<'a, H> Model for Hands<'a, H> {
 
     ghost Value = { Held H };
 
-    ghost view = { λ h. record { script = h.script.now; handlers = behind h.first (handlers_in h.held) } };
+    ghost view = { λ h.
+        record { script = h.script.now; handlers = behind h.first (handlers_in h.held) } };
 
     ghost invariant = { λ h. record {
       keeps : KeepsInline h.script.now (behind h.first (handlers_in h.held));
@@ -56,7 +58,8 @@ fn move_handler<H>(from: &mut Rack<H>, a: ActNo, to: &mut Rack<H>, place: u32)
     requires there { IsSome (handler_at from.old a) }
     requires free { slice_get (handlers_in to.old) place ≡ Some None }
     ensures taken { handlers_in from.new ≡ slice_set (handlers_in from.old) a None }
-    ensures put { handlers_in to.new ≡ slice_set (handlers_in to.old) place (handler_at from.old a) }
+    ensures put { handlers_in to.new
+        ≡ slice_set (handlers_in to.old) place (handler_at from.old a) }
 {
     match from.take(a) {
         Some(handler) => to.put(place, handler),
@@ -65,9 +68,9 @@ fn move_handler<H>(from: &mut Rack<H>, a: ActNo, to: &mut Rack<H>, place: u32)
 }
 
 impl<'a, H> Hands<'a, H> {
-    /// Takes the handlers of the operations of a lane out of the rack, and leaves the others. Takes memory in proportion to
-    /// the numbers from its first operation to its last, and looks at each act; where the memory is refused, the rack is as
-    /// before.
+    /// Takes the handlers of the operations of a lane out of the rack, and leaves the others. Takes
+    /// memory in proportion to the numbers from its first operation to its last, and looks at each
+    /// act; where the memory is refused, the rack is as before.
     pub fn of_lane(
         alloc: Global,
         script: &'a Script,
@@ -78,16 +81,19 @@ impl<'a, H> Hands<'a, H> {
         ensures script { IfOk result (λ hands. hands.script ≡ script.now) }
         ensures held { IfOk result (λ hands. (n : ℕ) →
             held_at hands n ≡ taken_at (is_of_lane script.now lane n) (handler_at rack.old n)) }
-        ensures left { IfOk result (λ hands. (n : ℕ) →
-            handler_at rack.new n ≡ left_at (is_of_lane script.now lane n) (handler_at rack.old n)) }
-        ensures count { IfOk result (λ hands. length (handlers_in rack.new) ≡ length (handlers_in rack.old)) }
+        ensures left { IfOk result (λ hands.
+            (n : ℕ) →
+            handler_at rack.new n
+            ≡ left_at (is_of_lane script.now lane n) (handler_at rack.old n)) }
+        ensures count { IfOk result
+            (λ hands. length (handlers_in rack.new) ≡ length (handlers_in rack.old)) }
         ensures refused { IfErr result (λ fault. rack.new ≡ rack.old) }
     {
         Hands::of_operations(alloc, script, Some(lane), rack)
     }
 
-    /// Takes the handlers of all operations of a script out of the rack. Takes memory in proportion to the acts, and looks at
-    /// each once; where the memory is refused, the rack is as before.
+    /// Takes the handlers of all operations of a script out of the rack. Takes memory in proportion
+    /// to the acts, and looks at each once; where the memory is refused, the rack is as before.
     pub fn of_script(
         alloc: Global,
         script: &'a Script,
@@ -99,7 +105,8 @@ impl<'a, H> Hands<'a, H> {
             held_at hands n ≡ taken_at (is_op script.now n) (handler_at rack.old n)) }
         ensures left { IfOk result (λ hands. (n : ℕ) →
             handler_at rack.new n ≡ left_at (is_op script.now n) (handler_at rack.old n)) }
-        ensures count { IfOk result (λ hands. length (handlers_in rack.new) ≡ length (handlers_in rack.old)) }
+        ensures count { IfOk result
+            (λ hands. length (handlers_in rack.new) ≡ length (handlers_in rack.old)) }
         ensures refused { IfErr result (λ fault. rack.new ≡ rack.old) }
     {
         Hands::of_operations(alloc, script, None, rack)
@@ -118,7 +125,8 @@ impl<'a, H> Hands<'a, H> {
             held_at hands n ≡ taken_at (is_op_of script.now lane n) (handler_at rack.old n)) }
         ensures left { IfOk result (λ hands. (n : ℕ) →
             handler_at rack.new n ≡ left_at (is_op_of script.now lane n) (handler_at rack.old n)) }
-        ensures count { IfOk result (λ hands. length (handlers_in rack.new) ≡ length (handlers_in rack.old)) }
+        ensures count { IfOk result
+            (λ hands. length (handlers_in rack.new) ≡ length (handlers_in rack.old)) }
         ensures refused { IfErr result (λ fault. rack.new ≡ rack.old) }
     {
         parents_come_first(script);
@@ -156,8 +164,10 @@ impl<'a, H> Hands<'a, H> {
 impl<'a, H: CompletionHandler> Hands<'a, H> {
     /// Puts the handlers back into the rack, which has nothing at their numbers. Takes no memory.
     pub fn give_back(self, rack: &mut Rack<H>)
-        requires { (n : ℕ) → IsSome (held_at self n) → slice_get (handlers_in rack.old) n ≡ Some None }
-        ensures put { (n : ℕ) → handler_at rack.new n ≡ or_else (held_at self.entry n) (handler_at rack.old n) }
+        requires { (n : ℕ) → IsSome (held_at self n) →
+            slice_get (handlers_in rack.old) n ≡ Some None }
+        ensures put { (n : ℕ) →
+            handler_at rack.new n ≡ or_else (held_at self.entry n) (handler_at rack.old n) }
         ensures count { length (handlers_in rack.new) ≡ length (handlers_in rack.old) }
     {
         let Hands {
@@ -173,11 +183,12 @@ impl<'a, H: CompletionHandler> Hands<'a, H> {
         held.discard_all();
     }
 
-    /// Discards the handler of an operation, and answers its drop mark: `None` exactly where it isn't held. Where the
-    /// operation executes inside another one, that one's handler is gone.
+    /// Discards the handler of an operation, and answers its drop mark: `None` exactly where it
+    /// isn't held. Where the operation executes inside another one, that one's handler is gone.
     pub fn discard(mut self, op: OpNo) -> (Hands<'a, H>, Option<u64>)
         requires { CallerIsGone self op }
-        ensures mark { result.1 ≡ option_map (λ handler. (H.marks handler).drop) (held_at self.entry op) }
+        ensures mark { result.1
+            ≡ option_map (λ handler. (H.marks handler).drop) (held_at self.entry op) }
         ensures after { result.0.handlers ≡ slice_set self.entry.handlers op None }
         ensures script { result.0.script ≡ self.entry.script }
     {

@@ -35,8 +35,8 @@ pub(crate) fn is_of(script: &Script, lane: Option<Lane>, a: ActNo) -> bool
     }
 }
 
-/// The number of the first operation of a lane, and that behind its last; both are 0 where it has none. Where no lane is
-/// named it is the number of each act.
+/// The number of the first operation of a lane, and that behind its last; both are 0 where it has
+/// none. Where no lane is named it is the number of each act.
 pub(crate) fn span_of(script: &Script, lane: Option<Lane>) -> (OpNo, OpNo)
     ensures ordered { result.0 ≤ result.1 }
     ensures within { result.1 ≤ length script.now.acts }
@@ -51,7 +51,8 @@ pub(crate) fn span_of(script: &Script, lane: Option<Lane>) -> (OpNo, OpNo)
 fn lane_span(script: &Script, lane: Lane) -> (OpNo, OpNo)
     ensures ordered { result.0 ≤ result.1 }
     ensures within { result.1 ≤ length script.now.acts }
-    ensures spans { (n : ℕ) → is_of_lane script.now lane n ≡ true → (result.0 ≤ n) × (n < result.1) }
+    ensures spans { (n : ℕ) → is_of_lane script.now lane n ≡ true →
+        (result.0 ≤ n) × (n < result.1) }
 {
     let (mut first, mut end) = (0, 0);
     for a in 0..script.acts() {

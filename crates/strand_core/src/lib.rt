@@ -1,6 +1,7 @@
-//! One execution of a handler with those that execute inside it. It promises that the calls made are those of one whole
-//! execution: begin, then for each act of the branch that the handler chose its call, its own execution where it is
-//! inline, and its back, and last the end; and that the handlers that weren't spent stay. The contexts stand on it.
+//! One execution of a handler with those that execute inside it. It promises that the calls made
+//! are those of one whole execution: begin, then for each act of the branch that the handler chose
+//! its call, its own execution where it is inline, and its back, and last the end; and that the
+//! handlers that weren't spent stay. The contexts stand on it.
 #![tactic(auto)]
 
 mod execution;

@@ -7,8 +7,8 @@ use session_script::Script;
 use std::alloc::Global;
 use std::marker::Model;
 
-/// The ready operations of a session on one thread, oldest first: so those of each strand keep their order (Asio
-/// reference, `io_context::strand`, "Order of handler invocation").
+/// The ready operations of a session on one thread, oldest first: so those of each strand keep
+/// their order (Asio reference, `io_context::strand`, "Order of handler invocation").
 ///
 /// Contracts see what was pushed so far, and how many of it were popped.
 #[derive(Debug, Drop)]
@@ -25,7 +25,8 @@ impl Model for PlainLanes {
 
     ghost Value = { ReadyLine };
 
-    ghost view = { λ lanes. record { acts = lanes.acts; pushed = lanes.pushed.items; popped = lanes.popped } };
+    ghost view = { λ lanes.
+        record { acts = lanes.acts; pushed = lanes.pushed.items; popped = lanes.popped } };
 
     ghost invariant = { λ lanes. record {
       room : lanes.acts ≤ vec_capacity lanes.pushed;
@@ -35,9 +36,11 @@ impl Model for PlainLanes {
 }
 
 impl PlainLanes {
-    /// None ready, and room for each operation of the script. Takes memory in proportion to its acts.
+    /// None ready, and room for each operation of the script. Takes memory in proportion to its
+    /// acts.
     pub fn make(alloc: Global, script: &Script) -> Result<PlainLanes, NoMemory>
-        ensures { IfOk result (λ lanes. lanes ≡ record { acts = length script.now.acts; pushed = []; popped = 0 }) }
+        ensures { IfOk result
+            (λ lanes. lanes ≡ record { acts = length script.now.acts; pushed = []; popped = 0 }) }
     {
         let acts = script.acts();
         Ok(PlainLanes {
@@ -66,7 +69,8 @@ impl PlainLanes {
     /// The oldest that waits: `None` exactly where none does.
     pub fn pop(&mut self) -> Option<(OpNo, Code, u32)>
         ensures oldest { result ≡ next_waiting self.old }
-        ensures after { IsSome result → self.new ≡ record self.old { popped = self.old.popped + 1 } }
+        ensures after { IsSome result →
+            self.new ≡ record self.old { popped = self.old.popped + 1 } }
         ensures unchanged { result ≡ None → self.new ≡ self.old }
     {
         let next = self.pushed.get(self.popped).copied();

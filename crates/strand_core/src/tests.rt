@@ -203,7 +203,8 @@ fn execute_on<'a, 'b, 'c, 'd, R: Abort>(
     }
 }
 
-/// Executes what is ready on the strands 0 and 1, oldest first, until nothing is or the context is stopped.
+/// Executes what is ready on the strands 0 and 1, oldest first, until nothing is or the context is
+/// stopped.
 fn run_ready<'a, 'b, 'c, 'd, R: Abort>(
     script: &Script,
     listing: &mut Listing<R>,
@@ -227,7 +228,8 @@ fn run_ready<'a, 'b, 'c, 'd, R: Abort>(
     }
 }
 
-/// The calls of a session of at most four postings on the strands 0 and 1 on one thread, as its trace has them.
+/// The calls of a session of at most four postings on the strands 0 and 1 on one thread, as its
+/// trace has them.
 fn session<R: Abort + Copy>(
     rt: R,
     alloc: Global,

@@ -30,28 +30,38 @@ take-shorter (suc n) (suc m) (b ∷ bytes) h = ap (λ bs. b ∷ bs) (take-shorte
 abbrev begins : List ℕ → List ℕ → Bool
 begins delimiter bytes = bytes_eq (take (length delimiter) bytes) delimiter
 
-found-none : (b : Bool) (count : ℕ) (rest : Option ℕ) → cond b (Some count) (behind 1 rest) ≡ None → (b ≡ false) × (rest ≡ None)
+found-none : (b : Bool) (count : ℕ) (rest : Option ℕ) → cond b (Some count) (behind 1 rest) ≡ None →
+    (b ≡ false) × (rest ≡ None)
 found-none true count rest h = absurd (cc)
 found-none false count None h = (refl, refl)
 found-none false count (Some n) h = absurd (cc)
 
 -- where no occurrence ends among the bytes that were seen, the search goes on where the next one may begin
-first_end-after : (delimiter bytes : List ℕ) (seen from : ℕ) → from + length delimiter ≤ seen → first_end delimiter (take seen bytes) ≡ None → first_end delimiter bytes ≡ behind from (first_end delimiter (drop from bytes))
+first_end-after : (delimiter bytes : List ℕ) (seen from : ℕ) → from + length delimiter ≤ seen →
+    first_end delimiter (take seen bytes) ≡ None →
+    first_end delimiter bytes ≡ behind from (first_end delimiter (drop from bytes))
 first_end-after delimiter bytes seen zero h none = sym (behind-none (first_end delimiter bytes))
 first_end-after delimiter [] seen (suc from) h none = refl
 first_end-after delimiter (b ∷ bytes) zero (suc from) h none = absurd (omega arith)
 first_end-after delimiter (b ∷ bytes) (suc seen) (suc from) h none =
-    let parts = found-none (begins delimiter (b ∷ take seen bytes)) (length delimiter) (first_end delimiter (take seen bytes)) none in
-    let same : take (length delimiter) (b ∷ take seen bytes) ≡ take (length delimiter) (b ∷ bytes) = take-shorter (length delimiter) (suc seen) (b ∷ bytes) (omega arith) in
+    let parts =
+    found-none (begins delimiter (b ∷ take seen bytes)) (length delimiter) (first_end delimiter (take seen bytes)) none in
+    let same : take (length delimiter) (b ∷ take seen bytes) ≡ take (length delimiter) (b ∷ bytes) =
+    take-shorter (length delimiter) (suc seen) (b ∷ bytes) (omega arith) in
     let test : begins delimiter (b ∷ bytes) ≡ false = ap (λ bs. bytes_eq bs delimiter) (sym same) ∙ parts.0 in
     let rest = first_end-after delimiter bytes seen from (omega arith) parts.1 in
-    rw test (ap (behind 1) rest ∙ behind-behind 1 from (first_end delimiter (drop from bytes)) ∙ ap (λ n. behind n (first_end delimiter (drop from bytes))) (add-one from))
+    rw test (ap (behind 1) rest ∙ behind-behind 1 from (first_end delimiter (drop from bytes))
+    ∙ ap (λ n. behind n (first_end delimiter (drop from bytes))) (add-one from))
 
 -- at the beginning of the search
-pub first_end-seen : (delimiter bytes : List ℕ) (seen : ℕ) → first_end delimiter (take seen bytes) ≡ None → first_end delimiter bytes ≡ behind (seen - length delimiter) (first_end delimiter (drop (seen - length delimiter) bytes))
+pub first_end-seen : (delimiter bytes : List ℕ) (seen : ℕ) → first_end delimiter (take seen bytes) ≡ None →
+    first_end delimiter bytes
+    ≡ behind (seen - length delimiter) (first_end delimiter (drop (seen - length delimiter) bytes))
 first_end-seen delimiter bytes seen none =
     elim (cases_lt seen (length delimiter)) [
-      | inl short ↦ let none_yet : seen - length delimiter ≡ 0 = omega arith in rw none_yet (sym (behind-none (first_end delimiter bytes)))
+      | inl short ↦
+          let none_yet : seen - length delimiter ≡ 0 = omega arith in
+          rw none_yet (sym (behind-none (first_end delimiter bytes)))
       | inr long ↦ first_end-after delimiter bytes seen (seen - length delimiter) (omega arith) none
     ]
 
@@ -62,21 +72,32 @@ bytes_eq-turned (x ∷ xs) [] = refl
 bytes_eq-turned (x ∷ xs) (y ∷ ys) = grind (arith, nat_tests, bytes_eq-turned xs ys)
 
 -- what the search finds at this place, by what stands there
-pub first_end-at : (delimiter bytes : List ℕ) (at : ℕ) (stands : Bool) → at < length bytes → stands ≡ bytes_eq delimiter (take (length delimiter) (drop at bytes)) → first_end delimiter (drop at bytes) ≡ cond stands (Some (length delimiter)) (behind 1 (first_end delimiter (drop (suc at) bytes)))
+pub first_end-at : (delimiter bytes : List ℕ) (at : ℕ) (stands : Bool) → at < length bytes →
+    stands ≡ bytes_eq delimiter (take (length delimiter) (drop at bytes)) →
+    first_end delimiter (drop at bytes)
+    ≡ cond stands (Some (length delimiter)) (behind 1 (first_end delimiter (drop (suc at) bytes)))
 first_end-at delimiter [] at stands within is = absurd (omega arith)
 first_end-at delimiter (b ∷ bytes) zero stands within is =
-    let test : begins delimiter (b ∷ bytes) ≡ stands = bytes_eq-turned (take (length delimiter) (b ∷ bytes)) delimiter ∙ sym is in
+    let test : begins delimiter (b ∷ bytes) ≡ stands =
+    bytes_eq-turned (take (length delimiter) (b ∷ bytes)) delimiter ∙ sym is in
     rw test refl
 first_end-at delimiter (b ∷ bytes) (suc at) stands within is = first_end-at delimiter bytes at stands (omega arith) is
 
 -- no occurrence begins at this place
-pub first_end-next : (delimiter bytes : List ℕ) (at : ℕ) → at < length bytes → false ≡ bytes_eq delimiter (take (length delimiter) (drop at bytes)) → first_end delimiter bytes ≡ behind at (first_end delimiter (drop at bytes)) → first_end delimiter bytes ≡ behind (at + 1) (first_end delimiter (drop (at + 1) bytes))
+pub first_end-next : (delimiter bytes : List ℕ) (at : ℕ) → at < length bytes →
+    false ≡ bytes_eq delimiter (take (length delimiter) (drop at bytes)) →
+    first_end delimiter bytes ≡ behind at (first_end delimiter (drop at bytes)) →
+    first_end delimiter bytes ≡ behind (at + 1) (first_end delimiter (drop (at + 1) bytes))
 first_end-next delimiter bytes at within is so_far =
     let here = first_end-at delimiter bytes at false within is in
-    rw add-one (so_far ∙ ap (behind at) here ∙ behind-behind at 1 (first_end delimiter (drop (suc at) bytes)) ∙ ap (λ n. behind n (first_end delimiter (drop (suc at) bytes))) (omega arith))
+    rw add-one (so_far ∙ ap (behind at) here ∙ behind-behind at 1 (first_end delimiter (drop (suc at) bytes))
+    ∙ ap (λ n. behind n (first_end delimiter (drop (suc at) bytes))) (omega arith))
 
 -- an occurrence begins at this place
-pub first_end-here : (delimiter bytes : List ℕ) (at : ℕ) → at < length bytes → true ≡ bytes_eq delimiter (take (length delimiter) (drop at bytes)) → first_end delimiter bytes ≡ behind at (first_end delimiter (drop at bytes)) → first_end delimiter bytes ≡ Some (at + length delimiter)
+pub first_end-here : (delimiter bytes : List ℕ) (at : ℕ) → at < length bytes →
+    true ≡ bytes_eq delimiter (take (length delimiter) (drop at bytes)) →
+    first_end delimiter bytes ≡ behind at (first_end delimiter (drop at bytes)) →
+    first_end delimiter bytes ≡ Some (at + length delimiter)
 first_end-here delimiter bytes at within is so_far =
     let here = first_end-at delimiter bytes at true within is in
     so_far ∙ ap (behind at) here ∙ ap Some (omega arith)
@@ -95,18 +116,21 @@ ends-here delimiter bytes stands =
     let none : length delimiter - length delimiter ≡ 0 = omega arith in
     record { begins = omega arith; within = omega (arith, length-take (length delimiter) bytes); stands = rw none same }
 
-ends-more : (delimiter bytes : List ℕ) (b count : ℕ) → EndsAt delimiter bytes count → EndsAt delimiter (b ∷ bytes) (suc count)
+ends-more : (delimiter bytes : List ℕ) (b count : ℕ) → EndsAt delimiter bytes count →
+    EndsAt delimiter (b ∷ bytes) (suc count)
 ends-more delimiter bytes b count ends =
     let from : suc count - length delimiter ≡ suc (count - length delimiter) = omega (arith, ends.begins) in
     record { begins = omega (arith, ends.begins); within = omega (arith, ends.within); stands = rw from ends.stands }
 
-ends-less : (delimiter bytes : List ℕ) (b count : ℕ) → length delimiter ≤ count → EndsAt delimiter (b ∷ bytes) (suc count) → EndsAt delimiter bytes count
+ends-less : (delimiter bytes : List ℕ) (b count : ℕ) → length delimiter ≤ count →
+    EndsAt delimiter (b ∷ bytes) (suc count) → EndsAt delimiter bytes count
 ends-less delimiter bytes b count long ends =
     let from : suc count - length delimiter ≡ suc (count - length delimiter) = omega arith in
     record { begins = long; within = omega (arith, ends.within); stands = rw from at ends.stands }
 
 -- what ends behind the first byte at least
-ends-later : (delimiter bytes : List ℕ) (b count : ℕ) → begins delimiter (b ∷ bytes) ≡ false → 0 < length delimiter → EndsAt delimiter (b ∷ bytes) count → (earlier : ℕ) × (count ≡ suc earlier) × EndsAt delimiter bytes earlier
+ends-later : (delimiter bytes : List ℕ) (b count : ℕ) → begins delimiter (b ∷ bytes) ≡ false → 0 < length delimiter →
+    EndsAt delimiter (b ∷ bytes) count → (earlier : ℕ) × (count ≡ suc earlier) × EndsAt delimiter bytes earlier
 ends-later delimiter bytes b zero other some ends = absurd (omega (arith, ends.begins))
 ends-later delimiter bytes b (suc count) other some ends =
     elim (cases_lt count (length delimiter)) [
@@ -117,7 +141,8 @@ ends-later delimiter bytes b (suc count) other some ends =
     ]
 
 -- without a first end there is none
-no-end : (delimiter bytes : List ℕ) → 0 < length delimiter → first_end delimiter bytes ≡ None → (count : ℕ) → ¬ EndsAt delimiter bytes count
+no-end : (delimiter bytes : List ℕ) → 0 < length delimiter → first_end delimiter bytes ≡ None → (count : ℕ) →
+    ¬ EndsAt delimiter bytes count
 no-end delimiter [] some none count ends = omega (arith, ends.begins, ends.within)
 no-end delimiter (b ∷ bytes) some none count ends =
     let parts = found-none (begins delimiter (b ∷ bytes)) (length delimiter) (first_end delimiter bytes) none in
@@ -135,7 +160,10 @@ record FoundLater (delimiter bytes : List ℕ) (b count : ℕ) : Type 0 where
   is : count ≡ suc before
   later : first_end delimiter bytes ≡ Some before
 
-found-one : (delimiter bytes : List ℕ) (b count : ℕ) (test : Bool) (rest : Option ℕ) → begins delimiter (b ∷ bytes) ≡ test → first_end delimiter bytes ≡ rest → cond test (Some (length delimiter)) (behind 1 rest) ≡ Some count → Found delimiter bytes b count ⊎ FoundLater delimiter bytes b count
+found-one : (delimiter bytes : List ℕ) (b count : ℕ) (test : Bool) (rest : Option ℕ) →
+    begins delimiter (b ∷ bytes) ≡ test → first_end delimiter bytes ≡ rest →
+    cond test (Some (length delimiter)) (behind 1 rest) ≡ Some count →
+    Found delimiter bytes b count ⊎ FoundLater delimiter bytes b count
 found-one delimiter bytes b count true rest test is found = inl (record { stands = test; here = cc })
 found-one delimiter bytes b count false None test is found = absurd (cc)
 found-one delimiter bytes b count false (Some n) test is found =
@@ -143,12 +171,14 @@ found-one delimiter bytes b count false (Some n) test is found =
     let same : count ≡ n + 1 = cc in
     inr (record { other = test; before = n; is = omega arith; later = is })
 
-found-where : (delimiter bytes : List ℕ) (b count : ℕ) → first_end delimiter (b ∷ bytes) ≡ Some count → Found delimiter bytes b count ⊎ FoundLater delimiter bytes b count
+found-where : (delimiter bytes : List ℕ) (b count : ℕ) → first_end delimiter (b ∷ bytes) ≡ Some count →
+    Found delimiter bytes b count ⊎ FoundLater delimiter bytes b count
 found-where delimiter bytes b count found =
     found-one delimiter bytes b count (begins delimiter (b ∷ bytes)) (first_end delimiter bytes) refl refl found
 
 -- where the first end is, an occurrence ends
-pub first_end-ends : (delimiter bytes : List ℕ) (count : ℕ) → first_end delimiter bytes ≡ Some count → EndsAt delimiter bytes count
+pub first_end-ends : (delimiter bytes : List ℕ) (count : ℕ) → first_end delimiter bytes ≡ Some count →
+    EndsAt delimiter bytes count
 first_end-ends delimiter [] count found = absurd (cc)
 first_end-ends delimiter (b ∷ bytes) count found =
     elim (found-where delimiter bytes b count found) [
@@ -157,7 +187,8 @@ first_end-ends delimiter (b ∷ bytes) count found =
     ]
 
 -- no occurrence ends before the first end
-first_end-earlier : (delimiter bytes : List ℕ) (count earlier : ℕ) → 0 < length delimiter → first_end delimiter bytes ≡ Some count → earlier < count → ¬ EndsAt delimiter bytes earlier
+first_end-earlier : (delimiter bytes : List ℕ) (count earlier : ℕ) → 0 < length delimiter →
+    first_end delimiter bytes ≡ Some count → earlier < count → ¬ EndsAt delimiter bytes earlier
 first_end-earlier delimiter [] count earlier some found less ends = absurd (cc)
 first_end-earlier delimiter (b ∷ bytes) count earlier some found less ends =
     elim (found-where delimiter bytes b count found) [
@@ -167,7 +198,9 @@ first_end-earlier delimiter (b ∷ bytes) count earlier some found less ends =
           first_end-earlier delimiter bytes at.before later.0 some at.later (omega (arith, at.is, later.1)) later.2
     ]
 
-is-first : (delimiter bytes : List ℕ) (count : ℕ) (found : Option ℕ) → 0 < length delimiter → first_end delimiter bytes ≡ found → EndsAt delimiter bytes count → ((earlier : ℕ) → earlier < count → ¬ EndsAt delimiter bytes earlier) → found ≡ Some count
+is-first : (delimiter bytes : List ℕ) (count : ℕ) (found : Option ℕ) → 0 < length delimiter →
+    first_end delimiter bytes ≡ found → EndsAt delimiter bytes count →
+    ((earlier : ℕ) → earlier < count → ¬ EndsAt delimiter bytes earlier) → found ≡ Some count
 is-first delimiter bytes count None some is ends first = absurd (no-end delimiter bytes some is count ends)
 is-first delimiter bytes count (Some n) some is ends first =
     elim (cases_lt n count) [
@@ -180,17 +213,26 @@ is-first delimiter bytes count (Some n) some is ends first =
     ]
 
 pub first_end-is_first : FirstEndIsFirst
-first_end-is_first delimiter bytes count some =
-    (λ found. (first_end-ends delimiter bytes count found, λ earlier less. first_end-earlier delimiter bytes count earlier some found less), λ both. is-first delimiter bytes count (first_end delimiter bytes) some refl both.0 both.1)
+first_end-is_first delimiter bytes count some = (
+  λ found. (
+    first_end-ends delimiter bytes count found,
+    λ earlier less. first_end-earlier delimiter bytes count earlier some found less,
+  ),
+  λ both. is-first delimiter bytes count (first_end delimiter bytes) some refl both.0 both.1,
+)
 
 -- what is found stays found where more bytes follow
-pub first_end-append : (delimiter bytes more : List ℕ) (count : ℕ) → first_end delimiter bytes ≡ Some count → first_end delimiter (bytes ++ more) ≡ Some count
+pub first_end-append : (delimiter bytes more : List ℕ) (count : ℕ) → first_end delimiter bytes ≡ Some count →
+    first_end delimiter (bytes ++ more) ≡ Some count
 first_end-append delimiter [] more count found = absurd (cc)
 first_end-append delimiter (b ∷ bytes) more count found =
     let ends = first_end-ends delimiter (b ∷ bytes) count found in
-    let same : take (length delimiter) (b ∷ (bytes ++ more)) ≡ take (length delimiter) (b ∷ bytes) = take-append-le (length delimiter) (b ∷ bytes) more (omega (arith, ends.begins, ends.within)) in
-    let test : begins delimiter (b ∷ (bytes ++ more)) ≡ begins delimiter (b ∷ bytes) = ap (λ bs. bytes_eq bs delimiter) same in
+    let same : take (length delimiter) (b ∷ (bytes ++ more)) ≡ take (length delimiter) (b ∷ bytes) =
+    take-append-le (length delimiter) (b ∷ bytes) more (omega (arith, ends.begins, ends.within)) in
+    let test : begins delimiter (b ∷ (bytes ++ more)) ≡ begins delimiter (b ∷ bytes) =
+    ap (λ bs. bytes_eq bs delimiter) same in
     elim (found-where delimiter bytes b count found) [
       | inl at ↦ rw (test, at.stands) (ap Some (sym at.here))
-      | inr at ↦ rw (test, at.other, first_end-append delimiter bytes more at.before at.later) (ap Some (omega (arith, at.is)))
+      | inr at ↦
+          rw (test, at.other, first_end-append delimiter bytes more at.before at.later) (ap Some (omega (arith, at.is)))
     ]

@@ -20,4 +20,6 @@ pub record EndsAt (delimiter bytes : List ℕ) (count : ℕ) : Type 0 where
 abbrev pub FirstEndIsFirst : Type 0
 FirstEndIsFirst =
     (delimiter bytes : List ℕ) (count : ℕ) → 0 < length delimiter →
-    (first_end delimiter bytes ≡ Some count) ↔ (EndsAt delimiter bytes count × ((earlier : ℕ) → earlier < count → ¬ EndsAt delimiter bytes earlier))
+    (first_end delimiter bytes ≡ Some count)
+    ↔ (EndsAt delimiter bytes count
+    × ((earlier : ℕ) → earlier < count → ¬ EndsAt delimiter bytes earlier))

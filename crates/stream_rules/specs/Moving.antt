@@ -1,4 +1,5 @@
--- What a call of a reactor that reads or writes some bytes answers: how an operation on some bytes completes at once.
+-- What a call of a reactor that reads or writes some bytes answers: how an operation on some bytes
+-- completes at once.
 use Rattle.std.specs.Prelude.{ℕ, List, Option, Some, None}
 use Rattle.asio_types.specs.declared.code.Code.TheVariants as code
 use Rattle.asio_types.specs.declared.outside.Moved.{Moved}
@@ -15,11 +16,13 @@ moved_by (Some (other, count)) = moved.End
 
 -- what a read of so many bytes answers
 abbrev pub read_answer : ℕ → Stream → Moved
-read_answer wanted stream = moved_by (served_read (Some_bytes wanted) 0 stream.arrived stream.read_mark).outcome
+read_answer wanted stream =
+    moved_by (served_read (Some_bytes wanted) 0 stream.arrived stream.read_mark).outcome
 
 -- what a write of these bytes answers
 abbrev pub write_answer : List ℕ → Stream → Moved
-write_answer bytes stream = moved_by (served_write (Some_of bytes) 0 stream.room stream.write_mark).outcome
+write_answer bytes stream =
+    moved_by (served_write (Some_of bytes) 0 stream.room stream.write_mark).outcome
 
 -- how many bytes a call moved
 abbrev pub moved_count : Moved → ℕ

@@ -1,5 +1,6 @@
--- A queue of operations on one side of a stream: served one at a time in order of acceptance (Asio reference, async_read and
--- async_write ask that no other operation on that side runs; here they queue, which is this project's own).
+-- A queue of operations on one side of a stream: served one at a time in order of acceptance (Asio
+-- reference, async_read and async_write ask that no other operation on that side runs; here they
+-- queue, which is this project's own).
 use Rattle.std.specs.Prelude.{ℕ, ◌+◌, List, [], ◌∷◌, Option, Some, None}
 use Rattle.stream_rules.specs.Stream.{Stream}
 use Rattle.stream_rules.specs.declared.queue.Queued.{Queued}
@@ -7,7 +8,8 @@ use Rattle.stream_rules.specs.declared.queue.Queued.{Queued}
 pub use Rattle.stream_rules.specs.declared.queue.Completion.{Completion}
 use Rattle.stream_rules.specs.Serving.{Reading, Writing, Outcome, Served, served_read, served_write, after_reading, after_writing}
 
--- an operation that is pending: its number, when it was accepted, what it asks for, and the bytes that it moved so far
+-- an operation that is pending: its number, when it was accepted, what it asks for, and the bytes
+-- that it moved so far
 pub record Pending (Asks : Type 0) : Type 0 where
   pub op : ℕ
   pub accepted : ℕ
@@ -16,7 +18,12 @@ pub record Pending (Asks : Type 0) : Type 0 where
 
 -- an operation in a queue, with what it asks for
 abbrev pub asked : {Asks : Type 0} → (ℕ → Asks) → Queued → Pending Asks
-asked asks queued = record { op = queued.op; accepted = queued.accepted; asks = asks queued.op; moved = queued.moved }
+asked asks queued = record {
+  op = queued.op;
+  accepted = queued.accepted;
+  asks = asks queued.op;
+  moved = queued.moved;
+}
 
 -- what serving a queue leaves: what completed, in order, the operations that stay, and the stream
 pub record QueueServed (Asks : Type 0) : Type 0 where
@@ -24,7 +31,8 @@ pub record QueueServed (Asks : Type 0) : Type 0 where
   pub staying : List (Pending Asks)
   pub stream : Stream
 
--- how a kind of operations is served: by what it asks for, what it moved before and the stream; and what that does to the stream
+-- how a kind of operations is served: by what it asks for, what it moved before and the stream; and
+-- what that does to the stream
 pub record Side (Asks : Type 0) : Type 0 where
   pub served : Asks → ℕ → Stream → Served
   pub after : Asks → ℕ → ℕ → Stream → Stream
@@ -43,16 +51,23 @@ writing_side = record {
 
 -- one more operation completed in front of what was served
 abbrev pub completed_first : {Asks : Type 0} → ℕ → Outcome → QueueServed Asks → QueueServed Asks
-completed_first op outcome rest = record rest { completed = record { op = op; outcome = outcome } ∷ rest.completed }
+completed_first op outcome rest =
+    record rest { completed = record { op = op; outcome = outcome } ∷ rest.completed }
 
 -- what serving a head and the queue behind it leaves
-abbrev pub served_head : {Asks : Type 0} → Pending Asks → List (Pending Asks) → ℕ → Stream → QueueServed Asks → Option Outcome → QueueServed Asks
+abbrev pub served_head : {Asks : Type 0} → Pending Asks → List (Pending Asks) → ℕ → Stream →
+    QueueServed Asks → Option Outcome → QueueServed Asks
 served_head head queue used stream rest None =
-    record { completed = []; staying = record head { moved = head.moved + used } ∷ queue; stream = stream }
+    record {
+      completed = [];
+      staying = record head { moved = head.moved + used } ∷ queue;
+      stream = stream;
+    }
 served_head head queue used stream rest (Some outcome) = completed_first head.op outcome rest
 
 -- the head is served, and where it completes the next one; a head that stays keeps what it moved
-abbrev pub served_queue : {Asks : Type 0} → Side Asks → List (Pending Asks) → Stream → QueueServed Asks
+abbrev pub served_queue : {Asks : Type 0} → Side Asks → List (Pending Asks) → Stream →
+    QueueServed Asks
 served_queue side [] stream = record { completed = []; staying = []; stream = stream }
 served_queue side (head ∷ queue) stream =
     let served = side.served head.asks head.moved stream in

@@ -1,5 +1,6 @@
--- One stream of the scripted outside as contracts see it, and what happens to it. Bytes and room are used up before a
--- mark is seen (Asio reference, `async_read_some`, `async_write_some` and `error::basic_errors`).
+-- One stream of the scripted outside as contracts see it, and what happens to it. Bytes and room
+-- are used up before a mark is seen (Asio reference, `async_read_some`, `async_write_some` and
+-- `error::basic_errors`).
 use Rattle.std.specs.Prelude.{ℕ, ◌+◌, List, [], ◌++◌, Option, None, Some, is_some, if◌then◌else◌}
 use Rattle.asio_types.specs.declared.mark.ReadMark.{ReadMark}
 use Rattle.asio_types.specs.declared.mark.ReadMark.TheVariants as read_mark
@@ -35,14 +36,20 @@ performed (what.Feed bytes) s =
     record s { arrived = if is_some s.read_mark then s.arrived else s.arrived ++ bytes }
 performed what.End s = record s { read_mark = first_mark s.read_mark read_mark.Eof }
 performed what.Reset s =
-    record s { read_mark = first_mark s.read_mark read_mark.Reset; write_mark = first_mark s.write_mark write_mark.Reset }
+    record s {
+      read_mark = first_mark s.read_mark read_mark.Reset;
+      write_mark = first_mark s.write_mark write_mark.Reset;
+    }
 performed (what.Room count) s =
     record s { room = if is_some s.write_mark then s.room else s.room + count }
 
 -- once no further time point exists, each side without a mark has reached its end
 abbrev pub marked_last : Stream → Stream
 marked_last s =
-    record s { read_mark = first_mark s.read_mark read_mark.Eof; write_mark = first_mark s.write_mark write_mark.Broken }
+    record s {
+      read_mark = first_mark s.read_mark read_mark.Eof;
+      write_mark = first_mark s.write_mark write_mark.Broken;
+    }
 
 -- closing drops the bytes there and the room
 abbrev pub closed_stream : Stream → Stream

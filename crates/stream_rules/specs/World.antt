@@ -34,7 +34,8 @@ lines_after now lines = filter (λ line. nat_lt now line.time) lines
 abbrev pub insert_time : ℕ → List ℕ → List ℕ
 insert_time time [] = time ∷ []
 insert_time time (first ∷ later) =
-    if nat_lt time first then time ∷ (first ∷ later) else (if time == first then first ∷ later else first ∷ insert_time time later)
+    if nat_lt time first then time ∷ (first ∷ later)
+    else (if time == first then first ∷ later else first ∷ insert_time time later)
 
 -- the distinct numbers of a list, rising
 abbrev pub rising : List ℕ → List ℕ

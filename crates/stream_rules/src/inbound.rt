@@ -8,8 +8,8 @@ use asio_types::{Moved, NoMemory, ReadMark};
 use std::alloc::Global;
 use std::marker::Model;
 
-/// The reading side of a stream: what arrived and wasn't read, in reserved memory. Contracts see that, the mark, and how
-/// many more bytes may arrive.
+/// The reading side of a stream: what arrived and wasn't read, in reserved memory. Contracts see
+/// that, the mark, and how many more bytes may arrive.
 #[derive(Debug, Drop)]
 pub struct Inbound {
     bytes: Vec<u8>,
@@ -24,9 +24,12 @@ impl Model for Inbound {
 
     ghost Value = { Arrivals };
 
-    ghost view = { λ s. record { arrived = drop s.given s.bytes.items; mark = s.mark; left = s.left } };
+    ghost view = { λ s.
+        record { arrived = drop s.given s.bytes.items; mark = s.mark; left = s.left } };
 
-    ghost invariant = { λ s. (s.given ≤ vec_len s.bytes) × (vec_len s.bytes + s.left ≤ vec_capacity s.bytes) × (vec_len s.bytes + s.left < 2 ^ 32) };
+    ghost invariant = { λ s.
+        (s.given ≤ vec_len s.bytes) × (vec_len s.bytes + s.left ≤ vec_capacity s.bytes)
+        × (vec_len s.bytes + s.left < 2 ^ 32) };
 }
 
 fn moved_by_mark(mark: Option<ReadMark>) -> Moved
@@ -55,7 +58,8 @@ impl Inbound {
     /// These bytes arrive, unless the side has its mark. Copies just these.
     pub fn feed(&mut self, bytes: &[u8])
         requires { length bytes.now ≤ self.old.left }
-        ensures arrived { self.new.arrived ≡ (if is_some self.old.mark then self.old.arrived else self.old.arrived ++ bytes.now) }
+        ensures arrived { self.new.arrived
+            ≡ (if is_some self.old.mark then self.old.arrived else self.old.arrived ++ bytes.now) }
         ensures mark { self.new.mark ≡ self.old.mark }
         ensures left { self.new.left ≡ self.old.left - length bytes.now }
     {
@@ -103,8 +107,12 @@ impl Inbound {
     /// Gives the next bytes, or says by the mark why none is there. Copies just what it gives.
     pub fn read(&mut self, buf: &mut [u8]) -> Moved
         requires { 0 < length buf.old }
-        ensures answer { result ≡ moved_by (some_of (length buf.old) (length self.old.arrived) (option_map read_code self.old.mark)).outcome }
-        ensures bytes { take (moved_count result) buf.new ≡ take (moved_count result) self.old.arrived }
+        ensures answer { result
+            ≡ moved_by
+            (some_of (length buf.old) (length self.old.arrived)
+            (option_map read_code self.old.mark)).outcome }
+        ensures bytes { take (moved_count result) buf.new
+            ≡ take (moved_count result) self.old.arrived }
         ensures arrived { self.new.arrived ≡ drop (moved_count result) self.old.arrived }
         ensures mark { self.new.mark ≡ self.old.mark }
         ensures left { self.new.left ≡ self.old.left }

@@ -8,7 +8,8 @@ pub fn first_ends_are_first()
     ensures { FirstEndIsFirst }
 {}
 
-/// What a reading operation gives doesn't depend on how the bytes were cut, nor what a queue of composed ones does.
+/// What a reading operation gives doesn't depend on how the bytes were cut, nor what a queue of
+/// composed ones does.
 pub fn reads_are_cut_anywhere()
     ensures go_on { ReadsGoOn }
     ensures queues_go_on { QueuesGoOn }

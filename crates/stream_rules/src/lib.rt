@@ -1,7 +1,8 @@
-//! The rules of streams, once: what a reading or writing operation gives on the bytes or the room that are there, for one
-//! operation and for a queue of them; a stream's two sides in reserved memory; and scripted time over the lines of a world.
-//! It promises that its code gives exactly what its definitions say, and that what an operation gives doesn't depend on
-//! how its bytes were cut. Legality, the composed operations and every reactor stand on it.
+//! The rules of streams, once: what a reading or writing operation gives on the bytes or the room
+//! that are there, for one operation and for a queue of them; a stream's two sides in reserved
+//! memory; and scripted time over the lines of a world. It promises that its code gives exactly
+//! what its definitions say, and that what an operation gives doesn't depend on how its bytes were
+//! cut. Legality, the composed operations and every reactor stand on it.
 #![tactic(auto)]
 
 mod delimiter;

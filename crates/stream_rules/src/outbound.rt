@@ -8,8 +8,8 @@ use asio_types::{Moved, NoMemory, WriteMark};
 use std::alloc::Global;
 use std::marker::Model;
 
-/// The writing side of a stream: what was sent, in reserved memory. Contracts see that, the room, the mark, and how much
-/// more room may come.
+/// The writing side of a stream: what was sent, in reserved memory. Contracts see that, the room,
+/// the mark, and how much more room may come.
 #[derive(Debug, Drop)]
 pub struct Outbound {
     sent: Vec<u8>,
@@ -24,9 +24,12 @@ impl Model for Outbound {
 
     ghost Value = { Departures };
 
-    ghost view = { λ s. record { sent = s.sent.items; room = s.room; mark = s.mark; left = s.left } };
+    ghost view = { λ s.
+        record { sent = s.sent.items; room = s.room; mark = s.mark; left = s.left } };
 
-    ghost invariant = { λ s. (vec_len s.sent + s.room + s.left ≤ vec_capacity s.sent) × (vec_len s.sent + s.room + s.left < 2 ^ 32) };
+    ghost invariant = { λ s.
+        (vec_len s.sent + s.room + s.left ≤ vec_capacity s.sent)
+        × (vec_len s.sent + s.room + s.left < 2 ^ 32) };
 }
 
 fn moved_by_mark(mark: Option<WriteMark>) -> Moved
@@ -42,7 +45,8 @@ fn moved_by_mark(mark: Option<WriteMark>) -> Moved
 impl Outbound {
     /// Nothing was sent and there is no room; so much may come.
     pub fn make(alloc: Global, left: u32) -> Result<Outbound, NoMemory>
-        ensures { IfOk result (λ side. side ≡ record { sent = []; room = 0; mark = None; left = left }) }
+        ensures { IfOk result
+            (λ side. side ≡ record { sent = []; room = 0; mark = None; left = left }) }
     {
         Ok(Outbound {
             sent: Vec::with_capacity(alloc, left as usize)?,
@@ -56,7 +60,8 @@ impl Outbound {
     pub fn add_room(&mut self, count: u32)
         requires { count ≤ self.old.left }
         ensures sent { self.new.sent ≡ self.old.sent }
-        ensures room { self.new.room ≡ (if is_some self.old.mark then self.old.room else self.old.room + count) }
+        ensures room { self.new.room
+            ≡ (if is_some self.old.mark then self.old.room else self.old.room + count) }
         ensures mark { self.new.mark ≡ self.old.mark }
         ensures left { self.new.left ≡ self.old.left - count }
     {
@@ -105,10 +110,14 @@ impl Outbound {
         self.room -= used;
     }
 
-    /// Takes the first bytes, as many as there is room for, or says by the mark why there is none. Copies just these.
+    /// Takes the first bytes, as many as there is room for, or says by the mark why there is none.
+    /// Copies just these.
     pub fn write(&mut self, bytes: &[u8]) -> Moved
         requires { 0 < length bytes.now }
-        ensures answer { result ≡ moved_by (some_of (length bytes.now) self.old.room (option_map write_code self.old.mark)).outcome }
+        ensures answer { result
+            ≡ moved_by
+            (some_of (length bytes.now) self.old.room
+            (option_map write_code self.old.mark)).outcome }
         ensures sent { self.new.sent ≡ self.old.sent ++ take (moved_count result) bytes.now }
         ensures room { self.new.room ≡ self.old.room - moved_count result }
         ensures mark { self.new.mark ≡ self.old.mark }

@@ -63,11 +63,13 @@ impl Pipe {
         self.outbound.set_mark(WriteMark::Broken);
     }
 
-    /// What a reading operation that got `moved` bytes before gives on this stream; it consumes what it used. Costs as
-    /// `served_read` does.
+    /// What a reading operation that got `moved` bytes before gives on this stream; it consumes
+    /// what it used. Costs as `served_read` does.
     pub fn serve_read(&mut self, reading: Reading, moved: u32) -> Served
-        ensures served { result ≡ reading_side.served (reading_of reading.entry) moved (stream_of self.old) }
-        ensures stream { stream_of self.new ≡ reading_side.after (reading_of reading.entry) moved result.used (stream_of self.old) }
+        ensures served { result
+            ≡ reading_side.served (reading_of reading.entry) moved (stream_of self.old) }
+        ensures stream { stream_of self.new
+            ≡ reading_side.after (reading_of reading.entry) moved result.used (stream_of self.old) }
         ensures countable { IsNone result.outcome → moved + result.used < 2 ^ 32 }
         ensures bytes_left { self.new.inbound.left ≡ self.old.inbound.left }
         ensures room_left { self.new.outbound.left ≡ self.old.outbound.left }
@@ -77,12 +79,14 @@ impl Pipe {
         served
     }
 
-    /// What a writing operation of which `moved` bytes were taken before gives on this stream; the bytes for which there
-    /// was room are sent. Copies just these.
+    /// What a writing operation of which `moved` bytes were taken before gives on this stream; the
+    /// bytes for which there was room are sent. Copies just these.
     pub fn serve_write(&mut self, writing: Writing, moved: u32) -> Served
         requires { IsCountable (writing_of writing) }
-        ensures served { result ≡ writing_side.served (writing_of writing.entry) moved (stream_of self.old) }
-        ensures stream { stream_of self.new ≡ writing_side.after (writing_of writing.entry) moved result.used (stream_of self.old) }
+        ensures served { result
+            ≡ writing_side.served (writing_of writing.entry) moved (stream_of self.old) }
+        ensures stream { stream_of self.new
+            ≡ writing_side.after (writing_of writing.entry) moved result.used (stream_of self.old) }
         ensures countable { IsNone result.outcome → moved + result.used < 2 ^ 32 }
         ensures bytes_left { self.new.inbound.left ≡ self.old.inbound.left }
         ensures room_left { self.new.outbound.left ≡ self.old.outbound.left }
@@ -99,19 +103,23 @@ impl Pipe {
     pub fn read(&mut self, buf: &mut [u8]) -> Moved
         requires { 0 < length buf.old }
         ensures answer { result ≡ read_answer (length buf.old) (stream_of self.old) }
-        ensures bytes { take (moved_count result) buf.new ≡ take (moved_count result) self.old.inbound.arrived }
-        ensures stream { stream_of self.new ≡ after_reading (moved_count result) (stream_of self.old) }
+        ensures bytes { take (moved_count result) buf.new
+            ≡ take (moved_count result) self.old.inbound.arrived }
+        ensures stream { stream_of self.new
+            ≡ after_reading (moved_count result) (stream_of self.old) }
         ensures bytes_left { self.new.inbound.left ≡ self.old.inbound.left }
         ensures room_left { self.new.outbound.left ≡ self.old.outbound.left }
     {
         self.inbound.read(buf)
     }
 
-    /// Takes the first bytes, as many as there is room for, or says by the mark why there is none. Copies just these.
+    /// Takes the first bytes, as many as there is room for, or says by the mark why there is none.
+    /// Copies just these.
     pub fn write(&mut self, bytes: &[u8]) -> Moved
         requires { 0 < length bytes.now }
         ensures answer { result ≡ write_answer bytes.now (stream_of self.old) }
-        ensures stream { stream_of self.new ≡ after_writing (Some_of bytes.now) 0 (moved_count result) (stream_of self.old) }
+        ensures stream { stream_of self.new
+            ≡ after_writing (Some_of bytes.now) 0 (moved_count result) (stream_of self.old) }
         ensures bytes_left { self.new.inbound.left ≡ self.old.inbound.left }
         ensures room_left { self.new.outbound.left ≡ self.old.outbound.left }
     {

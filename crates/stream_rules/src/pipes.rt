@@ -65,9 +65,11 @@ fn pipe_for(alloc: Global, stream: StreamNo, lines: &[Line]) -> Result<Pipe, NoM
     }
 }
 
-/// New streams, each with memory for all that these lines bring to it. Goes through the lines twice for each stream.
+/// New streams, each with memory for all that these lines bring to it. Goes through the lines twice
+/// for each stream.
 pub fn pipes_for(alloc: Global, streams: u8, lines: &[Line]) -> Result<Vec<Pipe>, NoMemory>
-    ensures streams { IfOk result (λ pipes. map stream_of pipes.items ≡ replicate streams new_stream) }
+    ensures streams { IfOk result
+        (λ pipes. map stream_of pipes.items ≡ replicate streams new_stream) }
     ensures room { IfOk result (λ pipes. HasRoom lines.now pipes.items) }
 {
     let mut pipes = Vec::with_capacity(alloc, streams as usize)?;
@@ -79,9 +81,11 @@ pub fn pipes_for(alloc: Global, streams: u8, lines: &[Line]) -> Result<Vec<Pipe>
 
 /// Performs the lines that are due. Costs what they bring.
 pub fn perform_due(schedule: &Schedule, pipes: &mut [Pipe])
-    requires within { All (λ line. line.stream < length pipes.old) (lines_at schedule.now.time schedule.now.lines) }
+    requires within { All (λ line. line.stream < length pipes.old)
+        (lines_at schedule.now.time schedule.now.lines) }
     requires room { HasRoom (lines_at schedule.now.time schedule.now.lines) pipes.old }
-    ensures streams { map stream_of pipes.new ≡ perform_lines (lines_at schedule.now.time schedule.now.lines) (map stream_of pipes.old) }
+    ensures streams { map stream_of pipes.new
+        ≡ perform_lines (lines_at schedule.now.time schedule.now.lines) (map stream_of pipes.old) }
     ensures room { UsesRoom (lines_at schedule.now.time schedule.now.lines) pipes.old pipes.new }
     ensures marked { All IsMarked pipes.old → All IsMarked pipes.new }
 {

@@ -68,13 +68,16 @@ fn stays(
     requires queue_room { deque_len queue.old < deque_capacity queue.old }
     requires list_room { vec_len completed.old < vec_capacity completed.old }
     ensures stays { IsTrue result ↔ IsNone served.outcome }
-    ensures put_back { IfNone served.outcome (queue.new.items ≡ record head { moved = head.moved + served.used } ∷ queue.old.items) }
+    ensures put_back { IfNone served.outcome
+        (queue.new.items ≡ record head { moved = head.moved + served.used } ∷ queue.old.items) }
     ensures unlisted { IfNone served.outcome (completed.new.items ≡ completed.old.items) }
-    ensures listed { IfSome served.outcome
-        (λ outcome. completed.new.items ≡ completed.old.items ++ record { op = head.op; outcome = outcome } ∷ []) }
+    ensures listed { IfSome served.outcome (λ outcome.
+        completed.new.items
+        ≡ completed.old.items ++ record { op = head.op; outcome = outcome } ∷ []) }
     ensures gone { IfSome served.outcome (λ outcome. queue.new.items ≡ queue.old.items) }
     ensures count { IfSome served.outcome (λ outcome. deque_len queue.new ≡ deque_len queue.old) }
-    ensures lengths { vec_len completed.new + deque_len queue.new ≡ vec_len completed.old + deque_len queue.old + 1 }
+    ensures lengths { vec_len completed.new + deque_len queue.new
+        ≡ vec_len completed.old + deque_len queue.old + 1 }
     ensures kept_queue_room { deque_capacity queue.new ≡ deque_capacity queue.old }
     ensures kept_list_room { vec_capacity completed.new ≡ vec_capacity completed.old }
 {
@@ -94,8 +97,8 @@ fn stays(
     }
 }
 
-/// Serves the reads of a stream from the head, as long as the head completes, and lists what completed. A head that stays
-/// keeps what it consumed. Takes no memory.
+/// Serves the reads of a stream from the head, as long as the head completes, and lists what
+/// completed. A head that stays keeps what it consumed. Takes no memory.
 pub fn serve_reads<A: Asks>(
     asks: &A,
     queue: &mut VecDeque<Queued>,
@@ -104,14 +107,19 @@ pub fn serve_reads<A: Asks>(
 )
     requires reads { All (λ queued. A.IsReading asks.now queued.op) queue.old.items }
     requires room { vec_len completed.old + deque_len queue.old ≤ vec_capacity completed.old }
-    ensures completed { completed.new.items ≡ completed.old.items ++
-        (served_queue reading_side (map (asked (A.reads asks.now)) queue.old.items) (stream_of pipe.old)).completed }
-    ensures staying { map (asked (A.reads asks.now)) queue.new.items ≡
-        (served_queue reading_side (map (asked (A.reads asks.now)) queue.old.items) (stream_of pipe.old)).staying }
-    ensures stream { stream_of pipe.new ≡
-        (served_queue reading_side (map (asked (A.reads asks.now)) queue.old.items) (stream_of pipe.old)).stream }
+    ensures completed { completed.new.items
+        ≡ completed.old.items
+        ++ (served_queue reading_side (map (asked (A.reads asks.now)) queue.old.items)
+        (stream_of pipe.old)).completed }
+    ensures staying { map (asked (A.reads asks.now)) queue.new.items
+        ≡ (served_queue reading_side (map (asked (A.reads asks.now)) queue.old.items)
+        (stream_of pipe.old)).staying }
+    ensures stream { stream_of pipe.new
+        ≡ (served_queue reading_side (map (asked (A.reads asks.now)) queue.old.items)
+        (stream_of pipe.old)).stream }
     ensures reads { All (λ queued. A.IsReading asks.now queued.op) queue.new.items }
-    ensures each_once { vec_len completed.new + deque_len queue.new ≡ vec_len completed.old + deque_len queue.old }
+    ensures each_once { vec_len completed.new + deque_len queue.new
+        ≡ vec_len completed.old + deque_len queue.old }
     ensures bytes_left { pipe.new.inbound.left ≡ pipe.old.inbound.left }
     ensures room_left { pipe.new.outbound.left ≡ pipe.old.outbound.left }
     ensures list_room { vec_capacity completed.new ≡ vec_capacity completed.old }
@@ -134,14 +142,19 @@ pub fn serve_writes<A: Asks>(
 )
     requires writes { All (λ queued. A.IsWriting asks.now queued.op) queue.old.items }
     requires room { vec_len completed.old + deque_len queue.old ≤ vec_capacity completed.old }
-    ensures completed { completed.new.items ≡ completed.old.items ++
-        (served_queue writing_side (map (asked (A.writes asks.now)) queue.old.items) (stream_of pipe.old)).completed }
-    ensures staying { map (asked (A.writes asks.now)) queue.new.items ≡
-        (served_queue writing_side (map (asked (A.writes asks.now)) queue.old.items) (stream_of pipe.old)).staying }
-    ensures stream { stream_of pipe.new ≡
-        (served_queue writing_side (map (asked (A.writes asks.now)) queue.old.items) (stream_of pipe.old)).stream }
+    ensures completed { completed.new.items
+        ≡ completed.old.items
+        ++ (served_queue writing_side (map (asked (A.writes asks.now)) queue.old.items)
+        (stream_of pipe.old)).completed }
+    ensures staying { map (asked (A.writes asks.now)) queue.new.items
+        ≡ (served_queue writing_side (map (asked (A.writes asks.now)) queue.old.items)
+        (stream_of pipe.old)).staying }
+    ensures stream { stream_of pipe.new
+        ≡ (served_queue writing_side (map (asked (A.writes asks.now)) queue.old.items)
+        (stream_of pipe.old)).stream }
     ensures writes { All (λ queued. A.IsWriting asks.now queued.op) queue.new.items }
-    ensures each_once { vec_len completed.new + deque_len queue.new ≡ vec_len completed.old + deque_len queue.old }
+    ensures each_once { vec_len completed.new + deque_len queue.new
+        ≡ vec_len completed.old + deque_len queue.old }
     ensures bytes_left { pipe.new.inbound.left ≡ pipe.old.inbound.left }
     ensures room_left { pipe.new.outbound.left ≡ pipe.old.outbound.left }
     ensures list_room { vec_capacity completed.new ≡ vec_capacity completed.old }

@@ -121,8 +121,8 @@ pub(crate) fn bytes_of<'a>(writing: Writing<'a>) -> &'a [u8]
     }
 }
 
-/// What a reading operation that got `moved` bytes before gives where these bytes are there; a mark is seen behind them.
-/// Costs nothing that grows, and for `Until` the search for the delimiter.
+/// What a reading operation that got `moved` bytes before gives where these bytes are there; a mark
+/// is seen behind them. Costs nothing that grows, and for `Until` the search for the delimiter.
 pub fn served_read(reading: Reading, moved: u32, there: &[u8], mark: Option<ReadMark>) -> Served
     ensures served { result ≡ served_read (reading_of reading.entry) moved there.now mark }
     ensures within { result.used ≤ length there.now }
@@ -139,8 +139,8 @@ pub fn served_read(reading: Reading, moved: u32, there: &[u8], mark: Option<Read
     }
 }
 
-/// What a writing operation of which `moved` bytes were taken before gives where there is so much room; a mark is seen
-/// behind it. Constant cost.
+/// What a writing operation of which `moved` bytes were taken before gives where there is so much
+/// room; a mark is seen behind it. Constant cost.
 pub fn served_write(writing: Writing, moved: u32, room: u32, mark: Option<WriteMark>) -> Served
     requires { IsCountable (writing_of writing) }
     ensures served { result ≡ served_write (writing_of writing.entry) moved room mark }

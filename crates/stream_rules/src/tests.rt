@@ -1,4 +1,5 @@
-//! Operations on streams whose bytes and room come at once or in two pieces; what each gives is written by hand.
+//! Operations on streams whose bytes and room come at once or in two pieces; what each gives is
+//! written by hand.
 
 ghost use Rattle.std.specs.Prelude.{◌≡◌, ◌≤◌, IfOk, length};
 ghost use Rattle.std.specs.VecDeque.{deque_len};
@@ -9,7 +10,8 @@ use asio_types::{Code, NoMemory, OpNo, ReadMark, WriteMark};
 use std::alloc::Global;
 use std::collections::VecDeque;
 
-/// A reading operation, the bytes that come, the mark behind them, how it completes, and how many bytes it leaves.
+/// A reading operation, the bytes that come, the mark behind them, how it completes, and how many
+/// bytes it leaves.
 #[derive(Clone, Copy)]
 struct ReadCase {
     reading: Reading<'static>,
@@ -19,8 +21,8 @@ struct ReadCase {
     left: usize,
 }
 
-/// How a reading operation completes where the first bytes are there at first, and the others and the mark come later;
-/// and how many bytes it leaves.
+/// How a reading operation completes where the first bytes are there at first, and the others and
+/// the mark come later; and how many bytes it leaves.
 fn read_cut(
     alloc: Global,
     reading: Reading,
@@ -47,8 +49,8 @@ fn read_cut(
     Ok((outcome, pipe.inbound.there().len()))
 }
 
-/// How a writing operation completes where so much room is there at first, and the rest and the mark come later; and how
-/// many bytes are sent.
+/// How a writing operation completes where so much room is there at first, and the rest and the
+/// mark come later; and how many bytes are sent.
 fn write_cut(
     alloc: Global,
     writing: Writing,
@@ -258,7 +260,8 @@ fn two_queued(alloc: Global) -> Result<VecDeque<Queued>, NoMemory>
     Ok(queue)
 }
 
-/// What two reads of a line give, where the first bytes are there at first, and the others come later.
+/// What two reads of a line give, where the first bytes are there at first, and the others come
+/// later.
 fn two_lines_cut(alloc: Global, bytes: &[u8], cut: usize) -> Result<Vec<Completion>, NoMemory>
     requires { cut ≤ length bytes.now }
 {

@@ -7,11 +7,12 @@ use crate::unfinished::Unfinished;
 use asio_types::{Failed, Source};
 use std::alloc::Global;
 
-/// Fills the buffer from the source as far as bytes come, and answers how many came. Each turn takes at least one
-/// byte, save a last one.
+/// Fills the buffer from the source as far as bytes come, and answers how many came. Each turn
+/// takes at least one byte, save a last one.
 fn fill<S: Source>(source: &mut S, buf: &mut [u8]) -> Result<usize, Failed>
     ensures bound { IfOk result (λ n. n ≤ length buf.new) }
-    ensures text { IfOk result (λ n. ReadsText (length buf.old) (S.left source.old) (take n buf.new) (S.left source.new)) }
+    ensures text { IfOk result
+        (λ n. ReadsText (length buf.old) (S.left source.old) (take n buf.new) (S.left source.new)) }
     ensures some { TakesSome (length buf.old) (S.left source.old) (S.left source.new) }
     ensures counts { CountsFaults result (S.faults source.old) (S.faults source.new) }
 {
@@ -26,14 +27,15 @@ fn fill<S: Source>(source: &mut S, buf: &mut [u8]) -> Result<usize, Failed>
     Ok(len)
 }
 
-/// Reads the source to its end, but no more than so many bytes. Takes room for them all first: where memory runs out,
-/// nothing was read. After a failure some of the first bytes are gone.
+/// Reads the source to its end, but no more than so many bytes. Takes room for them all first:
+/// where memory runs out, nothing was read. After a failure some of the first bytes are gone.
 pub fn read_text<S: Source>(
     alloc: Global,
     source: &mut S,
     most: usize,
 ) -> Result<Vec<u8>, Unfinished>
-    ensures text { IfOk result (λ text. ReadsText most (S.left source.old) text.items (S.left source.new)) }
+    ensures text { IfOk result
+        (λ text. ReadsText most (S.left source.old) text.items (S.left source.new)) }
     ensures bound { IfOk result (λ text. vec_len text ≤ most) }
     ensures some { TakesSome most (S.left source.old) (S.left source.new) }
     ensures unread { result ≡ Err Unfinished.NoMemory → source.new ≡ source.old }

@@ -16,8 +16,8 @@ pub struct Entry {
 }
 
 impl Entry {
-    /// Whether this entry comes before another: by expiry, and at one expiry by acceptance. It is the only comparison of
-    /// entries, and counted as one step.
+    /// Whether this entry comes before another: by expiry, and at one expiry by acceptance. It is
+    /// the only comparison of entries, and counted as one step.
     pub(crate) fn precedes<T: Tally>(&self, other: &Entry, steps: &mut T) -> bool
         ensures value { result ≡ is_before self.now other.now }
         ensures counted { T.count steps.new ≡ T.count steps.old + 1 }

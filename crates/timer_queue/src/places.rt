@@ -4,7 +4,8 @@ use asio_types::{NoMemory, OpNo};
 use std::alloc::Global;
 use std::marker::Model;
 
-/// Where in the heap each operation is whose number is below the number of places. Contracts see the list of places.
+/// Where in the heap each operation is whose number is below the number of places. Contracts see
+/// the list of places.
 #[derive(Debug, Drop)]
 pub(crate) struct Places {
     // at the number of an operation its index in the heap, where it is there

@@ -13,8 +13,9 @@ pub(crate) trait Tally {
         ensures { count self.new ≡ count self.old + 1 };
 }
 
-/// How many steps were taken, for contracts alone: it takes no bytes and its calls do nothing at run time. A step of
-/// this crate is one counted comparison of two entries. Contracts see the number of steps.
+/// How many steps were taken, for contracts alone: it takes no bytes and its calls do nothing at
+/// run time. A step of this crate is one counted comparison of two entries. Contracts see the
+/// number of steps.
 #[derive(Drop)]
 pub struct Steps<L: Ledger> {
     // what was counted

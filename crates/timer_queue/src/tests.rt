@@ -143,8 +143,8 @@ fn rising(rt: &impl Abort, alloc: Global, waits: u64) -> Result<TimerQueue, Fail
     Ok(queue)
 }
 
-// The wait at the end of the heap goes to its top at each pop, and down from there: on each level two comparisons,
-// or one where there is only one child.
+// The wait at the end of the heap goes to its top at each pop, and down from there: on each level
+// two comparisons, or one where there is only one child.
 fn pops_compare<L: Ledger, R: Abort>(rt: &R, queue: TimerQueue, blank: Blank) -> Result<(), Fail>
     requires name { blank.name ≡ L.name }
     requires parts { blank.parts ≡ L.parts }

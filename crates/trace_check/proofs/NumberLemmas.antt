@@ -28,16 +28,20 @@ number_is bound bytes n e =
     let value : ℕ = digits_value 10 bytes in
     let test : Bool = bytes_eq bytes (decimal value) && nat_lt value bound in
     let parts = given test value n e in
-    let facts = (Decides-and (bytes_eq bytes (decimal value)) (nat_lt value bound) (bytes_eq-Decides bytes (decimal value)) (Decides-ltb value bound)).0 parts.0 in
+    let facts =
+    (Decides-and (bytes_eq bytes (decimal value)) (nat_lt value bound) (bytes_eq-Decides bytes (decimal value))
+    (Decides-ltb value bound)).0 parts.0 in
     record { text = facts.0 ∙ ap decimal parts.1; below = omega (arith, facts.1, parts.1) }
 
-pub number_spelled : (bound : ℕ) (bytes : List ℕ) (n : ℕ) → n < 2 ^ 64 → n < bound → bytes ≡ decimal n → number bound bytes ≡ Some n
+pub number_spelled : (bound : ℕ) (bytes : List ℕ) (n : ℕ) → n < 2 ^ 64 → n < bound → bytes ≡ decimal n →
+    number bound bytes ≡ Some n
 unfolding number
 number_spelled bound bytes n fits below text =
     let value : ℕ = digits_value 10 bytes in
     let same : value ≡ n = ap (digits_value 10) text ∙ (decimal_is_IsNumeral n fits).1 in
     let passed : bytes_eq bytes (decimal value) && nat_lt value bound ≡ true =
-    (Decides-and (bytes_eq bytes (decimal value)) (nat_lt value bound) (bytes_eq-Decides bytes (decimal value)) (Decides-ltb value bound)).1 (text ∙ ap decimal (sym same), omega (arith, same, below)) in
+    (Decides-and (bytes_eq bytes (decimal value)) (nat_lt value bound) (bytes_eq-Decides bytes (decimal value))
+    (Decides-ltb value bound)).1 (text ∙ ap decimal (sym same), omega (arith, same, below)) in
     ap (λ test. cond test (Some value) None) passed ∙ ap Some same
 
 chosen : (test : Bool) (value : ℕ) → (test ≡ true → ⊥) → cond test (Some value) None ≡ None
@@ -49,23 +53,33 @@ unfolding number
 number_none bound bytes never =
     let value : ℕ = digits_value 10 bytes in
     chosen (bytes_eq bytes (decimal value) && nat_lt value bound) value
-    (λ passed. let facts = (Decides-and (bytes_eq bytes (decimal value)) (nat_lt value bound) (bytes_eq-Decides bytes (decimal value)) (Decides-ltb value bound)).0 passed in never value facts.1 facts.0)
+    (λ passed.
+    let facts =
+    (Decides-and (bytes_eq bytes (decimal value)) (nat_lt value bound) (bytes_eq-Decides bytes (decimal value))
+    (Decides-ltb value bound)).0 passed in
+    never value facts.1 facts.0)
 
 -- a numeral of a smaller type
-pub number_narrow : (bound : ℕ) (bytes : List ℕ) (n : ℕ) → number (2 ^ 64) bytes ≡ Some n → n < bound → number bound bytes ≡ Some n
-number_narrow bound bytes n e below = let is = number_is (2 ^ 64) bytes n e in number_spelled bound bytes n is.below below is.text
+pub number_narrow : (bound : ℕ) (bytes : List ℕ) (n : ℕ) → number (2 ^ 64) bytes ≡ Some n → n < bound →
+    number bound bytes ≡ Some n
+number_narrow bound bytes n e below =
+    let is = number_is (2 ^ 64) bytes n e in number_spelled bound bytes n is.below below is.text
 
-pub number_above : (bound : ℕ) (bytes : List ℕ) (n : ℕ) → number (2 ^ 64) bytes ≡ Some n → bound ≤ n → bound ≤ 2 ^ 64 → number bound bytes ≡ None
+pub number_above : (bound : ℕ) (bytes : List ℕ) (n : ℕ) → number (2 ^ 64) bytes ≡ Some n → bound ≤ n → bound ≤ 2 ^ 64 →
+    number bound bytes ≡ None
 number_above bound bytes n e above small =
     number_none bound bytes (λ m below text.
-    let same : ◌≡◌ {A = Option ℕ} (Some n) (Some m) = sym e ∙ number_spelled (2 ^ 64) bytes m (omega arith) (omega arith) text in
+    let same : ◌≡◌ {A = Option ℕ} (Some n) (Some m) =
+    sym e ∙ number_spelled (2 ^ 64) bytes m (omega arith) (omega arith) text in
     let equal : n ≡ m = cc in
     absurd (omega arith))
 
-pub number_wide_none : (bound : ℕ) (bytes : List ℕ) → number (2 ^ 64) bytes ≡ None → bound ≤ 2 ^ 64 → number bound bytes ≡ None
+pub number_wide_none : (bound : ℕ) (bytes : List ℕ) → number (2 ^ 64) bytes ≡ None → bound ≤ 2 ^ 64 →
+    number bound bytes ≡ None
 number_wide_none bound bytes e small =
     number_none bound bytes (λ m below text.
-    let impossible : ◌≡◌ {A = Option ℕ} None (Some m) = sym e ∙ number_spelled (2 ^ 64) bytes m (omega arith) (omega arith) text in
+    let impossible : ◌≡◌ {A = Option ℕ} None (Some m) =
+    sym e ∙ number_spelled (2 ^ 64) bytes m (omega arith) (omega arith) text in
     absurd (cc))
 
 -- the text of a number is plain
@@ -82,28 +96,39 @@ pub decimal_is_plain : (n : ℕ) → n < 2 ^ 64 → is_plain (decimal n) ≡ tru
 decimal_is_plain n fits = digits_are_plain (decimal n) (decimal_is_IsNumeral n fits).0 (zero_alone n fits)
 
 pub not_plain : (bytes : List ℕ) → is_plain bytes ≡ false → number (2 ^ 64) bytes ≡ None
-not_plain bytes bad = number_none (2 ^ 64) bytes (λ n fits text. let good : is_plain bytes ≡ true = ap is_plain text ∙ decimal_is_plain n fits in absurd (cc))
+not_plain bytes bad =
+    number_none (2 ^ 64) bytes
+    (λ n fits text. let good : is_plain bytes ≡ true = ap is_plain text ∙ decimal_is_plain n fits in absurd (cc))
 
 pub not_text : (bytes : List ℕ) → (IsUtf8 bytes → ⊥) → number (2 ^ 64) bytes ≡ None
-not_text bytes bad = number_none (2 ^ 64) bytes (λ n fits text. absurd (bad (subst IsUtf8 (sym text) (IsUtf8-from_ascii (decimal n) (IsAscii-decimal n fits)))))
+not_text bytes bad =
+    number_none (2 ^ 64) bytes
+    (λ n fits text. absurd (bad (subst IsUtf8 (sym text) (IsUtf8-from_ascii (decimal n) (IsAscii-decimal n fits)))))
 
 -- what parsing gives of a plain text
-first_of_plain : (bytes : List ℕ) → is_plain bytes ≡ true → (get_or bytes 0 0 ≢ 43) × (get_or bytes 0 0 ≡ 48 → length bytes ≡ 1)
+first_of_plain : (bytes : List ℕ) → is_plain bytes ≡ true →
+    (get_or bytes 0 0 ≢ 43) × (get_or bytes 0 0 ≡ 48 → length bytes ≡ 1)
 first_of_plain [] plain = absurd (cc)
 first_of_plain (d ∷ []) plain = (grind (arith, nat_tests), λ e. omega arith)
 first_of_plain (d ∷ e ∷ ds) plain = (grind (arith, nat_tests), grind (arith, nat_tests))
 
-pub parsed : {E : Type 0} (bytes : List ℕ) (r : Result ℕ E) (n : ℕ) → is_plain bytes ≡ true → ParsesUnsigned 64 10 bytes r → r ≡ Ok n → number (2 ^ 64) bytes ≡ Some n
+pub parsed : {E : Type 0} (bytes : List ℕ) (r : Result ℕ E) (n : ℕ) → is_plain bytes ≡ true →
+    ParsesUnsigned 64 10 bytes r → r ≡ Ok n → number (2 ^ 64) bytes ≡ Some n
 parsed bytes (Ok value) n plain parses e =
     let first = first_of_plain bytes plain in
     let same : without_leading_plus bytes ≡ bytes = without_leading_plus_none bytes first.0 in
     let numeral : IsNumeral 10 bytes = subst (IsNumeral 10) same parses.0.0 in
     let fits : digits_value 10 bytes < 2 ^ 64 = subst (λ ds. digits_value 10 ds < 2 ^ 64) same parses.0.1 in
     let is : value ≡ digits_value 10 bytes = parses.1 ∙ ap (digits_value 10) same in
-    let text : decimal (digits_value 10 bytes) ≡ bytes = decimal-digits_value digits_model bytes numeral.1 numeral.0 first.1 fits in
+    let text : decimal (digits_value 10 bytes) ≡ bytes =
+    decimal-digits_value digits_model bytes numeral.1 numeral.0 first.1 fits in
     let equal : value ≡ n = cc in
-    number_spelled (2 ^ 64) bytes n (omega (arith, fits, is, equal)) (omega (arith, fits, is, equal)) (sym text ∙ ap decimal (sym is ∙ equal))
+    number_spelled (2 ^ 64) bytes n (omega (arith, fits, is, equal)) (omega (arith, fits, is, equal))
+    (sym text ∙ ap decimal (sym is ∙ equal))
 parsed bytes (Err e) n plain parses is = absurd (cc)
 
-pub not_parsed : {E : Type 0} (bytes : List ℕ) (r : Result ℕ E) (e : E) → ParsesUnsigned 64 10 bytes r → r ≡ Err e → number (2 ^ 64) bytes ≡ None
-not_parsed bytes r e parses is = number_none (2 ^ 64) bytes (λ n fits text. let ok : r ≡ Ok n = parse-decimal 64 n bytes r fits fits text parses in absurd (cc))
+pub not_parsed : {E : Type 0} (bytes : List ℕ) (r : Result ℕ E) (e : E) → ParsesUnsigned 64 10 bytes r → r ≡ Err e →
+    number (2 ^ 64) bytes ≡ None
+not_parsed bytes r e parses is =
+    number_none (2 ^ 64) bytes
+    (λ n fits text. let ok : r ≡ Ok n = parse-decimal 64 n bytes r fits fits text parses in absurd (cc))

@@ -11,21 +11,30 @@ other_byte : (a b : ℕ) → a ≢ b → (a == b) ≡ false
 other_byte a b e = grind (arith, nat_tests)
 
 -- the parts are what stands before the first such byte and behind it
-pub split_at : (separator : ℕ) (bytes : List ℕ) (i : ℕ) → i < length bytes → get_or bytes i 0 ≡ separator → ((k : ℕ) → k < i → get_or bytes k 0 ≢ separator)
-    → split_once separator bytes ≡ Some (take i bytes, drop (suc i) bytes)
+pub split_at : (separator : ℕ) (bytes : List ℕ) (i : ℕ) → i < length bytes → get_or bytes i 0 ≡ separator →
+    ((k : ℕ) → k < i → get_or bytes k 0 ≢ separator) →
+    split_once separator bytes ≡ Some (take i bytes, drop (suc i) bytes)
 split_at separator [] i within is before = absurd (omega arith)
 split_at separator (byte ∷ bytes) zero within is before = rw (same_byte byte separator is) refl
 split_at separator (byte ∷ bytes) (suc i) within is before =
-    rw (other_byte byte separator (before 0 (omega arith)), split_at separator bytes i (omega arith) is (λ k below. before (suc k) (omega arith))) refl
+    rw (
+      other_byte byte separator (before 0 (omega arith)),
+      split_at separator bytes i (omega arith) is (λ k below. before (suc k) (omega arith)),
+    ) refl
 
 -- a text without such a byte isn't cut
-pub split_nowhere : (separator : ℕ) (bytes : List ℕ) → ((k : ℕ) → k < length bytes → get_or bytes k 0 ≢ separator) → split_once separator bytes ≡ None
+pub split_nowhere : (separator : ℕ) (bytes : List ℕ) → ((k : ℕ) → k < length bytes → get_or bytes k 0 ≢ separator) →
+    split_once separator bytes ≡ None
 split_nowhere separator [] none = refl
 split_nowhere separator (byte ∷ bytes) none =
-    rw (other_byte byte separator (none 0 (omega arith)), split_nowhere separator bytes (λ k below. none (suc k) (omega arith))) refl
+    rw (
+      other_byte byte separator (none 0 (omega arith)),
+      split_nowhere separator bytes (λ k below. none (suc k) (omega arith)),
+    ) refl
 
 -- a byte stands in two texts as often as in both
-pub count_of-append : (separator : ℕ) (front back : List ℕ) → count_of separator (front ++ back) ≡ count_of separator front + count_of separator back
+pub count_of-append : (separator : ℕ) (front back : List ℕ) →
+    count_of separator (front ++ back) ≡ count_of separator front + count_of separator back
 count_of-append separator [] back = omega arith
 count_of-append separator (byte ∷ front) back = grind (arith, nat_tests, count_of-append separator front back)
 
@@ -38,16 +47,18 @@ abbrev IsCutBy : ℕ → List ℕ → Option (List ℕ × List ℕ) → Type 0
 IsCutBy separator bytes None = Unit {0}
 IsCutBy separator bytes (Some parts) = IsCut separator bytes parts
 
-cut_behind : (separator byte : ℕ) (bytes : List ℕ) (cut : Option (List ℕ × List ℕ)) → (byte == separator) ≡ false → IsCutBy separator bytes cut
-    → IsCutBy separator (byte ∷ bytes) (cut >>= λ parts. Some (byte ∷ parts.0, parts.1))
+cut_behind : (separator byte : ℕ) (bytes : List ℕ) (cut : Option (List ℕ × List ℕ)) → (byte == separator) ≡ false →
+    IsCutBy separator bytes cut → IsCutBy separator (byte ∷ bytes) (cut >>= λ parts. Some (byte ∷ parts.0, parts.1))
 cut_behind separator byte bytes None other is = tt
 cut_behind separator byte bytes (Some parts) other is = record {
   whole = ap (λ bs. byte ∷ bs) is.whole;
   count = ap (λ test. cond test (count_of separator bytes + 1) (count_of separator bytes)) other ∙ is.count;
 }
 
-cut_here : (separator byte : ℕ) (bytes : List ℕ) (test : Bool) → (byte == separator) ≡ test → IsCutBy separator bytes (split_once separator bytes)
-    → IsCutBy separator (byte ∷ bytes) (if test then Some ([], bytes) else (split_once separator bytes >>= λ parts. Some (byte ∷ parts.0, parts.1)))
+cut_here : (separator byte : ℕ) (bytes : List ℕ) (test : Bool) → (byte == separator) ≡ test →
+    IsCutBy separator bytes (split_once separator bytes) →
+    IsCutBy separator (byte ∷ bytes)
+    (if test then Some ([], bytes) else (split_once separator bytes >>= λ parts. Some (byte ∷ parts.0, parts.1)))
 cut_here separator byte bytes true same is = record {
   whole = ap (λ b. b ∷ bytes) ((Decides-eqb byte separator).0 same);
   count = ap (λ test. cond test (count_of separator bytes + 1) (count_of separator bytes)) same;
@@ -58,17 +69,23 @@ is_cut : (separator : ℕ) (bytes : List ℕ) → IsCutBy separator bytes (split
 is_cut separator [] = tt
 is_cut separator (byte ∷ bytes) = cut_here separator byte bytes (byte == separator) refl (is_cut separator bytes)
 
-pub split_is : (separator : ℕ) (bytes : List ℕ) (parts : List ℕ × List ℕ) → split_once separator bytes ≡ Some parts → bytes ≡ parts.0 ++ separator ∷ parts.1
-split_is separator bytes parts e = let is : IsCut separator bytes parts = subst (IsCutBy separator bytes) e (is_cut separator bytes) in is.whole
+pub split_is : (separator : ℕ) (bytes : List ℕ) (parts : List ℕ × List ℕ) → split_once separator bytes ≡ Some parts →
+    bytes ≡ parts.0 ++ separator ∷ parts.1
+split_is separator bytes parts e =
+    let is : IsCut separator bytes parts = subst (IsCutBy separator bytes) e (is_cut separator bytes) in is.whole
 
-pub split_counts : (separator : ℕ) (bytes : List ℕ) (parts : List ℕ × List ℕ) → split_once separator bytes ≡ Some parts → count_of separator bytes ≡ count_of separator parts.1 + 1
-split_counts separator bytes parts e = let is : IsCut separator bytes parts = subst (IsCutBy separator bytes) e (is_cut separator bytes) in is.count
+pub split_counts : (separator : ℕ) (bytes : List ℕ) (parts : List ℕ × List ℕ) →
+    split_once separator bytes ≡ Some parts → count_of separator bytes ≡ count_of separator parts.1 + 1
+split_counts separator bytes parts e =
+    let is : IsCut separator bytes parts = subst (IsCutBy separator bytes) e (is_cut separator bytes) in is.count
 
-no_more : (separator byte : ℕ) (bytes : List ℕ) → count_of separator (byte ∷ bytes) ≡ 0 → ((byte == separator) ≡ false) × (count_of separator bytes ≡ 0)
+no_more : (separator byte : ℕ) (bytes : List ℕ) → count_of separator (byte ∷ bytes) ≡ 0 →
+    ((byte == separator) ≡ false) × (count_of separator bytes ≡ 0)
 no_more separator byte bytes none = (grind (arith, nat_tests), grind (arith, nat_tests))
 
 -- a text is cut behind what has no such byte
-pub split_first : (separator : ℕ) (front back : List ℕ) → count_of separator front ≡ 0 → split_once separator (front ++ separator ∷ back) ≡ Some (front, back)
+pub split_first : (separator : ℕ) (front back : List ℕ) → count_of separator front ≡ 0 →
+    split_once separator (front ++ separator ∷ back) ≡ Some (front, back)
 split_first separator [] back none = rw (same_byte separator separator refl) refl
 split_first separator (byte ∷ front) back none =
     let parts = no_more separator byte front none in
@@ -80,8 +97,12 @@ count_of-le separator [] = omega arith
 count_of-le separator (byte ∷ bytes) = grind (arith, nat_tests, count_of-le separator bytes)
 
 -- one byte more
-pub count_more : (separator i : ℕ) (bytes : List ℕ) → i < length bytes → count_of separator (take (i + 1) bytes) ≡ count_of separator (take i bytes) + count_of separator (get_or bytes i 0 ∷ [])
-count_more separator i bytes within = ap (count_of separator) (take_more bytes i 0 within) ∙ count_of-append separator (take i bytes) (get_or bytes i 0 ∷ [])
+pub count_more : (separator i : ℕ) (bytes : List ℕ) → i < length bytes →
+    count_of separator (take (i + 1) bytes)
+    ≡ count_of separator (take i bytes) + count_of separator (get_or bytes i 0 ∷ [])
+count_more separator i bytes within =
+    ap (count_of separator) (take_more bytes i 0 within)
+    ∙ count_of-append separator (take i bytes) (get_or bytes i 0 ∷ [])
 
 pub count_of_same : (separator byte : ℕ) → byte ≡ separator → count_of separator (byte ∷ []) ≡ 1
 count_of_same separator byte e = rw (same_byte byte separator e) refl

@@ -27,7 +27,8 @@ pub record Given : Type 0 where
 
 -- an input was read, of which this holds
 abbrev pub Reads : Seen (List ℕ) → (List ℕ → Type 0) → Type 0
-Reads source Q = (input : List ℕ) × ReadsText most_read source.told_before input source.told_after × Q input
+Reads source Q =
+    (input : List ℕ) × ReadsText most_read source.told_before input source.told_after × Q input
 
 -- a script and events were read and judged by the words; Q holds of the verdict, and P of its line
 pub record Judged (given : Given) (Q : Verdict → Type 0) (P : List ℕ → Type 0) : Type 0 where
@@ -47,22 +48,28 @@ SaysLegal said = said ≡ verdict.Legal
 
 -- what each status says, and which note it leaves
 abbrev pub Says : Given → CheckStatus → List ℕ → Type 0
-Says given status.Done note = Judged given SaysLegal (Writes given.out) × (note ≡ note_of status.Done)
+Says given status.Done note =
+    Judged given SaysLegal (Writes given.out) × (note ≡ note_of status.Done)
 Says given status.Usage note = (HasForm given.words → ⊥) × (note ≡ note_of status.Usage)
 Says given status.Refused note =
-    (refusal : Refusal) × HasForm given.words × Reads given.source (λ input. HasFault input refusal) × (note ≡ refused_note refusal)
+    (refusal : Refusal) × HasForm given.words × Reads given.source (λ input. HasFault input refusal)
+    × (note ≡ refused_note refusal)
 Says given status.ReadFault note =
-    HasForm given.words × Rose given.source.faults_before given.source.faults_after × (note ≡ note_of status.ReadFault)
-Says given status.WriteFault note = Judged given (λ said. ⊤) (WritesPart given.out) × (note ≡ note_of status.WriteFault)
+    HasForm given.words × Rose given.source.faults_before given.source.faults_after
+    × (note ≡ note_of status.ReadFault)
+Says given status.WriteFault note =
+    Judged given (λ said. ⊤) (WritesPart given.out) × (note ≡ note_of status.WriteFault)
 Says given status.NoMemory note = HasForm given.words × (note ≡ note_of status.NoMemory)
 Says given status.BadTrace note =
-    (line : ℕ) × HasForm given.words × Reads given.source (λ input. HasNoTrace input line) × (note ≡ bad_note line)
+    (line : ℕ) × HasForm given.words × Reads given.source (λ input. HasNoTrace input line)
+    × (note ≡ bad_note line)
 Says given status.Illegal note =
     Judged given (λ said. SaysLegal said → ⊥) (Writes given.out) × (note ≡ note_of status.Illegal)
 
 -- what each status says; the notes got its note, or a first part where they failed
 abbrev pub Answers : Given → Seen (List ℕ) → CheckStatus → Type 0
-Answers given notes answer = (note : List ℕ) × Says given answer note × (Writes notes note ⊎ WritesPart notes note)
+Answers given notes answer =
+    (note : List ℕ) × Says given answer note × (Writes notes note ⊎ WritesPart notes note)
 
 -- the statuses with which nothing was written
 abbrev pub LeavesOut : CheckStatus → Type 0
@@ -98,6 +105,7 @@ abbrev pub IsBad : CheckStatus → Type 0
 IsBad answer = (answer ≡ status.BadTrace) ⊎ (answer ≡ status.NoMemory)
 
 -- Status 0 comes for a legal history alone, and status 8 for another one alone.
-pub record Decides (answer : CheckStatus) (script : ScriptModel) (form : Form) (events : List Event) : Type 0 where
+pub record Decides (answer : CheckStatus) (script : ScriptModel) (form : Form) (events : List Event)
+    : Type 0 where
   pub legal : answer ≡ status.Done → IsLegal script (tells form) events
   pub illegal : answer ≡ status.Illegal → IsLegal script (tells form) events → ⊥

@@ -1,4 +1,5 @@
--- How a line is read: its first word chooses the event, and the fields behind it say the event's numbers and code.
+-- How a line is read: its first word chooses the event, and the fields behind it say the event's
+-- numbers and code.
 use Rattle.std.specs.Prelude.{ℕ, ◌^◌, List, Option, Some, None, if◌then◌else◌, codes}
 use Rattle.std.specs.Str.{bytes_eq}
 use Rattle.asio_types.specs.declared.code.Code.{Code}
@@ -40,7 +41,9 @@ outcome_in bytes = do
 
 -- a stop by an act, or by none
 unfoldable pub stop_event : List ℕ → Option Event
-stop_event bytes = if bytes_eq bytes (codes "-") then Some (event.Stop None) else (number (2 ^ 32) bytes >>= λ act. Some (event.Stop (Some act)))
+stop_event bytes =
+    if bytes_eq bytes (codes "-") then Some (event.Stop None)
+    else (number (2 ^ 32) bytes >>= λ act. Some (event.Stop (Some act)))
 
 -- the event of a line of one word
 unfoldable pub bare_event : List ℕ → Option Event
@@ -57,14 +60,21 @@ bare_event word =
 unfoldable pub event_with : List ℕ → List ℕ → Option Event
 event_with word fields =
     if bytes_eq word (codes "call") then (number (2 ^ 32) fields >>= λ act. Some (event.Call act))
-    else (if bytes_eq word (codes "back") then (number (2 ^ 32) fields >>= λ act. Some (event.Back act))
+    else (if bytes_eq word (codes "back")
+    then (number (2 ^ 32) fields >>= λ act. Some (event.Back act))
     else (if bytes_eq word (codes "stop") then stop_event fields
-    else (if bytes_eq word (codes "begin") then (outcome_in fields >>= λ of. Some (event.Begin of.0 of.1 of.2))
-    else (if bytes_eq word (codes "end") then (mark_in fields >>= λ of. Some (event.End of.0 of.1))
-    else (if bytes_eq word (codes "take") then (number (2 ^ 32) fields >>= λ act. Some (event.Take act))
-    else (if bytes_eq word (codes "done") then (outcome_in fields >>= λ of. Some (event.Done of.0 of.1 of.2))
-    else (if bytes_eq word (codes "tick") then (number (2 ^ 64) fields >>= λ now. Some (event.Tick now))
-    else (if bytes_eq word (codes "drop") then (mark_in fields >>= λ of. Some (event.Dropped of.0 of.1))
+    else (if bytes_eq word (codes "begin")
+    then (outcome_in fields >>= λ of. Some (event.Begin of.0 of.1 of.2))
+    else (if bytes_eq word (codes "end")
+    then (mark_in fields >>= λ of. Some (event.End of.0 of.1))
+    else (if bytes_eq word (codes "take")
+    then (number (2 ^ 32) fields >>= λ act. Some (event.Take act))
+    else (if bytes_eq word (codes "done")
+    then (outcome_in fields >>= λ of. Some (event.Done of.0 of.1 of.2))
+    else (if bytes_eq word (codes "tick")
+    then (number (2 ^ 64) fields >>= λ now. Some (event.Tick now))
+    else (if bytes_eq word (codes "drop")
+    then (mark_in fields >>= λ of. Some (event.Dropped of.0 of.1))
     else None))))))))
 
 -- the event of a line that was split behind its first word

@@ -12,7 +12,8 @@ pub record HasParts (input script_text trace_text : List ℕ) : Type 0 where
   pub few : length input ≤ most_input
   pub parts : Parts input script_text trace_text
 
--- the first part is the text of this script, and the second one isn't too long and is the trace of these events
+-- the first part is the text of this script, and the second one isn't too long and is the trace of
+-- these events
 pub record Asks (input : List ℕ) (script : ScriptModel) (events : List Event) : Type 0 where
   pub script_text : List ℕ
   pub trace_text : List ℕ
@@ -39,4 +40,5 @@ pub record HasBadTrace (input : List ℕ) (line : ℕ) : Type 0 where
 
 -- the input is too long, or nothing parts it, which is line 0; or it has a bad trace
 abbrev pub HasNoTrace : List ℕ → ℕ → Type 0
-HasNoTrace input line = ((line ≡ 0) × ((most_input < length input) ⊎ HasNoParting input)) ⊎ HasBadTrace input line
+HasNoTrace input line =
+    ((line ≡ 0) × ((most_input < length input) ⊎ HasNoParting input)) ⊎ HasBadTrace input line

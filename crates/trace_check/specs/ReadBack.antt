@@ -19,4 +19,5 @@ pub record IsFoundLegal (script : ScriptModel) (told : Bool) (events : List Even
 abbrev pub LegalTracesAreFoundLegal : Type 0
 LegalTracesAreFoundLegal =
     (script : ScriptModel) (told : Bool) (events : List Event)
-    → AreEvents events → length (trace_of events) ≤ most_trace → IsLegal script told events → IsFoundLegal script told events
+    → AreEvents events → length (trace_of events) ≤ most_trace → IsLegal script told events
+    → IsFoundLegal script told events

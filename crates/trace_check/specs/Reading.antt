@@ -15,10 +15,11 @@ IsTraceOf bytes events = AreEvents events × (bytes ≡ trace_of events)
 
 -- the line of an event stands at the front
 abbrev pub BeginsWithEvent : List ℕ → Type 0
-BeginsWithEvent bytes = (event : Event) × (tail : List ℕ) × HasItsNumbers event × (bytes ≡ line_of event ++ tail)
+BeginsWithEvent bytes =
+    (event : Event) × (tail : List ℕ) × HasItsNumbers event × (bytes ≡ line_of event ++ tail)
 
--- The lines before this one, numbered from 1, are those of events; more text follows, and the line of an event doesn't
--- stand at its front.
+-- The lines before this one, numbered from 1, are those of events; more text follows, and the line
+-- of an event doesn't stand at its front.
 pub record BadLine (bytes : List ℕ) (line : ℕ) : Type 0 where
   pub events : List Event
   pub numbers : AreEvents events
@@ -30,7 +31,8 @@ pub record BadLine (bytes : List ℕ) (line : ℕ) : Type 0 where
 
 -- The text is no trace: it is too long, which counts as line 0, or it is bad at this line.
 abbrev pub IsBadTrace : List ℕ → ℕ → Type 0
-IsBadTrace bytes line = ((most_trace < length bytes) × (line ≡ 0)) ⊎ ((length bytes ≤ most_trace) × BadLine bytes line)
+IsBadTrace bytes line =
+    ((most_trace < length bytes) × (line ≡ 0)) ⊎ ((length bytes ≤ most_trace) × BadLine bytes line)
 
 -- when each fault comes
 abbrev pub IsFaultOf : List ℕ → TraceFault → Type 0

@@ -16,4 +16,5 @@ split_once separator (byte ∷ bytes) =
 -- how often a byte stands in a text
 abbrev pub count_of : ℕ → List ℕ → ℕ
 count_of separator [] = 0
-count_of separator (byte ∷ bytes) = if byte == separator then count_of separator bytes + 1 else count_of separator bytes
+count_of separator (byte ∷ bytes) =
+    if byte == separator then count_of separator bytes + 1 else count_of separator bytes

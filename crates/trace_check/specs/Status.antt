@@ -35,7 +35,9 @@ note_of status.Illegal = []
 
 -- the note of a refusal
 abbrev pub refused_note : Refusal → List ℕ
-refused_note refusal = refusal_note (codes "asio_check: refused ") (number_of_rule refusal.rule) refusal.line refusal.token
+refused_note refusal =
+    refusal_note (codes "asio_check: refused ") (number_of_rule refusal.rule) refusal.line
+    refusal.token
 
 -- the note of a bad trace
 abbrev pub bad_note : ℕ → List ℕ

@@ -6,8 +6,10 @@ use Rattle.session_script.specs.Script.{ScriptModel}
 use Rattle.trace_check.specs.declared.verdict.Verdict.{Verdict}
 use Rattle.trace_check.specs.declared.verdict.Verdict.TheVariants as verdict
 
--- the events before the one with this number, from 1, are legal so far, and it may not happen after them
-pub record IsIllegalAt (script : ScriptModel) (told : Bool) (events : List Event) (number : ℕ) : Type 0 where
+-- the events before the one with this number, from 1, are legal so far, and it may not happen after
+-- them
+pub record IsIllegalAt (script : ScriptModel) (told : Bool) (events : List Event) (number : ℕ)
+    : Type 0 where
   pub before : List Event
   pub event : Event
   pub after : List Event

@@ -49,8 +49,10 @@ impl Ending {
 
 /// Writes the note of an ending, piece by piece. Takes no memory.
 pub(crate) fn write_note<N: Sink>(notes: &mut N, ending: Ending) -> Result<(), Failed>
-    ensures whole { OnOk result (Extends (N.written notes.old) (note_at ending) (N.written notes.new)) }
-    ensures part { OnErr result (ExtendsByPart (N.written notes.old) (note_at ending) (N.written notes.new)) }
+    ensures whole { OnOk result
+        (Extends (N.written notes.old) (note_at ending) (N.written notes.new)) }
+    ensures part { OnErr result
+        (ExtendsByPart (N.written notes.old) (note_at ending) (N.written notes.new)) }
     ensures counts { CountsFaults result (N.faults notes.old) (N.faults notes.new) }
 {
     match ending {

@@ -1,8 +1,8 @@
 ghost use Rattle.std.specs.Prelude.{◌≡◌, ◌↔◌, [], ◌∷◌, map, Some, None, string_bytes};
 ghost use Rattle.trace_check.specs.Form.{HasForm, IsForm, tells};
 
-/// The forms of the command: what is known of the reactor that the trace was made with. The contract of the session
-/// names them.
+/// The forms of the command: what is known of the reactor that the trace was made with. The
+/// contract of the session names them.
 #[derive(Clone, Copy, Debug, PartialEq, Eq)]
 pub enum Form {
     /// It tells its bytes, as the scripted world does.

@@ -1,6 +1,7 @@
-//! Whether a trace is one of a legal history: a script and a trace are read, and the events are judged by a replay. It
-//! promises that a verdict is right of every script and every list of events, and that a trace is judged as the one
-//! history that it is the trace of. The program `asio_check` stands on it.
+//! Whether a trace is one of a legal history: a script and a trace are read, and the events are
+//! judged by a replay. It promises that a verdict is right of every script and every list of
+//! events, and that a trace is judged as the one history that it is the trace of. The program
+//! `asio_check` stands on it.
 #![tactic(auto)]
 
 mod ending;

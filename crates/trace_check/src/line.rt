@@ -9,8 +9,10 @@ use text_io::write_field;
 
 /// Writes a line of words and a number behind them.
 pub(crate) fn write_numbered<K: Sink>(sink: &mut K, words: &[u8], number: u32) -> Result<(), Failed>
-    ensures whole { OnOk result (Extends (K.written sink.old) (numbered_line words.now number) (K.written sink.new)) }
-    ensures part { OnErr result (ExtendsByPart (K.written sink.old) (numbered_line words.now number) (K.written sink.new)) }
+    ensures whole { OnOk result
+        (Extends (K.written sink.old) (numbered_line words.now number) (K.written sink.new)) }
+    ensures part { OnErr result
+        (ExtendsByPart (K.written sink.old) (numbered_line words.now number) (K.written sink.new)) }
     ensures counts { CountsFaults result (K.faults sink.old) (K.faults sink.new) }
 {
     write_field(sink, words, number)?;
@@ -23,8 +25,10 @@ pub(crate) fn write_verdict<K: Sink>(
     verdict: Verdict,
     lines: u32,
 ) -> Result<(), Failed>
-    ensures whole { OnOk result (Extends (K.written sink.old) (verdict_line verdict lines) (K.written sink.new)) }
-    ensures part { OnErr result (ExtendsByPart (K.written sink.old) (verdict_line verdict lines) (K.written sink.new)) }
+    ensures whole { OnOk result
+        (Extends (K.written sink.old) (verdict_line verdict lines) (K.written sink.new)) }
+    ensures part { OnErr result
+        (ExtendsByPart (K.written sink.old) (verdict_line verdict lines) (K.written sink.new)) }
     ensures counts { CountsFaults result (K.faults sink.old) (K.faults sink.new) }
 {
     match verdict {

@@ -28,9 +28,11 @@ pub(crate) enum NoQuestion {
 
 /// Reads the script and the trace of an input, in this order.
 pub(crate) fn question_of(alloc: Global, input: &[u8]) -> Result<Question, NoQuestion>
-    ensures asks { IfOk result (λ question. Asks input.now question.script question.history.events) }
+    ensures asks { IfOk result
+        (λ question. Asks input.now question.script question.history.events) }
     ensures few { IfOk result (λ question. length question.history.events < 2 ^ 32) }
-    ensures refused { (refusal : Refusal_of) → result ≡ Err (NoQuestion.Refused refusal) → HasFault input.now refusal }
+    ensures refused { (refusal : Refusal_of) → result ≡ Err (NoQuestion.Refused refusal) →
+        HasFault input.now refusal }
     ensures bad { (line : ℕ) → result ≡ Err (NoQuestion.BadTrace line) → HasNoTrace input.now line }
 {
     if input.len() > MOST_INPUT {

@@ -55,7 +55,8 @@ fn line_count(bytes: &[u8]) -> u32
 
 /// The event of the first line, and the text behind that line.
 fn first_event(text: &[u8]) -> Option<(Event, &[u8])>
-    ensures event { MatchOption result (BeginsWithEvent text.now → ⊥) (λ found. HasItsNumbers found.0 × (text.now ≡ line_of found.0 ++ found.1.now)) }
+    ensures event { MatchOption result (BeginsWithEvent text.now → ⊥)
+        (λ found. HasItsNumbers found.0 × (text.now ≡ line_of found.0 ++ found.1.now)) }
     ensures lines { IfSome result (λ found. count_of 10 text.now ≡ count_of 10 found.1.now + 1) }
 {
     let (line, rest) = split_once(text, b'\n')?;
@@ -63,16 +64,19 @@ fn first_event(text: &[u8]) -> Option<(Event, &[u8])>
     Some((event, rest))
 }
 
-/// Reads the trace of a history: for each event its line, with one space between words and LF behind the last; numbers
-/// are decimal, without a leading zero, and fit their types. Anything else is refused, with the first line that is bad;
-/// bytes behind the last LF are a line too. Whether the events may happen is not asked. Takes the room of the history at
-/// once, and looks at each byte a few times.
+/// Reads the trace of a history: for each event its line, with one space between words and LF
+/// behind the last; numbers are decimal, without a leading zero, and fit their types. Anything else
+/// is refused, with the first line that is bad; bytes behind the last LF are a line too. Whether
+/// the events may happen is not asked. Takes the room of the history at once, and looks at each
+/// byte a few times.
 pub fn read_trace(alloc: Global, bytes: &[u8]) -> Result<History, TraceFault>
     ensures few { OnOk result (length bytes.now ≤ most_trace) }
     ensures trace { IfOk result (λ history. IsTraceOf bytes.now history.events) }
-    ensures accepted { (events : List Event) → length bytes.now ≤ most_trace → IsTraceOf bytes.now events → IsOkUnless result TraceFault.NoMemory }
+    ensures accepted { (events : List Event) → length bytes.now ≤ most_trace →
+        IsTraceOf bytes.now events → IsOkUnless result TraceFault.NoMemory }
     ensures fault { IfErr result (IsFaultOf bytes.now) }
-    ensures bad { (line : ℕ) → IsBadTrace bytes.now line → MatchResult result (λ _. ⊥) (NamesLine line) }
+    ensures bad { (line : ℕ) → IsBadTrace bytes.now line →
+        MatchResult result (λ _. ⊥) (NamesLine line) }
 {
     if bytes.len() > MOST_TRACE {
         return Err(TraceFault::Text { line: 0 });

@@ -35,9 +35,16 @@ fn judge<K: Sink>(
     out: &mut K,
 ) -> Result<Verdict, Unfinished>
     requires { length question.now.history.events < 2 ^ 32 }
-    ensures verdict { IfOk result (IsVerdict question.now.script (tells form) question.now.history.events) }
-    ensures written { IfOk result (λ verdict. Writes (seen_by K.written K.faults out.old out.new) (verdict_line verdict (length question.now.history.events))) }
-    ensures cut_off { result ≡ Err Unfinished.Failed → (verdict : Verdict_of) × IsVerdict question.now.script (tells form) question.now.history.events verdict × WritesPart (seen_by K.written K.faults out.old out.new) (verdict_line verdict (length question.now.history.events)) }
+    ensures verdict { IfOk result
+        (IsVerdict question.now.script (tells form) question.now.history.events) }
+    ensures written { IfOk result (λ verdict.
+        Writes (seen_by K.written K.faults out.old out.new)
+        (verdict_line verdict (length question.now.history.events))) }
+    ensures cut_off { result ≡ Err Unfinished.Failed →
+        (verdict : Verdict_of)
+        × IsVerdict question.now.script (tells form) question.now.history.events verdict
+        × WritesPart (seen_by K.written K.faults out.old out.new)
+        (verdict_line verdict (length question.now.history.events)) }
     ensures quiet { result ≡ Err Unfinished.NoMemory → out.new ≡ out.old }
     ensures counts { CountsFailures result (K.faults out.old) (K.faults out.new) }
 {
@@ -53,7 +60,12 @@ fn judge<K: Sink>(
 
 /// The session without its notes.
 fn end<S: Source, K: Sink>(alloc: Global, words: &[String], source: &mut S, out: &mut K) -> Ending
-    ensures says { Says (record { words = map string_bytes words.now; source = seen_by S.left S.faults source.old source.new; out = seen_by K.written K.faults out.old out.new }) (status_of result) (note_at result) }
+    ensures says { Says
+        (record {
+          words = map string_bytes words.now;
+          source = seen_by S.left S.faults source.old source.new;
+          out = seen_by K.written K.faults out.old out.new;
+        }) (status_of result) (note_at result) }
     ensures quiet { LeavesOut (status_of result) → out.new ≡ out.old }
     ensures unread { status_of result ≡ status.Usage → source.new ≡ source.old }
     ensures taken { TakesSome most_read (S.left source.old) (S.left source.new) }
@@ -81,16 +93,17 @@ fn end<S: Source, K: Sink>(alloc: Global, words: &[String], source: &mut S, out:
     }
 }
 
-/// Reads an input from the source, and writes to out whether the trace in it is one of a legal history of the script in
-/// it. The words are those behind the program's name: none where the reactor tells its bytes, as the scripted world does,
-/// and `--net` where it doesn't, as a network. The input is the script, a line that is exactly `--`, and the trace; the
-/// first such line parts them, and the LF before it belongs to the script. Out gets the line `legal`, `illegal at line N`
-/// with the number of the first event that may not happen, or `incomplete after line N` with the number of all lines.
-/// Marks don't matter. The status says how far this went, with its cause; the notes get the status's note, and change no
-/// status.
+/// Reads an input from the source, and writes to out whether the trace in it is one of a legal
+/// history of the script in it. The words are those behind the program's name: none where the
+/// reactor tells its bytes, as the scripted world does, and `--net` where it doesn't, as a network.
+/// The input is the script, a line that is exactly `--`, and the trace; the first such line parts
+/// them, and the LF before it belongs to the script. Out gets the line `legal`, `illegal at line N`
+/// with the number of the first event that may not happen, or `incomplete after line N` with the
+/// number of all lines. Marks don't matter. The status says how far this went, with its cause; the
+/// notes get the status's note, and change no status.
 ///
-/// Reads at most `MOST_READ` bytes. With the statuses 1, 2, 3, 6 and 7 nothing was written. Memory is taken for the
-/// input, the script, the events and a replay, before anything is written.
+/// Reads at most `MOST_READ` bytes. With the statuses 1, 2, 3, 6 and 7 nothing was written. Memory
+/// is taken for the input, the script, the events and a replay, before anything is written.
 pub fn check_session<S: Source, K: Sink, N: Sink>(
     alloc: Global,
     words: &[String],
@@ -98,25 +111,40 @@ pub fn check_session<S: Source, K: Sink, N: Sink>(
     out: &mut K,
     notes: &mut N,
 ) -> CheckStatus
-    ensures answer { Answers (record { words = map string_bytes words.now; source = seen_by S.left S.faults source.old source.new; out = seen_by K.written K.faults out.old out.new }) (seen_by N.written N.faults notes.old notes.new) result }
+    ensures answer { Answers
+        (record {
+          words = map string_bytes words.now;
+          source = seen_by S.left S.faults source.old source.new;
+          out = seen_by K.written K.faults out.old out.new;
+        }) (seen_by N.written N.faults notes.old notes.new) result }
     // With these statuses nothing was written.
     ensures quiet { LeavesOut result → out.new ≡ out.old }
     ensures unread { result ≡ status.Usage → source.new ≡ source.old }
     ensures taken { TakesSome most_read (S.left source.old) (S.left source.new) }
-    // Status 3 comes exactly where the source's count of faults rose, and status 4 exactly where out's did.
+    // Status 3 comes exactly where the source's count of faults rose, and status 4 exactly where
+    // out's did.
     ensures reads { CountsReads result (S.faults source.old) (S.faults source.new) }
     ensures writes { CountsWrites result (K.faults out.old) (K.faults out.new) }
     // A whole input whose reading and writing don't fail is judged, unless memory runs out.
-    ensures complete { (input : List ℕ) (script : ScriptModel) (events : List Event_of) → HasForm (map string_bytes words.now) → S.left source.old ≡ Some input → Asks input script events
-        → Stood (S.faults source.old) (S.faults source.new) → Stood (K.faults out.old) (K.faults out.new) → IsJudged result }
-    // An input whose script has a fault is refused, and one that has no trace is bad, unless reading fails or memory runs out.
-    ensures refused { (input : List ℕ) (refusal : Refusal_of) → HasForm (map string_bytes words.now) → S.left source.old ≡ Some input → HasFault input refusal
-        → Stood (S.faults source.old) (S.faults source.new) → IsRefused result }
-    ensures bad { (input : List ℕ) (line : ℕ) → HasForm (map string_bytes words.now) → S.left source.old ≡ Some input → HasNoTrace input line
-        → Stood (S.faults source.old) (S.faults source.new) → IsBad result }
-    // A verdict of a whole input is the right one: status 0 for a legal history, and status 8 for no other.
-    ensures right { (form : Form_of) (input : List ℕ) (script : ScriptModel) (events : List Event_of) → IsForm (map string_bytes words.now) form → S.left source.old ≡ Some input → Asks input script events
-        → Decides result script form events }
+    ensures complete { (input : List ℕ) (script : ScriptModel) (events : List Event_of) →
+        HasForm (map string_bytes words.now) → S.left source.old ≡ Some input →
+        Asks input script events → Stood (S.faults source.old) (S.faults source.new) →
+        Stood (K.faults out.old) (K.faults out.new) → IsJudged result }
+    // An input whose script has a fault is refused, and one that has no trace is bad, unless
+    // reading fails or memory runs out.
+    ensures refused { (input : List ℕ) (refusal : Refusal_of) →
+        HasForm (map string_bytes words.now) → S.left source.old ≡ Some input →
+        HasFault input refusal → Stood (S.faults source.old) (S.faults source.new) →
+        IsRefused result }
+    ensures bad { (input : List ℕ) (line : ℕ) → HasForm (map string_bytes words.now) →
+        S.left source.old ≡ Some input → HasNoTrace input line →
+        Stood (S.faults source.old) (S.faults source.new) → IsBad result }
+    // A verdict of a whole input is the right one: status 0 for a legal history, and status 8 for
+    // no other.
+    ensures right { (form : Form_of) (input : List ℕ) (script : ScriptModel)
+        (events : List Event_of) → IsForm (map string_bytes words.now) form →
+        S.left source.old ≡ Some input → Asks input script events →
+        Decides result script form events }
 {
     let ending = end(alloc, words, source, out);
     let _ = write_note(notes, ending);

@@ -39,8 +39,8 @@ impl CheckStatus {
         }
     }
 
-    /// The line that is written to the notes: none with a verdict, and none here for a refusal or a bad trace, whose
-    /// lines name what is wrong.
+    /// The line that is written to the notes: none with a verdict, and none here for a refusal or a
+    /// bad trace, whose lines name what is wrong.
     pub fn note(self) -> &'static [u8]
         ensures { result.now ≡ note_of self }
     {

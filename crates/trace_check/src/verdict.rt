@@ -11,15 +11,16 @@ use std::alloc::Global;
 pub enum Verdict {
     /// They are a legal history.
     Legal,
-    /// The event with this number, from 1, may not happen after the events before it, which are legal so far.
+    /// The event with this number, from 1, may not happen after the events before it, which are
+    /// legal so far.
     Illegal(u32),
     /// All are legal so far, but a round is open or a handler neither ran nor was destroyed.
     Incomplete,
 }
 
-/// The verdict on these events as a history of the script; `bytes_told` says whether the reactor tells its bytes. Marks
-/// don't matter. Takes memory in proportion to the script, and looks at each event once, and for it at each act and
-/// stream at most a few times.
+/// The verdict on these events as a history of the script; `bytes_told` says whether the reactor
+/// tells its bytes. Marks don't matter. Takes memory in proportion to the script, and looks at each
+/// event once, and for it at each act and stream at most a few times.
 pub fn check(
     alloc: Global,
     script: &Script,

@@ -19,7 +19,9 @@ head_of d [] = d
 head_of d (z ∷ zs) = z
 
 pub last_same : {A : Type 0} (xs ys : List A) (x y : A) → xs ++ x ∷ [] ≡ ys ++ y ∷ [] → (xs ≡ ys) × (x ≡ y)
-last_same xs ys x y e = let r : x ∷ reverse xs ≡ y ∷ reverse ys = sym (reverse-append xs (x ∷ [])) ∙ (ap reverse e ∙ reverse-append ys (y ∷ [])) in
+last_same xs ys x y e =
+    let r : x ∷ reverse xs ≡ y ∷ reverse ys =
+    sym (reverse-append xs (x ∷ [])) ∙ (ap reverse e ∙ reverse-append ys (y ∷ [])) in
     (sym (reverse-reverse xs) ∙ (ap (λ l. reverse (tail_of l)) r ∙ reverse-reverse ys), ap (head_of x) r)
 
 module _ {T : Type 0} where
@@ -74,13 +76,16 @@ module _ {T : Type 0} where
   values_of-append (Empty ∷ ps) v = values_of-append ps v
   values_of-append (Room r ∷ ps) v = values_of-append ps v
 
-  pub all_laid : (given all : List T) (values left : Vec T) (places full : Vec (Place T)) → all ≡ given → Laying all values places → values.items ≡ [] → left.items ≡ []
-      → vec_capacity left ≡ vec_capacity values → full.items ≡ places.items ++ Room left ∷ [] → AreLaid given full.items
+  pub all_laid : (given all : List T) (values left : Vec T) (places full : Vec (Place T)) → all ≡ given →
+      Laying all values places → values.items ≡ [] → left.items ≡ [] → vec_capacity left ≡ vec_capacity values →
+      full.items ≡ places.items ++ Room left ∷ [] → AreLaid given full.items
   all_laid given all values left places full same h none empty cap pushed = record {
     room = left;
-    is_room = record { empty = empty; fits = subst (λ (z : List T × ℕ). length z.0 ≤ z.1) (λ i. (same i, sym cap i)) h.room };
+    is_room =
+        record { empty = empty; fits = subst (λ (z : List T × ℕ). length z.0 ≤ z.1) (λ i. (same i, sym cap i)) h.room };
     are = pushed ∙ ap (λ ps. ps ++ Room left ∷ [])
-        (sym (append-nil places.items) ∙ (ap (λ vs. places.items ++ map Value (reverse vs)) (sym none) ∙ (h.laid ∙ ap (map Value) same)));
+        (sym (append-nil places.items)
+        ∙ (ap (λ vs. places.items ++ map Value (reverse vs)) (sym none) ∙ (h.laid ∙ ap (map Value) same)));
   }
 
   abbrev room_or : Vec T → Place T → Vec T
@@ -91,13 +96,17 @@ module _ {T : Type 0} where
   value_or d (Value v) = v
   value_or d _ = d
 
-  pub begins : (values : List T) (all left : Vec (Place T)) (last : Place T) (room : Vec T) → AreLaid values all.items → all.items ≡ left.items ++ last ∷ [] → last ≡ Room room
-      → Picking (values_of left.items) left room
-  begins values all left last room h popped is = let same = last_same left.items (map Value values) last (Room h.room) (sym popped ∙ h.are) in let its : h.room ≡ room = ap (room_or room) (sym same.1 ∙ is) in
+  pub begins : (values : List T) (all left : Vec (Place T)) (last : Place T) (room : Vec T) → AreLaid values all.items →
+      all.items ≡ left.items ++ last ∷ [] → last ≡ Room room → Picking (values_of left.items) left room
+  begins values all left last room h popped is =
+      let same = last_same left.items (map Value values) last (Room h.room) (sym popped ∙ h.are) in
+      let its : h.room ≡ room = ap (room_or room) (sym same.1 ∙ is) in
       let empty : room.items ≡ [] = ap (λ (r : Vec T). r.items) (sym its) ∙ h.is_room.empty in record {
         values = subst AreValues (sym same.0) (AreValues-map values);
         kept = ap (λ vs. values_of left.items ++ reverse vs) empty ∙ append-nil (values_of left.items);
-        spare = let fits = subst (λ (r : Vec T). length values ≤ vec_capacity r) its h.is_room.fits in let long = ap length same.0 ∙ length-map values Value in
+        spare =
+            let fits = subst (λ (r : Vec T). length values ≤ vec_capacity r) its h.is_room.fits in
+            let long = ap length same.0 ∙ length-map values Value in
             let n = left.ok.0 in let m = room.ok.0 ∙ ap length empty in omega (arith);
       }
 
@@ -106,22 +115,37 @@ module _ {T : Type 0} where
   is_value Empty h none = h
   is_value (Room r) h none = h
 
-  pub picks : (all : List T) (places left : Vec (Place T)) (room more : Vec T) (place : Place T) (value : T) → Picking all places room → places.items ≡ left.items ++ place ∷ [] → place ≡ Value value
-      → more.items ≡ room.items ++ value ∷ [] → vec_capacity more ≡ vec_capacity room → Picking all left more
-  picks all places left room more place value h popped is pushed cap = let was : places.items ≡ left.items ++ Value value ∷ [] = popped ∙ ap (λ p. left.items ++ p ∷ []) is in record {
-    values = AreValues-front left.items (Value value) (subst AreValues was h.values);
-    kept = ap (λ vs. values_of left.items ++ reverse vs) pushed ∙ (ap (λ vs. values_of left.items ++ vs) (reverse-append room.items (value ∷ []))
-        ∙ (sym (append_assoc (values_of left.items) (value ∷ []) (reverse room.items)) ∙ (ap (λ vs. vs ++ reverse room.items) (sym (values_of-append left.items value)) ∙ (ap (λ ps. values_of ps ++ reverse room.items) (sym was) ∙ h.kept))));
-    spare = let a = places.ok.0 ∙ (ap length was ∙ length-append left.items (Value value ∷ [])) in let b = left.ok.0 in let m = more.ok.0 ∙ (ap length pushed ∙ length-append room.items (value ∷ [])) in let n = room.ok.0 in let s = h.spare in omega arith;
-  }
+  pub picks : (all : List T) (places left : Vec (Place T)) (room more : Vec T) (place : Place T) (value : T) →
+      Picking all places room → places.items ≡ left.items ++ place ∷ [] → place ≡ Value value →
+      more.items ≡ room.items ++ value ∷ [] → vec_capacity more ≡ vec_capacity room → Picking all left more
+  picks all places left room more place value h popped is pushed cap =
+      let was : places.items ≡ left.items ++ Value value ∷ [] = popped ∙ ap (λ p. left.items ++ p ∷ []) is in
+      record {
+        values = AreValues-front left.items (Value value) (subst AreValues was h.values);
+        kept =
+            ap (λ vs. values_of left.items ++ reverse vs) pushed
+            ∙ (ap (λ vs. values_of left.items ++ vs) (reverse-append room.items (value ∷ []))
+            ∙ (sym (append_assoc (values_of left.items) (value ∷ []) (reverse room.items))
+            ∙ (ap (λ vs. vs ++ reverse room.items) (sym (values_of-append left.items value))
+            ∙ (ap (λ ps. values_of ps ++ reverse room.items) (sym was) ∙ h.kept))));
+        spare =
+            let a = places.ok.0 ∙ (ap length was ∙ length-append left.items (Value value ∷ [])) in
+            let b = left.ok.0 in
+            let m = more.ok.0 ∙ (ap length pushed ∙ length-append room.items (value ∷ [])) in
+            let n = room.ok.0 in let s = h.spare in omega arith;
+      }
 
-  pub all_picked : (values : List T) (all left end : Vec (Place T)) (last : Place T) (room : Vec T) → AreLaid values all.items → all.items ≡ left.items ++ last ∷ [] → Picking (values_of left.items) end room
-      → end.items ≡ [] → reverse room.items ≡ values
-  all_picked values all left end last room h popped done none = let same = last_same left.items (map Value values) last (Room h.room) (sym popped ∙ h.are) in
-      ap (λ ps. values_of ps ++ reverse room.items) (sym none) ∙ (done.kept ∙ (ap values_of same.0 ∙ values_of-map values))
+  pub all_picked : (values : List T) (all left end : Vec (Place T)) (last : Place T) (room : Vec T) →
+      AreLaid values all.items → all.items ≡ left.items ++ last ∷ [] → Picking (values_of left.items) end room →
+      end.items ≡ [] → reverse room.items ≡ values
+  all_picked values all left end last room h popped done none =
+      let same = last_same left.items (map Value values) last (Room h.room) (sym popped ∙ h.are) in
+      ap (λ ps. values_of ps ++ reverse room.items) (sym none)
+      ∙ (done.kept ∙ (ap values_of same.0 ∙ values_of-map values))
 
   -- the values of the first lanes, and the next lane's
-  pub at_home_more : (home_of : T → ℕ) (values : List T) (n : ℕ) (value : T) → length values ≡ n → home_of value ≡ n → AreAtHome home_of values → AreAtHome home_of (values ++ value ∷ [])
+  pub at_home_more : (home_of : T → ℕ) (values : List T) (n : ℕ) (value : T) → length values ≡ n → home_of value ≡ n →
+      AreAtHome home_of values → AreAtHome home_of (values ++ value ∷ [])
   at_home_more home_of values n value long home all k other below = ⊎_elim
       (λ (l : k < length values). ap home_of (get_or-append values (value ∷ []) other k l) ∙ all k other l)
       (λ (l : length values ≤ k). let total = length-append values (value ∷ []) in let e : k ≡ length values = omega arith in
@@ -130,15 +154,18 @@ module _ {T : Type 0} where
 
   -- a value among others that lie in the slots
   pub at_value : (values : List T) (last : Place T) (lane : ℕ) → lane < length values
-      → (value : T) × (get_elem? (map some (map Value values ++ last ∷ [])) lane ≡ some (some (Value value))) × ((other : T) → get_or values lane other ≡ value)
+      → (value : T) × (get_elem? (map some (map Value values ++ last ∷ [])) lane ≡ some (some (Value value)))
+      × ((other : T) → get_or values lane other ≡ value)
   at_value [] last lane l = absurd (omega arith)
   at_value (v ∷ vs) last zero l = (v, refl, λ _. refl)
   at_value (v ∷ vs) last (suc lane) l = at_value vs last lane (omega arith)
 
-  pub at_room : (values : List T) (last : Place T) → get_elem? (map some (map Value values ++ last ∷ [])) (length values) ≡ some (some last)
+  pub at_room : (values : List T) (last : Place T) →
+      get_elem? (map some (map Value values ++ last ∷ [])) (length values) ≡ some (some last)
   at_room [] last = refl
   at_room (v ∷ vs) last = at_room vs last
 
-  pub count_of : (values : List T) (last : Place T) → length (map (λ (p : Place T). some p) (map Value values ++ last ∷ [])) ≡ length values + 1
+  pub count_of : (values : List T) (last : Place T) →
+      length (map (λ (p : Place T). some p) (map Value values ++ last ∷ [])) ≡ length values + 1
   count_of [] last = refl
   count_of (v ∷ vs) last = let e = count_of vs last in omega arith

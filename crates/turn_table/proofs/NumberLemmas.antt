@@ -35,12 +35,15 @@ has-without_other k n xs other =
 
 -- a number among all others of them is another one
 pub has_without : (k n : ℕ) (xs : List ℕ) → Has (without n xs) k → (k ≢ n) × Has xs k
-has_without k n xs h = let apart : k ≢ n = λ e. true≢false (sym h ∙ (ap (λ m. has m (without n xs)) e ∙ has-without_same n xs)) in
+has_without k n xs h =
+    let apart : k ≢ n = λ e. true≢false (sym h ∙ (ap (λ m. has m (without n xs)) e ∙ has-without_same n xs)) in
     (apart, sym (has-without_other k n xs apart) ∙ h)
 
 greatest_of : (x : ℕ) (xs : List ℕ) → (0 < greatest xs → Has xs (greatest xs)) → Has (x ∷ xs) (greatest (x ∷ xs))
 greatest_of x xs there = ⊎_elim
-    (λ (l : x < greatest xs). subst (Has (x ∷ xs)) (let e : greatest xs ≡ max x (greatest xs) = omega arith in e) (has_tail (greatest xs) x xs (there (omega arith))))
+    (λ (l : x < greatest xs).
+    subst (Has (x ∷ xs)) (let e : greatest xs ≡ max x (greatest xs) = omega arith in e)
+    (has_tail (greatest xs) x xs (there (omega arith))))
     (λ (l : greatest xs ≤ x). subst (Has (x ∷ xs)) (let e : x ≡ max x (greatest xs) = omega arith in e) (has_head x xs))
     (cases_lt x (greatest xs))
 
@@ -56,7 +59,9 @@ has_greatest n (x ∷ xs) h = greatest_of x xs (greatest_above_zero xs)
 -- and none is greater
 pub has-le_greatest : (n : ℕ) (xs : List ℕ) → Has xs n → n ≤ greatest xs
 has-le_greatest n [] h = absurd (true≢false (sym h))
-has-le_greatest n (x ∷ xs) h = ⊎_elim (λ e. let same = eqb-true n x e in omega arith) (λ there. let l = has-le_greatest n xs there in omega arith) (or_cases (eqb n x) (has n xs) h)
+has-le_greatest n (x ∷ xs) h =
+    ⊎_elim (λ e. let same = eqb-true n x e in omega arith) (λ there. let l = has-le_greatest n xs there in omega arith)
+    (or_cases (eqb n x) (has n xs) h)
 
 -- a run has the numbers from its first one on
 pub has_run : (n first count : ℕ) → first ≤ n → n < first + count → Has (run_from first count) n
@@ -67,11 +72,15 @@ has_run n first (suc count) low high = ⊎_elim (λ e. or_left (eqb n first) _ (
 pub run-bounds : (n first count : ℕ) → Has (run_from first count) n → (first ≤ n) × (n < first + count)
 run-bounds n first zero h = absurd (true≢false (sym h))
 run-bounds n first (suc count) h = ⊎_elim (λ e. let same = eqb-true n first e in (omega arith, omega arith))
-    (λ there. let b = run-bounds n (suc first) count there in let low = b.0 in let high = b.1 in (omega arith, omega arith)) (or_cases (eqb n first) _ h)
+    (λ there.
+    let b = run-bounds n (suc first) count there in let low = b.0 in let high = b.1 in (omega arith, omega arith))
+    (or_cases (eqb n first) _ h)
 
 pub run-greatest : (first count : ℕ) → greatest (run_from first (suc count)) ≡ first + count
 run-greatest first zero = omega arith
-run-greatest first (suc count) = let e = run-greatest (suc first) count in let g : ℕ = greatest (run_from (suc first) (suc count)) in let e' : g ≡ suc first + count = e in
+run-greatest first (suc count) =
+    let e = run-greatest (suc first) count in
+    let g : ℕ = greatest (run_from (suc first) (suc count)) in let e' : g ≡ suc first + count = e in
     let goal : max first g ≡ first + suc count = omega arith in goal
 
 filter_yes : (x n : ℕ) (xs : List ℕ) → n ≢ x → without n (x ∷ xs) ≡ x ∷ without n xs
@@ -83,21 +92,29 @@ filter_no n xs = ap (λ b. cond (not b) (n ∷ without n xs) (without n xs)) (eq
 -- what is not among them isn't missed
 pub without_none : (n : ℕ) (xs : List ℕ) → (¬ Has xs n) → without n xs ≡ xs
 without_none n [] h = refl
-without_none n (x ∷ xs) h = filter_yes x n xs (λ e. h (or_left (eqb n x) (has n xs) (eq-eqb n x e))) ∙ ap (λ l. x ∷ l) (without_none n xs (λ there. h (has_tail n x xs there)))
+without_none n (x ∷ xs) h =
+    filter_yes x n xs (λ e. h (or_left (eqb n x) (has n xs) (eq-eqb n x e)))
+    ∙ ap (λ l. x ∷ l) (without_none n xs (λ there. h (has_tail n x xs there)))
 
 -- a turn that was taken and given is as if it had not been taken
 pub without_cons : (n : ℕ) (xs : List ℕ) → (¬ Has xs n) → without n (n ∷ xs) ≡ xs
 without_cons n xs h = filter_no n xs ∙ without_none n xs h
 
-pub run-without_greatest : (first count : ℕ) → without (greatest (run_from first (suc count))) (run_from first (suc count)) ≡ run_from first count
-run-without_greatest first count = ap (λ g. without g (run_from first (suc count))) (run-greatest first count) ∙ last first count
+pub run-without_greatest : (first count : ℕ) →
+    without (greatest (run_from first (suc count))) (run_from first (suc count)) ≡ run_from first count
+run-without_greatest first count =
+    ap (λ g. without g (run_from first (suc count))) (run-greatest first count) ∙ last first count
   where
     last : (first count : ℕ) → without (first + count) (run_from first (suc count)) ≡ run_from first count
-    last first zero = ap (λ g. without g (first ∷ [])) (let e : first + 0 ≡ first = omega arith in e) ∙ filter_no first []
+    last first zero =
+        ap (λ g. without g (first ∷ [])) (let e : first + 0 ≡ first = omega arith in e) ∙ filter_no first []
     last first (suc count) = filter_yes first (first + suc count) (run_from (suc first) (suc count)) (λ e. omega arith)
-        ∙ ap (λ l. first ∷ l) (ap (λ g. without g (run_from (suc first) (suc count))) (let e : first + suc count ≡ suc first + count = omega arith in e) ∙ last (suc first) count)
+        ∙ ap (λ l. first ∷ l) (ap (λ g. without g (run_from (suc first) (suc count)))
+        (let e : first + suc count ≡ suc first + count = omega arith in e) ∙ last (suc first) count)
 
 -- of two different numbers, one is left without the third
-pub kept_number : (g : ℕ) (xs : List ℕ) (one other : ℕ) → one ≢ other → Has xs one → Has xs other → (n : ℕ) × Has (without g xs) n
-kept_number g xs one other apart first second = ⊎_elim (λ (e : one ≡ g). (other, has-without_other other g xs (λ f. apart (e ∙ sym f)) ∙ second))
+pub kept_number : (g : ℕ) (xs : List ℕ) (one other : ℕ) → one ≢ other → Has xs one → Has xs other →
+    (n : ℕ) × Has (without g xs) n
+kept_number g xs one other apart first second =
+    ⊎_elim (λ (e : one ≡ g). (other, has-without_other other g xs (λ f. apart (e ∙ sym f)) ∙ second))
     (λ ne. (one, has-without_other one g xs ne ∙ first)) (cases_eq one g)

@@ -16,7 +16,8 @@ pub record Next (k x who : ℕ) (past after : List Deed) : Type 0 where
   pub others : (j : ℕ) → j ≢ k → holder_in after j ≡ holder_in past j
   pub misses : (seat : ℕ) → misses_in after seat ≡ misses_in past seat
 
-pub next_taking : (k seat : ℕ) (past : List Deed) → IsPast past → holder_in past k ≡ None → Next k 1 seat past (taking k seat ∷ past)
+pub next_taking : (k seat : ℕ) (past : List Deed) → IsPast past → holder_in past k ≡ None →
+    Next k 1 seat past (taking k seat ∷ past)
 next_taking k seat past right free = record {
   right = (free, right);
   held = λ _. ap (λ b. cond b (Some seat) (holder_in past k)) (eq-eqb k k refl);
@@ -25,7 +26,8 @@ next_taking k seat past right free = record {
   misses = λ _. refl;
 }
 
-pub next_giving : (k seat : ℕ) (past : List Deed) → IsPast past → holder_in past k ≡ Some seat → Next k 0 seat past (giving k seat ∷ past)
+pub next_giving : (k seat : ℕ) (past : List Deed) → IsPast past → holder_in past k ≡ Some seat →
+    Next k 0 seat past (giving k seat ∷ past)
 next_giving k seat past right held = record {
   right = (held, right);
   held = λ e. absurd (omega arith);
@@ -34,7 +36,8 @@ next_giving k seat past right held = record {
   misses = λ _. refl;
 }
 
-pub next_same : (k x seat : ℕ) (past : List Deed) → x ≡ 1 → IsPast past → holder_in past k ≡ Some seat → Next k x seat past past
+pub next_same : (k x seat : ℕ) (past : List Deed) → x ≡ 1 → IsPast past → holder_in past k ≡ Some seat →
+    Next k x seat past past
 next_same k x seat past is right held = record {
   right = right;
   held = λ _. held;
@@ -43,19 +46,31 @@ next_same k x seat past is right held = record {
   misses = λ _. refl;
 }
 
-pub came_further : (lanes k x who me : ℕ) (holder after : ℕ → ℕ) (words : List ℕ) (views : List TurnView) (v w : TurnView) (past next : List Deed) → IsPastOf lanes holder words views past → Next k x who past next
-    → k < length words → get_elem? views me ≡ some v → w.numbers ≡ v.numbers → w.misses ≡ v.misses → after k ≡ who → ((j : ℕ) → j ≢ k → after j ≡ holder j)
-    → IsPastOf lanes after (set words k x) (set views me w) next
+pub came_further : (lanes k x who me : ℕ) (holder after : ℕ → ℕ) (words : List ℕ) (views : List TurnView)
+    (v w : TurnView) (past next : List Deed) → IsPastOf lanes holder words views past → Next k x who past next →
+    k < length words → get_elem? views me ≡ some v → w.numbers ≡ v.numbers → w.misses ≡ v.misses → after k ≡ who →
+    ((j : ℕ) → j ≢ k → after j ≡ holder j) → IsPastOf lanes after (set words k x) (set views me w) next
 came_further lanes k x who me holder after words views v w past next was step inside at numbers misses here there = record {
   right = step.right;
   held = λ j l e. ⊎_elim
-      (λ (q : j ≡ k). ap (holder_in next) q ∙ (step.held (sym (get_or-set_same words k x 0 inside) ∙ (ap (λ i. get_or (set words k x) i 0) (sym q) ∙ e)) ∙ ap Some (sym (ap after q ∙ here))))
-      (λ other. step.others j other ∙ (was.held j l (sym (get_or-set_other words k j x 0 other) ∙ e) ∙ ap Some (sym (there j other)))) (cases_eq j k);
+      (λ (q : j ≡ k).
+      ap (holder_in next) q
+      ∙ (step.held (sym (get_or-set_same words k x 0 inside) ∙ (ap (λ i. get_or (set words k x) i 0) (sym q) ∙ e))
+      ∙ ap Some (sym (ap after q ∙ here))))
+      (λ other.
+      step.others j other
+      ∙ (was.held j l (sym (get_or-set_other words k j x 0 other) ∙ e) ∙ ap Some (sym (there j other))))
+      (cases_eq j k);
   free = λ j l e. ⊎_elim
-      (λ (q : j ≡ k). ap (holder_in next) q ∙ step.free (sym (get_or-set_same words k x 0 inside) ∙ (ap (λ i. get_or (set words k x) i 0) (sym q) ∙ e)))
+      (λ (q : j ≡ k).
+      ap (holder_in next) q
+      ∙ step.free (sym (get_or-set_same words k x 0 inside) ∙ (ap (λ i. get_or (set words k x) i 0) (sym q) ∙ e)))
       (λ other. step.others j other ∙ was.free j l (sym (get_or-set_other words k j x 0 other) ∙ e)) (cases_eq j k);
   misses = λ seat n u there h. ⊎_elim
-      (λ (p : (seat ≡ me) × (w ≡ u)). ap (λ (z : TurnView). z.misses) (sym p.1) ∙ (misses ∙ (was.misses me n v at (ap (has n) (sym numbers) ∙ (ap (λ (z : TurnView). has n z.numbers) p.1 ∙ h))
+      (λ (p : (seat ≡ me) × (w ≡ u)).
+      ap (λ (z : TurnView). z.misses) (sym p.1)
+      ∙ (misses
+      ∙ (was.misses me n v at (ap (has n) (sym numbers) ∙ (ap (λ (z : TurnView). has n z.numbers) p.1 ∙ h))
       ∙ (ap (misses_in past) (sym p.0) ∙ sym (step.misses seat)))))
       (λ p. was.misses seat n u p.1 h ∙ sym (step.misses seat)) (at_set views me seat w u there);
   unborn = λ seat beyond. step.misses seat ∙ was.unborn seat (let e = length-set views me w in omega arith);

@@ -18,27 +18,47 @@ abbrev head_or : TurnView → List TurnView → TurnView
 head_or d [] = d
 head_or d (v ∷ vs) = v
 
-pub sat : (table : TableId) (views : List TurnView) (seat : Seated) (view : TurnView) → IsSeatReady views → seated table views ≡ seat → views ≡ view ∷ [] → IsSat seat view
-sat table views seat view ready is sole = let same : ready.view ≡ view = ap (head_or view) (sym ready.sole ∙ sole) in let seen : seat ≡ seated table (view ∷ []) = sym is ∙ ap (seated table) sole in record {
-  hand = ap (λ (v : TurnView). v.hand) (sym same) ∙ ready.hand;
-  number = (ready.number, subst (λ (v : TurnView). Has v.numbers ready.number) same ready.stands);
-  turns = ap (λ (s : Seated). s.turns) seen;
-  numbers = ap (λ (s : Seated). s.numbers) seen;
-  seats = ap (λ (s : Seated). s.seats) seen;
-}
+pub sat : (table : TableId) (views : List TurnView) (seat : Seated) (view : TurnView) → IsSeatReady views →
+    seated table views ≡ seat → views ≡ view ∷ [] → IsSat seat view
+sat table views seat view ready is sole =
+    let same : ready.view ≡ view = ap (head_or view) (sym ready.sole ∙ sole) in
+    let seen : seat ≡ seated table (view ∷ []) = sym is ∙ ap (seated table) sole in
+    record {
+      hand = ap (λ (v : TurnView). v.hand) (sym same) ∙ ready.hand;
+      number = (ready.number, subst (λ (v : TurnView). Has v.numbers ready.number) same ready.stands);
+      turns = ap (λ (s : Seated). s.turns) seen;
+      numbers = ap (λ (s : Seated). s.numbers) seen;
+      seats = ap (λ (s : Seated). s.seats) seen;
+    }
 
 -- the seat of the numbers below left, after a part: m is left less 1
-pub parted_one : (lanes : Lanes) (seat rest : Seated) (left m : ℕ) → left ≡ suc m → seat ≡ first_seat lanes left → rest ≡ without_greatest seat → rest ≡ first_seat lanes m
-parted_one lanes seat rest left m e is parted = parted ∙ (ap without_greatest (is ∙ ap (first_seat lanes) e) ∙ ap (λ ns. record (first_seat lanes m) { numbers = ns }) (run-without_greatest 0 m))
+pub parted_one : (lanes : Lanes) (seat rest : Seated) (left m : ℕ) → left ≡ suc m → seat ≡ first_seat lanes left →
+    rest ≡ without_greatest seat → rest ≡ first_seat lanes m
+parted_one lanes seat rest left m e is parted =
+    parted
+    ∙ (ap without_greatest (is ∙ ap (first_seat lanes) e)
+    ∙ ap (λ ns. record (first_seat lanes m) { numbers = ns }) (run-without_greatest 0 m))
 
 -- and the new seats, the last made first
-pub made_one : (lanes : Lanes) (seat made : Seated) (left m count : ℕ) (old new : List Seated) → left ≡ suc m → left ≤ count → seat ≡ first_seat lanes left → made ≡ greatest_alone seat
-    → reverse old ≡ map (new_seat lanes) (run_from left (count - left)) → new ≡ old ++ made ∷ [] → reverse new ≡ map (new_seat lanes) (run_from m (count - m))
-made_one lanes seat made left m count old new e below is alone others pushed = let one : made ≡ new_seat lanes m = alone ∙ (ap greatest_alone (is ∙ ap (first_seat lanes) e) ∙ ap (new_seat lanes) (run-greatest 0 m ∙ zero-add m)) in
+pub made_one : (lanes : Lanes) (seat made : Seated) (left m count : ℕ) (old new : List Seated) → left ≡ suc m →
+    left ≤ count → seat ≡ first_seat lanes left → made ≡ greatest_alone seat →
+    reverse old ≡ map (new_seat lanes) (run_from left (count - left)) → new ≡ old ++ made ∷ [] →
+    reverse new ≡ map (new_seat lanes) (run_from m (count - m))
+made_one lanes seat made left m count old new e below is alone others pushed =
+    let one : made ≡ new_seat lanes m =
+    alone
+    ∙ (ap greatest_alone (is ∙ ap (first_seat lanes) e) ∙ ap (new_seat lanes) (run-greatest 0 m ∙ zero-add m)) in
     let size : suc (count - left) ≡ count - m = omega arith in
     ap reverse pushed ∙ (reverse-append old (made ∷ []) ∙ (ap (λ s. s ∷ reverse old) one ∙ (ap (λ l. new_seat lanes m ∷ l) others
     ∙ (ap (λ n. new_seat lanes m ∷ map (new_seat lanes) (run_from n (count - left))) e ∙ ap (λ k. map (new_seat lanes) (run_from m k)) size))))
 
 -- a seat of more than one number may part
 pub two_of : (lanes : Lanes) (seat : Seated) (left : ℕ) → 1 < left → seat ≡ first_seat lanes left → StandsForTwo seat
-two_of lanes seat left more is = subst StandsForTwo (sym is) (0, 1, (λ e. omega arith), has_run 0 0 left (omega arith) (omega arith), has_run 1 0 left (omega arith) (omega arith))
+two_of lanes seat left more is =
+    subst StandsForTwo (sym is) (
+      0,
+      1,
+      (λ e. omega arith),
+      has_run 0 0 left (omega arith) (omega arith),
+      has_run 1 0 left (omega arith) (omega arith),
+    )

@@ -9,7 +9,8 @@ use Rattle.turn_table.specs.declared.place.Place.TheVariants.{Value, Room}
 module _ {T : Type 0} where
   -- the n-th value, from 0, belongs to lane n
   abbrev pub AreAtHome : (T → ℕ) → List T → Type 0
-  AreAtHome home_of values = (n : ℕ) (other : T) → n < length values → home_of (slice_index_or values n other) ≡ n
+  AreAtHome home_of values =
+      (n : ℕ) (other : T) → n < length values → home_of (slice_index_or values n other) ≡ n
 
   -- room for that many values
   pub record IsRoomFor (count : ℕ) (room : Vec T) : Type 0 where
@@ -24,7 +25,8 @@ module _ {T : Type 0} where
 
   -- each slot has its lane's value, and the last one has room for all
   pub record IsWhole (home_of : T → ℕ) (lanes : ℕ) (places : List (Place T)) : Type 0 where
-    pub each : (lane : ℕ) → lane < lanes → (value : T) × (home_of value ≡ lane) × (get_elem? places lane ≡ some (Value value))
+    pub each : (lane : ℕ) → lane < lanes →
+        (value : T) × (home_of value ≡ lane) × (get_elem? places lane ≡ some (Value value))
     pub room : Vec T
     pub is_room : IsRoomFor lanes room
     pub last : get_elem? places lanes ≡ some (Room room)

@@ -23,20 +23,24 @@ abbrev pub IsPast : List Deed → Type 0
 IsPast [] = ⊤
 IsPast (taking lane seat ∷ past) = (holder_in past lane ≡ None) × IsPast past
 IsPast (giving lane seat ∷ past) = (holder_in past lane ≡ Some seat) × IsPast past
-IsPast (missing lane seat ∷ past) = ((other : ℕ) × (other ≢ seat) × (holder_in past lane ≡ Some other)) × IsPast past
+IsPast (missing lane seat ∷ past) =
+    ((other : ℕ) × (other ≢ seat) × (holder_in past lane ≡ Some other)) × IsPast past
 
 -- the lanes that a seat missed, in order
 abbrev pub misses_in : List Deed → ℕ → List ℕ
 misses_in [] seat = []
 misses_in (taking lane by ∷ past) seat = misses_in past seat
 misses_in (giving lane by ∷ past) seat = misses_in past seat
-misses_in (missing lane by ∷ past) seat = if seat == by then misses_in past seat ++ lane ∷ [] else misses_in past seat
+misses_in (missing lane by ∷ past) seat =
+    if seat == by then misses_in past seat ++ lane ∷ [] else misses_in past seat
 
 -- the words and the misses of all seats are what these deeds made of them
-pub record IsPastOf (lanes : ℕ) (holder : ℕ → ℕ) (words : List ℕ) (views : List TurnView) (past : List Deed) : Type 0 where
+pub record IsPastOf (lanes : ℕ) (holder : ℕ → ℕ) (words : List ℕ) (views : List TurnView)
+    (past : List Deed) : Type 0 where
   pub right : IsPast past
-  pub held : (lane : ℕ) → lane < lanes → slice_index words lane ≡ 1 → holder_in past lane ≡ Some (holder lane)
+  pub held : (lane : ℕ) → lane < lanes → slice_index words lane ≡ 1 →
+      holder_in past lane ≡ Some (holder lane)
   pub free : (lane : ℕ) → lane < lanes → slice_index words lane ≡ 0 → holder_in past lane ≡ None
-  pub misses : (seat number : ℕ) (view : TurnView) → get_elem? views seat ≡ some view → Has view.numbers number
-      → view.misses ≡ misses_in past seat
+  pub misses : (seat number : ℕ) (view : TurnView) → get_elem? views seat ≡ some view →
+      Has view.numbers number → view.misses ≡ misses_in past seat
   pub unborn : (seat : ℕ) → length views ≤ seat → misses_in past seat ≡ []

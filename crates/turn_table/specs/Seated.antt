@@ -1,11 +1,13 @@
--- What contracts see of a table of turns and of its seats, and what each call makes of a seat (this project's own).
+-- What contracts see of a table of turns and of its seats, and what each call makes of a seat (this
+-- project's own).
 use Rattle.std.specs.Prelude.{◌≡◌, ◌≢◌, ℕ, ◌+◌, ◌<◌, None, List, [], ◌∷◌, ◌++◌, if◌then◌else◌}
 use Rattle.atomic_table.specs.Seated.{TableId}
 use Rattle.turn_table.specs.declared.place.Sizes.{Sizes}
 use Rattle.turn_table.specs.declared.place.TurnView.{TurnView}
 use Rattle.turn_table.specs.Numbers.{has, Has, without, greatest, run_from}
 
--- a table: what no other table shares with it, the count of its lanes, and how many numbers its seats stand for
+-- a table: what no other table shares with it, the count of its lanes, and how many numbers its
+-- seats stand for
 pub record Lanes : Type 0 where
   pub table : TableId
   pub lanes : ℕ
@@ -18,7 +20,8 @@ lanes_of table sizes = record { table = table; lanes = sizes.lanes; seats = size
 abbrev pub IsSized : TableId → Sizes → Type 0
 IsSized table sizes = (table.words ≡ sizes.lanes + 1) × (table.slots ≡ sizes.lanes + 1)
 
--- a seat: its table, how many numbers there are, the lanes whose turns it has, its numbers and its misses
+-- a seat: its table, how many numbers there are, the lanes whose turns it has, its numbers and its
+-- misses
 pub record Seated : Type 0 where
   pub table : TableId
   pub seats : ℕ
@@ -43,11 +46,23 @@ StandsForTwo seat = (one other : ℕ) × (one ≢ other) × StandsFor seat one �
 
 -- the seat of one number
 abbrev pub new_seat : Lanes → ℕ → Seated
-new_seat lanes number = record { table = lanes.table; seats = lanes.seats; turns = []; numbers = number ∷ []; misses = [] }
+new_seat lanes number = record {
+  table = lanes.table;
+  seats = lanes.seats;
+  turns = [];
+  numbers = number ∷ [];
+  misses = [];
+}
 
 -- the seat of all numbers
 abbrev pub first_seat : Lanes → ℕ → Seated
-first_seat lanes count = record { table = lanes.table; seats = lanes.seats; turns = []; numbers = run_from 0 count; misses = [] }
+first_seat lanes count = record {
+  table = lanes.table;
+  seats = lanes.seats;
+  turns = [];
+  numbers = run_from 0 count;
+  misses = [];
+}
 
 abbrev pub with_turn : ℕ → Seated → Seated
 with_turn lane seat = record seat { turns = lane ∷ seat.turns }
@@ -74,7 +89,13 @@ greatest_alone seat = record seat { turns = []; numbers = greatest seat.numbers 
 -- what contracts see of a seat of that table with this view
 abbrev pub seated : TableId → List TurnView → Seated
 seated table [] = record { table = table; seats = 0; turns = []; numbers = []; misses = [] }
-seated table (view ∷ _) = record { table = table; seats = view.seats; turns = view.turns; numbers = view.numbers; misses = view.misses }
+seated table (view ∷ _) = record {
+  table = table;
+  seats = view.seats;
+  turns = view.turns;
+  numbers = view.numbers;
+  misses = view.misses;
+}
 
 -- between two calls a seat has one view, has no slot in its hand, and stands for a number
 pub record IsSeatReady (views : List TurnView) : Type 0 where

@@ -29,7 +29,8 @@ module _ {T : Type 0} where
     pub at_rest : view.hand ≢ Some lane → get_elem? s.homes lane ≡ some (some Empty)
     pub in_hand : view.hand ≡ Some lane → get_elem? s.homes lane ≡ some none
 
-  pub record TurnRule (home_of : T → ℕ) (sizes : Sizes) (s : State (Place T) TurnView) : Type 0 where
+  pub record TurnRule (home_of : T → ℕ) (sizes : Sizes) (s : State (Place T) TurnView)
+      : Type 0 where
     -- the seat that has a lane's turn, where one has it, and the seat that stands for a number
     pub holder : ℕ → ℕ
     pub owner : ℕ → ℕ
@@ -37,17 +38,20 @@ module _ {T : Type 0} where
     pub words : length s.words ≡ sizes.lanes + 1
     pub slots : length s.homes ≡ sizes.lanes + 1
     -- each lane's turn is free, or one seat has it, and then no other
-    pub each_lane : (lane : ℕ) → lane < sizes.lanes → IsFree home_of s lane ⊎ IsHeldBy s lane (holder lane)
-    pub each_turn : (seat lane : ℕ) (view : TurnView) → get_elem? s.views seat ≡ some view → Has view.turns lane
-        → (lane < sizes.lanes) × (slice_index s.words lane ≡ 1) × (seat ≡ holder lane)
+    pub each_lane : (lane : ℕ) → lane < sizes.lanes →
+        IsFree home_of s lane ⊎ IsHeldBy s lane (holder lane)
+    pub each_turn : (seat lane : ℕ) (view : TurnView) → get_elem? s.views seat ≡ some view →
+        Has view.turns lane →
+        (lane < sizes.lanes) × (slice_index s.words lane ≡ 1) × (seat ≡ holder lane)
     -- each number belongs to one seat, and to no other
     pub each_number : (number : ℕ) → number < sizes.seats
-        → (view : TurnView) × (get_elem? s.views (owner number) ≡ some view) × Has view.numbers number
-    pub one_owner : (seat number : ℕ) (view : TurnView) → get_elem? s.views seat ≡ some view → Has view.numbers number
-        → (number < sizes.seats) × (seat ≡ owner number)
+        → (view : TurnView) × (get_elem? s.views (owner number) ≡ some view)
+        × Has view.numbers number
+    pub one_owner : (seat number : ℕ) (view : TurnView) → get_elem? s.views seat ≡ some view →
+        Has view.numbers number → (number < sizes.seats) × (seat ≡ owner number)
     -- a seat that has a turn stands for a number
-    pub stands : (seat lane : ℕ) (view : TurnView) → get_elem? s.views seat ≡ some view → Has view.turns lane
-        → (number : ℕ) × Has view.numbers number
+    pub stands : (seat lane : ℕ) (view : TurnView) → get_elem? s.views seat ≡ some view →
+        Has view.turns lane → (number : ℕ) × Has view.numbers number
     -- so it came about; each miss stands there, at a time when another seat had that turn
     pub past : List Deed
     pub came : IsPastOf sizes.lanes holder s.words s.views past

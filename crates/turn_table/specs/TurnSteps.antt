@@ -10,7 +10,13 @@ use Rattle.turn_table.specs.Seated.{missed}
 
 -- the first seat stands for all numbers
 abbrev pub first_view : Sizes → TurnView
-first_view sizes = record { turns = []; numbers = run_from 0 sizes.seats; misses = []; hand = None; seats = sizes.seats }
+first_view sizes = record {
+  turns = [];
+  numbers = run_from 0 sizes.seats;
+  misses = [];
+  hand = None;
+  seats = sizes.seats;
+}
 
 -- the seat took the lane's turn, and has its slot in hand
 abbrev pub after_take : ℕ → TurnView → TurnView
@@ -36,7 +42,13 @@ abbrev pub parted_left : TurnView → TurnView
 parted_left v = record v { numbers = without (greatest v.numbers) v.numbers }
 
 abbrev pub parted_right : TurnView → TurnView
-parted_right v = record { turns = []; numbers = greatest v.numbers ∷ []; misses = []; hand = None; seats = v.seats }
+parted_right v = record {
+  turns = [];
+  numbers = greatest v.numbers ∷ [];
+  misses = [];
+  hand = None;
+  seats = v.seats;
+}
 
 abbrev pub gathered : TurnView → TurnView → TurnView
 gathered v w = record v { numbers = v.numbers ++ w.numbers }
@@ -53,17 +65,21 @@ module _ {T : Type 0} where
   -- the word was 0: the seat has the turn now, and the slot with a value of that lane in hand
   abbrev pub Took : (T → ℕ) → ℕ → Hands T → Hands T → Type 0
   Took home_of lane me after =
-      (value : T) × (home_of value ≡ lane) × (¬ Has me.0.turns lane) × (after ≡ (after_take lane me.0, (lane, Value value) ∷ me.1))
+      (value : T) × (home_of value ≡ lane) × (¬ Has me.0.turns lane)
+      × (after ≡ (after_take lane me.0, (lane, Value value) ∷ me.1))
 
-  -- the word was 1: the turn is this seat's own, or that of a seat with a number that this one doesn't stand for
+  -- the word was 1: the turn is this seat's own, or that of a seat with a number that this one
+  -- doesn't stand for
   abbrev pub Missed : ℕ → Hands T → Hands T → Type 0
   Missed lane me after =
       (after ≡ (after_miss lane me.0, me.1))
-      × ((¬ Has me.0.turns lane) → (number : ℕ) × (number < me.0.seats) × (¬ Has me.0.numbers number))
+      × ((¬ Has me.0.turns lane) →
+      (number : ℕ) × (number < me.0.seats) × (¬ Has me.0.numbers number))
 
   abbrev pub tried : (T → ℕ) → Step (Place T) → Hands T → ℕ → Hands T → Type 0
   tried home_of step me found after =
-      (found ≡ 0 → Took home_of step.word me after) × (found ≢ 0 → (found ≡ 1) × Missed step.word me after)
+      (found ≡ 0 → Took home_of step.word me after)
+      × (found ≢ 0 → (found ≡ 1) × Missed step.word me after)
 
   abbrev pub rested : Step (Place T) → Hands T → ℕ → Hands T → Type 0
   rested step me found after = after ≡ (after_rest me.0, [])

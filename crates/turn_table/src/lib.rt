@@ -1,7 +1,8 @@
-//! Turns of lanes: a table with one turn and one value for each lane. Who takes a lane's turn gets its value out, and
-//! puts it back with the turn, so a value moves between threads with no lock. It promises that a value is out exactly
-//! while its turn is held, that each turn has one holder, and that a seat which stands for all numbers finds every turn
-//! that it hasn't itself. The context without a lock stands on it. It is this project's own; Asio has strands instead.
+//! Turns of lanes: a table with one turn and one value for each lane. Who takes a lane's turn gets
+//! its value out, and puts it back with the turn, so a value moves between threads with no lock. It
+//! promises that a value is out exactly while its turn is held, that each turn has one holder, and
+//! that a seat which stands for all numbers finds every turn that it hasn't itself. The context
+//! without a lock stands on it. It is this project's own; Asio has strands instead.
 #![tactic(auto)]
 
 mod home;

@@ -22,7 +22,8 @@ struct Reserved<T> {
 
 fn reserve<T>(alloc: Global, lanes: usize, seats: u32) -> Result<Reserved<T>, NoMemory>
     ensures words { IfOk result (λ r. r.words.items ≡ replicate (lanes + 1) 0) }
-    ensures places { IfOk result (λ r. (r.places.items ≡ []) × (lanes + 1 ≤ vec_capacity r.places)) }
+    ensures places { IfOk result
+        (λ r. (r.places.items ≡ []) × (lanes + 1 ≤ vec_capacity r.places)) }
     ensures seats { IfOk result (λ r. (r.seats.items ≡ []) × (seats ≤ vec_capacity r.seats)) }
 {
     let Some(count) = lanes.checked_add(1) else {
@@ -96,8 +97,9 @@ fn take_out<T: Home>(mut closed: Closed<Place<T>, Global>, lanes: usize) -> Home
 }
 
 impl<T: Home> TurnTable<T> {
-    /// A table of these values, of which the n-th, from 0, belongs to lane n, and a seat for each number below `seats`.
-    /// Takes memory for the words, the values and the seats; where it is refused, the values come back.
+    /// A table of these values, of which the n-th, from 0, belongs to lane n, and a seat for each
+    /// number below `seats`. Takes memory for the words, the values and the seats; where it is
+    /// refused, the values come back.
     pub fn make(
         alloc: Global,
         homes: Homes<T>,
@@ -155,8 +157,8 @@ impl<T: Home> TurnTable<T> {
         TurnSeats { left: list }
     }
 
-    /// Ends the table, by the seat that stands for all numbers and has no turn. It gives every value, lane 0 first; no
-    /// memory.
+    /// Ends the table, by the seat that stands for all numbers and has no turn. It gives every
+    /// value, lane 0 first; no memory.
     pub fn close(self, seat: TurnSeat) -> Homes<T>
         requires seat { IsSeatOf self seat }
         requires all { StandsForAll seat }

@@ -1,6 +1,7 @@
 // What lies in a slot of the table.
 
-/// A lane's slot holds its value, or nothing while its turn is held. The last slot holds the room that `close` fills.
+/// A lane's slot holds its value, or nothing while its turn is held. The last slot holds the room
+/// that `close` fills.
 use std::collections::LinkedList;
 
 #[derive(Drop)]

@@ -5,9 +5,9 @@ use atomic_table::{Badge, Seat};
 use std::marker::Model;
 use std::mem;
 
-/// A place at a table, with which a worker takes and gives turns. Contracts see the lanes whose turns it has, the seat
-/// numbers that it stands for, and its misses: the lanes whose turn it asked for while another seat had it, in order.
-/// It has no bytes.
+/// A place at a table, with which a worker takes and gives turns. Contracts see the lanes whose
+/// turns it has, the seat numbers that it stands for, and its misses: the lanes whose turn it asked
+/// for while another seat had it, in order. It has no bytes.
 #[derive(Drop)]
 pub struct TurnSeat {
     pub(crate) badge: Badge<TurnView>,
@@ -23,7 +23,8 @@ impl Model for TurnSeat {
     ghost invariant = { λ s. IsSeatReady s.badge.views };
 }
 
-/// The seats that were made with a table and not given out yet. Contracts see the list of them, the next one first.
+/// The seats that were made with a table and not given out yet. Contracts see the list of them, the
+/// next one first.
 #[derive(Drop)]
 pub struct TurnSeats {
     // the next one last
@@ -40,9 +41,11 @@ impl Model for TurnSeats {
 }
 
 impl TurnSeats {
-    /// The next seat, in the order of their numbers; `None` exactly where all were given. Takes no memory.
+    /// The next seat, in the order of their numbers; `None` exactly where all were given. Takes no
+    /// memory.
     pub fn next(&mut self) -> Option<TurnSeat>
-        ensures { MatchOption result ((self.old ≡ []) × (self.new ≡ [])) (λ seat. self.old ≡ seat ∷ self.new) }
+        ensures { MatchOption result ((self.old ≡ []) × (self.new ≡ []))
+            (λ seat. self.old ≡ seat ∷ self.new) }
     {
         self.left.pop()
     }

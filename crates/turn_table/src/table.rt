@@ -16,8 +16,8 @@ impl<T: Home> TableRule<Place<T>, TurnView, Sizes> for Turns {
     ghost first = { first_view };
 }
 
-/// One turn and one value for each lane. Workers share it by `&`; a step of one is seen by all. Contracts see how
-/// many lanes and seat numbers it has, and which seats are its own.
+/// One turn and one value for each lane. Workers share it by `&`; a step of one is seen by all.
+/// Contracts see how many lanes and seat numbers it has, and which seats are its own.
 #[derive(Drop)]
 pub struct TurnTable<T: Home> {
     pub(crate) table: Table<Place<T>, TurnView, Sizes, Turns, Global>,

@@ -46,7 +46,8 @@ impl Baton {
 fn two_lanes(alloc: Global, seats: u32) -> Result<(TurnTable<Baton>, TurnSeats), Fail>
     requires { 0 < seats }
     ensures lanes { IfOk result (λ made. made.0.lanes ≡ 2) }
-    ensures seats { IfOk result (λ made. (made.0.seats ≡ seats) × (made.1 ≡ map (new_seat made.0) (run_from 0 seats))) }
+    ensures seats { IfOk result
+        (λ made. (made.0.seats ≡ seats) × (made.1 ≡ map (new_seat made.0) (run_from 0 seats))) }
 {
     let homes = vec![in alloc; Baton { lane: 0, count: 10 }, Baton { lane: 1, count: 20 }]?;
     match TurnTable::make(alloc, Homes::of(homes), seats) {
@@ -135,7 +136,8 @@ fn two<R: Threads + Wait + Sync>(
     one: TurnSeat,
     other: TurnSeat,
 ) -> TurnSeat
-    requires seats { IsSeatOf table.now one × (one.turns ≡ []) × IsSeatOf table.now other × (other.turns ≡ []) }
+    requires seats { IsSeatOf table.now one × (one.turns ≡ []) × IsSeatOf table.now other
+        × (other.turns ≡ []) }
     requires lanes { table.now.lanes ≡ 2 }
     ensures seat { IsSeatOf table.now result × (result.turns ≡ []) }
     ensures numbers { result.numbers ≡ one.numbers ++ other.numbers }
@@ -144,11 +146,13 @@ fn two<R: Threads + Wait + Sync>(
         rt,
         move ||
             requires { IsSeatOf table.now one × (one.turns ≡ []) × (table.now.lanes ≡ 2) }
-            ensures { IsSeatOf table.entry.now result × (result.turns ≡ []) × (result.numbers ≡ one.numbers) }
+            ensures { IsSeatOf table.entry.now result × (result.turns ≡ [])
+                × (result.numbers ≡ one.numbers) }
         { work(rt, table, one) },
         move ||
             requires { IsSeatOf table.now other × (other.turns ≡ []) × (table.now.lanes ≡ 2) }
-            ensures { IsSeatOf table.entry.now result × (result.turns ≡ []) × (result.numbers ≡ other.numbers) }
+            ensures { IsSeatOf table.entry.now result × (result.turns ≡ [])
+                × (result.numbers ≡ other.numbers) }
         { work(rt, table, other) },
     );
     table.gather(&mut whole, other);
@@ -170,12 +174,16 @@ fn a_value_goes_through_four_threads(rt: HostRuntime) -> Result<(), Fail> {
     let (mut whole, other) = thread::join(
         &rt,
         move ||
-            requires { IsSeatOf table.now a × (a.turns ≡ []) × IsSeatOf table.now b × (b.turns ≡ []) × (table.now.lanes ≡ 2) }
-            ensures { IsSeatOf table.entry.now result × (result.turns ≡ []) × (result.numbers ≡ a.numbers ++ b.numbers) }
+            requires { IsSeatOf table.now a × (a.turns ≡ []) × IsSeatOf table.now b × (b.turns ≡ [])
+                × (table.now.lanes ≡ 2) }
+            ensures { IsSeatOf table.entry.now result × (result.turns ≡ [])
+                × (result.numbers ≡ a.numbers ++ b.numbers) }
         { two(&rt, table, a, b) },
         move ||
-            requires { IsSeatOf table.now c × (c.turns ≡ []) × IsSeatOf table.now d × (d.turns ≡ []) × (table.now.lanes ≡ 2) }
-            ensures { IsSeatOf table.entry.now result × (result.turns ≡ []) × (result.numbers ≡ c.numbers ++ d.numbers) }
+            requires { IsSeatOf table.now c × (c.turns ≡ []) × IsSeatOf table.now d × (d.turns ≡ [])
+                × (table.now.lanes ≡ 2) }
+            ensures { IsSeatOf table.entry.now result × (result.turns ≡ [])
+                × (result.numbers ≡ c.numbers ++ d.numbers) }
         { two(&rt, table, c, d) },
     );
     table.gather(&mut whole, other);

@@ -12,9 +12,10 @@ use crate::seat::{TurnSeat, sit};
 use crate::table::TurnTable;
 
 impl<T: Home> TurnTable<T> {
-    /// Takes a lane's turn and its value; waits for nobody. `None` exactly where the turn was held at this step: by
-    /// this seat itself, or by another, and then the lane is added to this seat's misses. A seat that stands for all
-    /// numbers gets every turn that it hasn't itself. Two steps on the lane's word; no memory.
+    /// Takes a lane's turn and its value; waits for nobody. `None` exactly where the turn was held
+    /// at this step: by this seat itself, or by another, and then the lane is added to this seat's
+    /// misses. A seat that stands for all numbers gets every turn that it hasn't itself. Two steps
+    /// on the lane's word; no memory.
     pub fn take_turn(&self, seat: &mut TurnSeat, lane: u32) -> Option<T>
         requires seat { IsSeatOf self.now seat.old }
         requires lane { lane < self.now.lanes }
@@ -40,7 +41,8 @@ impl<T: Home> TurnTable<T> {
         Some(value)
     }
 
-    /// Gives a turn back with the lane's value; waits for nobody. Two steps on the lane's word; no memory.
+    /// Gives a turn back with the lane's value; waits for nobody. Two steps on the lane's word; no
+    /// memory.
     pub fn give_turn(&self, seat: &mut TurnSeat, lane: u32, value: T)
         requires seat { IsSeatOf self.now seat.old }
         requires lane { lane < self.now.lanes }
@@ -58,7 +60,8 @@ impl<T: Home> TurnTable<T> {
         seat.badge = at.into_badge();
     }
 
-    /// Ends another seat, which has no turn: from now on this seat stands for its numbers too. One step; no memory.
+    /// Ends another seat, which has no turn: from now on this seat stands for its numbers too. One
+    /// step; no memory.
     pub fn gather(&self, seat: &mut TurnSeat, other: TurnSeat)
         requires seats { IsSeatOf self.now seat.old × IsSeatOf self.now other }
         requires no_turn { other.turns ≡ [] }
@@ -72,8 +75,8 @@ impl<T: Home> TurnTable<T> {
         seat.badge = at.into_badge();
     }
 
-    /// Makes a seat again that stands for the greatest number of this one, and has no turn and no misses. One step; no
-    /// memory.
+    /// Makes a seat again that stands for the greatest number of this one, and has no turn and no
+    /// misses. One step; no memory.
     pub fn part(&self, seat: &mut TurnSeat) -> TurnSeat
         requires seat { IsSeatOf self.now seat.old }
         requires two { StandsForTwo seat.old }

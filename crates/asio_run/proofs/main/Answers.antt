@@ -13,8 +13,11 @@ named n = record { run = 1000 + n; drop = 1000 + n }
 
 pub of-handler-requires : goal.of-handler-requires
 of-handler-requires g c =
-    let job = c.in-Ok-boxed.job.value in
-    (record { run = job.0; drop = job.0 }, AnswersBy-boxed own-1 entry-1-1 at-1-1 same-1-1 _ c.into_dyn_box.ensures.1 (λ s. tt) (λ s r p. p.2) (λ s. (job, s, refl)))
+    let job = c.in-Ok-boxed.job.value in (
+      record { run = job.0; drop = job.0 },
+      AnswersBy-boxed own-1 entry-1-1 at-1-1 same-1-1 _ c.into_dyn_box.ensures.1 (λ s. tt) (λ s r p. p.2)
+          (λ s. (job, s, refl)),
+    )
 
 pub loop-n-preserved : goal.loop-n-preserved
 unfolding of-handler-requires
@@ -27,8 +30,12 @@ loop-n-preserved g c =
     record {
       room = omega arith;
       count = omega arith;
-      marks = rw c.push_reserved.ensures.items (HaveMarks-push marks_of named c.loop-n.handlers.items c.of-handler.result c.loop-n.invariant.marks as_named);
+      marks =
+          rw c.push_reserved.ensures.items
+          (HaveMarks-push marks_of named c.loop-n.handlers.items c.of-handler.result c.loop-n.invariant.marks
+          as_named);
     }
 
 pub session-requires-clause-whole : goal.session-requires-clause-whole
-session-requires-clause-whole g c κs = rw c.of-rack.ensures (All-HaveMarks marks_of named c.loop-n.handlers.items c.loop-n.invariant.marks)
+session-requires-clause-whole g c κs =
+    rw c.of-rack.ensures (All-HaveMarks marks_of named c.loop-n.handlers.items c.loop-n.invariant.marks)

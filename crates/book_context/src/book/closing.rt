@@ -17,9 +17,12 @@ use reactor_trait::Reactor;
 impl<'a, X: Reactor, H: CompletionHandler, N: Session> Book<'a, X, H, N> {
     /// The event by which the round may close now, and whether it leaves the context stopped.
     fn closing(&self) -> Option<(Event, bool)>
-        ensures closes { IfSome result (λ closing. IsClosing closing.0 × EventIsRecorded N.told self.now.recording closing.0
+        ensures closes { IfSome result (λ closing.
+            IsClosing closing.0
+            × EventIsRecorded N.told self.now.recording closing.0
             (with_closing closing.0 closing.1 self.now.recording)) }
-        ensures cannot { IfNone result (CannotClose self.now.recording.script N.told self.now.recording) }
+        ensures cannot { IfNone result
+            (CannotClose self.now.recording.script N.told self.now.recording) }
     {
         rounds_are_recorded();
         if self.proactor.failed() {
@@ -46,10 +49,12 @@ impl<'a, X: Reactor, H: CompletionHandler, N: Session> Book<'a, X, H, N> {
         Some((Event::Polled, false))
     }
 
-    /// Closes the round where it may close: its workers have returned, since the context ran out of work or was stopped, or
-    /// polling has done what it can. Answers whether it may; otherwise nothing changed.
+    /// Closes the round where it may close: its workers have returned, since the context ran out of
+    /// work or was stopped, or polling has done what it can. Answers whether it may; otherwise
+    /// nothing changed.
     pub fn close(&mut self) -> bool
-        ensures closed { result ≡ true → HasClosed N.script N.told self.old.recording self.new.recording }
+        ensures closed { result ≡ true →
+            HasClosed N.script N.told self.old.recording self.new.recording }
         ensures cannot { result ≡ false → CannotClose N.script N.told self.old.recording }
         ensures unchanged { result ≡ false → self.new ≡ self.old }
         ensures reactor { self.new.reactor ≡ self.old.reactor }
@@ -61,12 +66,14 @@ impl<'a, X: Reactor, H: CompletionHandler, N: Session> Book<'a, X, H, N> {
         true
     }
 
-    /// `io_context::restart`, where the round has one that hasn't come and the reactor works. Answers whether that is so;
-    /// otherwise nothing changed.
+    /// `io_context::restart`, where the round has one that hasn't come and the reactor works.
+    /// Answers whether that is so; otherwise nothing changed.
     pub fn restart(&mut self) -> bool
-        ensures may { result ≡ true → MayRestart N.script (recorded_state N.told self.old.recording) }
+        ensures may { result ≡ true →
+            MayRestart N.script (recorded_state N.told self.old.recording) }
         ensures restarted { result ≡ true → self.new.recording ≡ with_restart self.old.recording }
-        ensures cannot { result ≡ false → MayRestart N.script (recorded_state N.told self.old.recording) → ⊥ }
+        ensures cannot { result ≡ false →
+            MayRestart N.script (recorded_state N.told self.old.recording) → ⊥ }
         ensures unchanged { result ≡ false → self.new ≡ self.old }
         ensures reactor { self.new.reactor ≡ self.old.reactor }
     {
@@ -81,11 +88,14 @@ impl<'a, X: Reactor, H: CompletionHandler, N: Session> Book<'a, X, H, N> {
         true
     }
 
-    /// A stop from no handler (Asio reference, io_context::stop), where a round is open and the context isn't stopped.
+    /// A stop from no handler (Asio reference, io_context::stop), where a round is open and the
+    /// context isn't stopped.
     pub fn stop(&mut self)
         requires allowed { N.outside ≡ true }
-        ensures stopped { IsGoing N.script (recorded_state N.told self.old.recording) → self.new.recording ≡ with_outside_stop self.old.recording }
-        ensures unchanged { (IsGoing N.script (recorded_state N.told self.old.recording) → ⊥) → self.new ≡ self.old }
+        ensures stopped { IsGoing N.script (recorded_state N.told self.old.recording) →
+            self.new.recording ≡ with_outside_stop self.old.recording }
+        ensures unchanged { (IsGoing N.script (recorded_state N.told self.old.recording) → ⊥) →
+            self.new ≡ self.old }
         ensures reactor { self.new.reactor ≡ self.old.reactor }
     {
         if self.record.stopped() {

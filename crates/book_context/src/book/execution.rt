@@ -22,7 +22,9 @@ pub(super) fn execute_next<'a, H: CompletionHandler, N: Session>(
     requires hands { HoldsUnspent H.marks N.told N.run N.drop record.old hands.old }
     requires going { record.old.stopped ≡ false }
     requires round { IsRoundOpen record.old }
-    ensures executed { result ≡ true → HasExecutedNext H.marks N.script N.told N.run N.drop N.outside record.old record.new hands.new }
+    ensures executed { result ≡ true →
+        HasExecutedNext H.marks N.script N.told N.run N.drop N.outside record.old record.new
+        hands.new }
     ensures same { result ≡ false → record.new ≡ record.old }
     ensures same_hands { result ≡ false → hands.new ≡ hands.old }
     ensures none { result ≡ false → record.old.ready ≡ [] }
@@ -44,8 +46,10 @@ fn execute_oldest<'a, H: CompletionHandler, N: Session>(
     code: Code,
     size: u32,
 )
-    requires history { KeepsHistory N.script N.told N.run N.drop N.outside (with_ready (op, code, size) record.old) }
-    requires hands { HoldsUnspent H.marks N.told N.run N.drop (with_ready (op, code, size) record.old) hands.old }
+    requires history { KeepsHistory N.script N.told N.run N.drop N.outside
+        (with_ready (op, code, size) record.old) }
+    requires hands { HoldsUnspent H.marks N.told N.run N.drop
+        (with_ready (op, code, size) record.old) hands.old }
     requires going { record.old.stopped ≡ false }
     requires round { IsRoundOpen record.old }
     ensures history { KeepsHistory N.script N.told N.run N.drop N.outside record.new }

@@ -64,8 +64,9 @@ fn discard_unspent<'a, H: CompletionHandler, N: Session>(
 }
 
 impl<'a, X: Reactor, H: CompletionHandler, N: Session> Book<'a, X, H, N> {
-    /// Destroys the handlers that never ran, in rising number, and gives the history and the reactor back. A handler whose
-    /// operation was never accepted is destroyed too, and no event shows it.
+    /// Destroys the handlers that never ran, in rising number, and gives the history and the
+    /// reactor back. A handler whose operation was never accepted is destroyed too, and no event
+    /// shows it.
     pub fn finish(self) -> (History, X)
         requires over { IsBookOver N.script self.recording }
         ensures legal { IsLegal N.script N.told result.0.events }
@@ -75,11 +76,14 @@ impl<'a, X: Reactor, H: CompletionHandler, N: Session> Book<'a, X, H, N> {
         ensures rose { Contains result.0.events event.Fault → Rose N.faults (X.faults result.1) }
         ensures set_up { result.0.events ≡ event.Fault ∷ [] → ⊥ }
         ensures up { IsTrue (X.state result.1).up }
-        ensures now { (X.state result.1).now ≡ (state_of N.script N.told result.0.events).reactor.now }
+        ensures now { (X.state result.1).now
+            ≡ (state_of N.script N.told result.0.events).reactor.now }
         ensures told { tells (X.told result.1) ≡ N.told }
-        ensures sent { (Contains result.0.events event.Fault → ⊥) → IfSome (X.told result.1) (λ outside.
+        ensures sent { (Contains result.0.events event.Fault → ⊥) →
+            IfSome (X.told result.1) (λ outside.
             map (λ stream. stream.sent) outside.streams
-            ≡ map (λ stream. stream.sent) (state_of N.script N.told result.0.events).reactor.streams) }
+            ≡ map (λ stream. stream.sent)
+            (state_of N.script N.told result.0.events).reactor.streams) }
     {
         drops_are_recorded();
         let Book {

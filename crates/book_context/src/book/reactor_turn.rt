@@ -15,7 +15,8 @@ use asio_types::ActNo;
 use proactor_core::Proactor;
 use reactor_trait::Reactor;
 
-/// The reactor takes the oldest request; answers what came of it, and nothing where no request waits.
+/// The reactor takes the oldest request; answers what came of it, and nothing where no request
+/// waits.
 pub(super) fn take_next<'a, X: Reactor, N: Session>(
     record: &mut Record<'a>,
     proactor: &mut Proactor<'a, X>,
@@ -23,8 +24,11 @@ pub(super) fn take_next<'a, X: Reactor, N: Session>(
     requires history { KeepsHistory N.script N.told N.run N.drop N.outside record.old }
     requires going { record.old.stopped ≡ false }
     requires round { IsRoundOpen record.old }
-    requires reactor { KeepsReactor X.state X.told X.faults N.told N.faults record.old proactor.old }
-    ensures taken { IfSome result (λ turn. HasTakenNext X.state X.told X.faults N.script N.told N.run N.drop N.faults N.outside turn record.old record.new proactor.old proactor.new) }
+    requires reactor { KeepsReactor X.state X.told X.faults N.told N.faults record.old
+        proactor.old }
+    ensures taken { IfSome result (λ turn.
+        HasTakenNext X.state X.told X.faults N.script N.told N.run N.drop N.faults N.outside turn
+        record.old record.new proactor.old proactor.new) }
     ensures same { IfNone result (record.new ≡ record.old) }
     ensures same_proactor { IfNone result (proactor.new ≡ proactor.old) }
     ensures none { IfNone result (record.old.requests ≡ []) }
@@ -41,15 +45,18 @@ fn take_oldest<'a, X: Reactor, N: Session>(
     proactor: &mut Proactor<'a, X>,
     a: ActNo,
 ) -> BookTurn
-    requires history { KeepsHistory N.script N.told N.run N.drop N.outside (with_request a record.old) }
+    requires history { KeepsHistory N.script N.told N.run N.drop N.outside
+        (with_request a record.old) }
     requires going { record.old.stopped ≡ false }
     requires round { IsRoundOpen record.old }
-    requires reactor { KeepsReactor X.state X.told X.faults N.told N.faults record.old proactor.old }
+    requires reactor { KeepsReactor X.state X.told X.faults N.told N.faults record.old
+        proactor.old }
     ensures history { KeepsHistory N.script N.told N.run N.drop N.outside record.new }
     ensures reactor { KeepsReactor X.state X.told X.faults N.told N.faults record.new proactor.new }
     ensures script { record.new.script ≡ record.old.script }
     ensures spent { SpendsNone N.told record.old record.new }
-    ensures turned { TurnsReactor result record.old record.new (X.faults proactor.old.reactor) (X.faults proactor.new.reactor) }
+    ensures turned { TurnsReactor result record.old record.new (X.faults proactor.old.reactor)
+        (X.faults proactor.new.reactor) }
 {
     turns_are_recorded();
     match proactor.take(a) {
@@ -73,12 +80,14 @@ pub(super) fn tick<'a, X: Reactor, N: Session>(
 ) -> BookTurn
     requires history { KeepsHistory N.script N.told N.run N.drop N.outside record.old }
     requires waiting { IsWaiting N.told record.old }
-    requires reactor { KeepsReactor X.state X.told X.faults N.told N.faults record.old proactor.old }
+    requires reactor { KeepsReactor X.state X.told X.faults N.told N.faults record.old
+        proactor.old }
     ensures history { KeepsHistory N.script N.told N.run N.drop N.outside record.new }
     ensures reactor { KeepsReactor X.state X.told X.faults N.told N.faults record.new proactor.new }
     ensures script { record.new.script ≡ record.old.script }
     ensures spent { SpendsNone N.told record.old record.new }
-    ensures turned { TurnsReactor result record.old record.new (X.faults proactor.old.reactor) (X.faults proactor.new.reactor) }
+    ensures turned { TurnsReactor result record.old record.new (X.faults proactor.old.reactor)
+        (X.faults proactor.new.reactor) }
 {
     match proactor.tick() {
         Ok(point) => {

@@ -21,7 +21,8 @@ fn tell_next<'a, X: Reactor, N: Session>(
     ensures reactor { proactor.new.reactor ≡ proactor.old.reactor }
     ensures told { HasOnlyTold N.told record.old record.new }
     ensures fewer { result ≡ true → record.new.spare < record.old.spare }
-    ensures whole { result ≡ false → IsTurned X.state X.told (recorded_half N.told record.new) proactor.new }
+    ensures whole { result ≡ false →
+        IsTurned X.state X.told (recorded_half N.told record.new) proactor.new }
 {
     turns_are_recorded();
     match proactor.next_due() {

@@ -12,9 +12,10 @@ use op_handlers::CompletionHandler;
 use reactor_trait::Reactor;
 
 impl<'a, X: Reactor, H: CompletionHandler, N: Session> Book<'a, X, H, N> {
-    /// Executes the oldest ready handler; where none is ready, lets the reactor take the oldest request; where none waits, and
-    /// the round runs, waits for the outside (Asio reference, io_context::run_one and poll_one). A turn of the reactor is
-    /// whole: all that completes by it is ready. Takes no memory.
+    /// Executes the oldest ready handler; where none is ready, lets the reactor take the oldest
+    /// request; where none waits, and the round runs, waits for the outside (Asio reference,
+    /// io_context::run_one and poll_one). A turn of the reactor is whole: all that completes by it
+    /// is ready. Takes no memory.
     pub fn turn(&mut self) -> BookTurn
         ensures { TurnAnswers X.faults N.script N.told N.run result self.old self.new }
     {

@@ -17,10 +17,12 @@ use asio_types::{ActNo, Event, Point};
 
 /// A turn of the reactor begins: it takes a request that was the oldest one.
 pub(super) fn begin_take<N: Session>(record: &mut Record<'_>, a: ActNo)
-    requires history { KeepsHistory N.script N.told N.run N.drop N.outside (with_request a record.old) }
+    requires history { KeepsHistory N.script N.told N.run N.drop N.outside
+        (with_request a record.old) }
     requires can { CanTurnNow N.told record.old }
     ensures history { KeepsHistory N.script N.told N.run N.drop N.outside record.new }
-    ensures begun { HasBegun N.told record.old record.new (reactor_after_take record.old.script N.told (recorded_half N.told record.old) a) }
+    ensures begun { HasBegun N.told record.old record.new
+        (reactor_after_take record.old.script N.told (recorded_half N.told record.old) a) }
 {
     turns_are_recorded();
     record.push(Event::Take { act: a });
@@ -42,7 +44,8 @@ pub(super) fn begin_tick<N: Session>(record: &mut Record<'_>, point: &Point)
     requires waiting { IsWaiting N.told record.old }
     requires next { next_time record.old.script (recorded_half N.told record.old) ≡ point.now }
     ensures history { KeepsHistory N.script N.told N.run N.drop N.outside record.new }
-    ensures begun { HasBegun N.told record.old record.new (after_point record.old.script N.told point.now (recorded_half N.told record.old)) }
+    ensures begun { HasBegun N.told record.old record.new
+        (after_point record.old.script N.told point.now (recorded_half N.told record.old)) }
 {
     turns_are_recorded();
     record.push(passed(point));
@@ -53,7 +56,8 @@ pub(super) fn fail<N: Session>(record: &mut Record<'_>)
     requires history { KeepsHistory N.script N.told N.run N.drop N.outside record.old }
     requires round { IsRoundOpen record.old }
     requires works { (recorded_half N.told record.old).failed ≡ false }
-    requires untold { ((recorded_half N.told record.old).whole_turn ≡ true) ⊎ ((recorded_half N.told record.old).due ≡ []) }
+    requires untold { ((recorded_half N.told record.old).whole_turn ≡ true)
+        ⊎ ((recorded_half N.told record.old).due ≡ []) }
     requires some { record.old.events ≢ [] }
     ensures history { KeepsHistory N.script N.told N.run N.drop N.outside record.new }
     ensures broken { HasBroken N.told record.old record.new }
@@ -66,7 +70,8 @@ pub(super) fn fail<N: Session>(record: &mut Record<'_>)
 pub(super) fn break_off<N: Session>(record: &mut Record<'_>, moved: Option<Point>)
     requires history { KeepsHistory N.script N.told N.run N.drop N.outside record.old }
     requires waiting { IsWaiting N.told record.old }
-    requires next { IfSome moved (λ point. next_time record.old.script (recorded_half N.told record.old) ≡ point) }
+    requires next { IfSome moved
+        (λ point. next_time record.old.script (recorded_half N.told record.old) ≡ point) }
     ensures history { KeepsHistory N.script N.told N.run N.drop N.outside record.new }
     ensures broken { HasBrokenOff N.told record.old record.new moved }
 {

@@ -30,7 +30,8 @@ pub(super) fn has_work<X: Reactor>(proactor: &Proactor<'_, X>) -> bool
     pending > 0 || guards > 0
 }
 
-/// Where nothing is ready and no request waits: time moves on, if the round runs and something is pending.
+/// Where nothing is ready and no request waits: time moves on, if the round runs and something is
+/// pending.
 pub(super) fn wait_for_outside<'a, X: Reactor, N: Session>(
     record: &mut Record<'a>,
     proactor: &mut Proactor<'a, X>,
@@ -40,7 +41,8 @@ pub(super) fn wait_for_outside<'a, X: Reactor, N: Session>(
     requires requests { record.old.requests ≡ [] }
     requires going { record.old.stopped ≡ false }
     requires round { IsRoundOpen record.old }
-    requires reactor { KeepsReactor X.state X.told X.faults N.told N.faults record.old proactor.old }
+    requires reactor { KeepsReactor X.state X.told X.faults N.told N.faults record.old
+        proactor.old }
     ensures history { KeepsHistory N.script N.told N.run N.drop N.outside record.new }
     ensures reactor { KeepsReactor X.state X.told X.faults N.told N.faults record.new proactor.new }
     ensures script { record.new.script ≡ record.old.script }

@@ -28,7 +28,8 @@ fn is_ready_at_once(script: &Script, act: ActNo) -> bool
         )
 }
 
-/// Whether the call of an act asks something of the reactor: whatever is neither a posting nor a stop.
+/// Whether the call of an act asks something of the reactor: whatever is neither a posting nor a
+/// stop.
 fn is_request(script: &Script, act: ActNo) -> bool
     ensures { result ≡ is_request (accepted script.now act) }
 {
@@ -50,7 +51,8 @@ fn is_stop(script: &Script, act: ActNo) -> bool
 /// Records the call of an act, and its stop if it stops the context; answers whether it does.
 fn record_call(script: &Script, act: ActNo, history: &mut History) -> bool
     requires { length (events_of script.now (Posted.Call act ∷ [])) ≤ history.old.spare }
-    ensures history { history.new ≡ with_events (events_of script.now (Posted.Call act ∷ [])) history.old }
+    ensures history { history.new
+        ≡ with_events (events_of script.now (Posted.Call act ∷ [])) history.old }
     ensures stops { result ≡ are_stopping script.now (Posted.Call act ∷ []) }
 {
     if is_stop(script, act) {
@@ -65,8 +67,10 @@ fn record_call(script: &Script, act: ActNo, history: &mut History) -> bool
 
 /// Lists what the call of an act leaves to be done.
 fn list_call(script: &Script, act: ActNo, lists: &mut Lists)
-    requires ready { length lists.old.ready + length (postings_of script.now (Posted.Call act ∷ [])) ≤ lists.old.room }
-    requires requests { length lists.old.requests + length (requests_of script.now (Posted.Call act ∷ [])) ≤ lists.old.room }
+    requires ready { length lists.old.ready + length (postings_of script.now (Posted.Call act ∷ []))
+        ≤ lists.old.room }
+    requires requests { length lists.old.requests
+        + length (requests_of script.now (Posted.Call act ∷ [])) ≤ lists.old.room }
     ensures { lists.new ≡ with_listed script.now (Posted.Call act ∷ []) lists.old }
 {
     lists.mark_called(act);
@@ -80,8 +84,10 @@ fn list_call(script: &Script, act: ActNo, lists: &mut Lists)
 /// Records one call; answers whether it stops the context.
 fn record_one(script: &Script, call: Posted, history: &mut History, lists: &mut Lists) -> bool
     requires spare { length (events_of script.now (call ∷ [])) ≤ history.old.spare }
-    requires ready { length lists.old.ready + length (postings_of script.now (call ∷ [])) ≤ lists.old.room }
-    requires requests { length lists.old.requests + length (requests_of script.now (call ∷ [])) ≤ lists.old.room }
+    requires ready { length lists.old.ready + length (postings_of script.now (call ∷ []))
+        ≤ lists.old.room }
+    requires requests { length lists.old.requests + length (requests_of script.now (call ∷ []))
+        ≤ lists.old.room }
     ensures history { history.new ≡ with_events (events_of script.now (call ∷ [])) history.old }
     ensures lists { lists.new ≡ with_listed script.now (call ∷ []) lists.old }
     ensures stops { result ≡ are_stopping script.now (call ∷ []) }
@@ -106,7 +112,8 @@ fn record_one(script: &Script, call: Posted, history: &mut History, lists: &mut 
     }
 }
 
-/// Records some calls, one after another; answers whether one of them stops the context. Takes no memory.
+/// Records some calls, one after another; answers whether one of them stops the context. Takes no
+/// memory.
 pub(crate) fn record_calls(
     script: &Script,
     calls: &[Posted],
@@ -114,8 +121,10 @@ pub(crate) fn record_calls(
     lists: &mut Lists,
 ) -> bool
     requires spare { length (events_of script.now calls.now) ≤ history.old.spare }
-    requires ready { length lists.old.ready + length (postings_of script.now calls.now) ≤ lists.old.room }
-    requires requests { length lists.old.requests + length (requests_of script.now calls.now) ≤ lists.old.room }
+    requires ready { length lists.old.ready + length (postings_of script.now calls.now)
+        ≤ lists.old.room }
+    requires requests { length lists.old.requests + length (requests_of script.now calls.now)
+        ≤ lists.old.room }
     ensures history { history.new ≡ with_events (events_of script.now calls.now) history.old }
     ensures lists { lists.new ≡ with_listed script.now calls.now lists.old }
     ensures stops { result ≡ are_stopping script.now calls.now }

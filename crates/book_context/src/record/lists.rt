@@ -22,16 +22,29 @@ impl Model for Lists {
 
     ghost Value = { Listed };
 
-    ghost view = { λ l. record { ready = l.ready.items; requests = l.requests.items; room = l.room; called = l.called.items } };
+    ghost view = { λ l.
+        record {
+          ready = l.ready.items;
+          requests = l.requests.items;
+          room = l.room;
+          called = l.called.items;
+        } };
 
-    ghost invariant = { λ l. (l.room ≤ deque_capacity l.ready) × (l.room ≤ deque_capacity l.requests) };
+    ghost invariant = { λ l.
+        (l.room ≤ deque_capacity l.ready) × (l.room ≤ deque_capacity l.requests) };
 }
 
 impl Lists {
     /// Nothing ready, asked or called, with room for so many acts.
     pub(crate) fn make(alloc: Global, acts: u32) -> Result<Lists, NoMemory>
         ensures { IfOk result (λ lists.
-            lists ≡ record { ready = []; requests = []; room = acts; called = replicate acts false }) }
+            lists
+            ≡ record {
+              ready = [];
+              requests = [];
+              room = acts;
+              called = replicate acts false;
+            }) }
     {
         Ok(Lists {
             ready: VecDeque::with_capacity(alloc, acts as usize)?,

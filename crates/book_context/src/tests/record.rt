@@ -65,7 +65,8 @@ fn the_calls_of_open_are_recorded(rt: HostRuntime) -> Result<(), Fail> {
     Ok(())
 }
 
-/// A record after the calls of `open`, where these don't stop the context and the first round begins with no restart.
+/// A record after the calls of `open`, where these don't stop the context and the first round
+/// begins with no restart.
 fn opened<'a, R: Abort>(rt: &R, alloc: Global, script: &'a Script) -> Record<'a>
     ensures recorded { IsRecorded false result }
     ensures going { result.stopped ≡ false }

@@ -1,4 +1,5 @@
-//! Worked sessions: what each shows, its script, a legal trace of it, and after which of its lines (from 1) the next one may as well come first.
+//! Worked sessions: what each shows, its script, a legal trace of it, and after which of its lines
+//! (from 1) the next one may as well come first.
 
 /// A session with a trace; ` / ` stands for the end of a line.
 pub(super) struct Session {

@@ -1,5 +1,5 @@
-//! Streams over a reactor on which nothing arrives and nothing is taken; what completes is what Asio says of an operation
-//! that was cancelled, of a closed stream and of the end of a stream.
+//! Streams over a reactor on which nothing arrives and nothing is taken; what completes is what
+//! Asio says of an operation that was cancelled, of a closed stream and of the end of a stream.
 
 ghost use Rattle.std.specs.Prelude.{◌≡◌, [], IfOk, length};
 ghost use Rattle.stream_rules.specs.Serving.{All_bytes, All_of};

@@ -12,7 +12,8 @@ use stream_rules::Completion;
 // how many operations there are, all of which may wait for one timer
 const ROOM: u32 = 8;
 
-// the operation that is accepted first; the others fall from there, so that the order of acceptance is not that of numbers
+// the operation that is accepted first; the others fall from there, so that the order of acceptance
+// is not that of numbers
 const FIRST: OpNo = 7;
 
 #[derive(Clone, Copy)]

@@ -10,8 +10,8 @@ use std::thread::Threads;
 
 const USAGE: &str = "asio_run: usage: asio_run run | asio_run upgrade | asio_run gen START SIZE\n";
 
-/// Each session, by its words and its text, has this status, and writes these lines and this note. A run that is done
-/// spends every handler, and no other session takes one.
+/// Each session, by its words and its text, has this status, and writes these lines and this note.
+/// A run that is done spends every handler, and no other session takes one.
 fn writes_all<R: Abort + Threads + Wait + Sync>(
     rt: &R,
     alloc: Global,

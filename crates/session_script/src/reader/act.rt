@@ -19,7 +19,8 @@ pub(crate) fn act(
     word: ActWord,
     cursor: &mut Cursor<'_>,
 ) -> Result<Act, ScriptFault>
-    ensures { Gives (λ x. x) result (tokens_at cursor.new) (fields header.now word (tokens_at cursor.old)) }
+    ensures { Gives (λ x. x) result (tokens_at cursor.new)
+        (fields header.now word (tokens_at cursor.old)) }
 {
     match word {
         ActWord::Post => {
@@ -65,7 +66,8 @@ pub(crate) fn act(
 
 #[tactic(auto, unfolding(crate::specs::Acts::fields))]
 fn expires(header: &Header, cursor: &mut Cursor<'_>) -> Result<Act, ScriptFault>
-    ensures { Gives (λ x. x) result (tokens_at cursor.new) (fields header.now words.Expires (tokens_at cursor.old)) }
+    ensures { Gives (λ x. x) result (tokens_at cursor.new)
+        (fields header.now words.Expires (tokens_at cursor.old)) }
 {
     let timer = declared(header.timers, cursor)?;
     let after = bounded(0, header.limits.time, cursor)?;
@@ -74,7 +76,8 @@ fn expires(header: &Header, cursor: &mut Cursor<'_>) -> Result<Act, ScriptFault>
 
 #[tactic(auto, unfolding(crate::specs::Acts::fields))]
 fn expires_at(header: &Header, cursor: &mut Cursor<'_>) -> Result<Act, ScriptFault>
-    ensures { Gives (λ x. x) result (tokens_at cursor.new) (fields header.now words.ExpiresAt (tokens_at cursor.old)) }
+    ensures { Gives (λ x. x) result (tokens_at cursor.new)
+        (fields header.now words.ExpiresAt (tokens_at cursor.old)) }
 {
     let timer = declared(header.timers, cursor)?;
     let at = bounded(0, header.limits.time, cursor)?;
@@ -83,7 +86,8 @@ fn expires_at(header: &Header, cursor: &mut Cursor<'_>) -> Result<Act, ScriptFau
 
 #[tactic(auto, unfolding(crate::specs::Acts::fields))]
 fn wait(header: &Header, cursor: &mut Cursor<'_>) -> Result<Act, ScriptFault>
-    ensures { Gives (λ x. x) result (tokens_at cursor.new) (fields header.now words.Wait (tokens_at cursor.old)) }
+    ensures { Gives (λ x. x) result (tokens_at cursor.new)
+        (fields header.now words.Wait (tokens_at cursor.old)) }
 {
     let timer = declared(header.timers, cursor)?;
     let strand = optional(header.strands, cursor)?;
@@ -99,7 +103,8 @@ fn wait(header: &Header, cursor: &mut Cursor<'_>) -> Result<Act, ScriptFault>
 
 #[tactic(auto, unfolding(crate::specs::Acts::fields))]
 fn emit(header: &Header, cursor: &mut Cursor<'_>) -> Result<Act, ScriptFault>
-    ensures { Gives (λ x. x) result (tokens_at cursor.new) (fields header.now words.Emit (tokens_at cursor.old)) }
+    ensures { Gives (λ x. x) result (tokens_at cursor.new)
+        (fields header.now words.Emit (tokens_at cursor.old)) }
 {
     let slot = declared(header.slots, cursor)?;
     let types = types(cursor)?;
@@ -108,7 +113,8 @@ fn emit(header: &Header, cursor: &mut Cursor<'_>) -> Result<Act, ScriptFault>
 
 #[tactic(auto, unfolding(crate::specs::Acts::fields))]
 fn read_some(header: &Header, cursor: &mut Cursor<'_>) -> Result<Act, ScriptFault>
-    ensures { Gives (λ x. x) result (tokens_at cursor.new) (fields header.now words.ReadSome (tokens_at cursor.old)) }
+    ensures { Gives (λ x. x) result (tokens_at cursor.new)
+        (fields header.now words.ReadSome (tokens_at cursor.old)) }
 {
     let stream = declared(header.streams, cursor)?;
     let size = size(header.limits.size, cursor)?;
@@ -126,7 +132,8 @@ fn read_some(header: &Header, cursor: &mut Cursor<'_>) -> Result<Act, ScriptFaul
 
 #[tactic(auto, unfolding(crate::specs::Acts::fields))]
 fn read_all(header: &Header, cursor: &mut Cursor<'_>) -> Result<Act, ScriptFault>
-    ensures { Gives (λ x. x) result (tokens_at cursor.new) (fields header.now words.Read (tokens_at cursor.old)) }
+    ensures { Gives (λ x. x) result (tokens_at cursor.new)
+        (fields header.now words.Read (tokens_at cursor.old)) }
 {
     let stream = declared(header.streams, cursor)?;
     let size = size(header.limits.size, cursor)?;
@@ -144,7 +151,8 @@ fn read_all(header: &Header, cursor: &mut Cursor<'_>) -> Result<Act, ScriptFault
 
 #[tactic(auto, unfolding(crate::specs::Acts::fields))]
 fn until(alloc: Global, header: &Header, cursor: &mut Cursor<'_>) -> Result<Act, ScriptFault>
-    ensures { Gives (λ x. x) result (tokens_at cursor.new) (fields header.now words.Until (tokens_at cursor.old)) }
+    ensures { Gives (λ x. x) result (tokens_at cursor.new)
+        (fields header.now words.Until (tokens_at cursor.old)) }
 {
     let stream = declared(header.streams, cursor)?;
     let delimiter = bytes(alloc, header.limits.delimiter, cursor)?;
@@ -164,7 +172,8 @@ fn until(alloc: Global, header: &Header, cursor: &mut Cursor<'_>) -> Result<Act,
 
 #[tactic(auto, unfolding(crate::specs::Acts::fields))]
 fn write_some(alloc: Global, header: &Header, cursor: &mut Cursor<'_>) -> Result<Act, ScriptFault>
-    ensures { Gives (λ x. x) result (tokens_at cursor.new) (fields header.now words.WriteSome (tokens_at cursor.old)) }
+    ensures { Gives (λ x. x) result (tokens_at cursor.new)
+        (fields header.now words.WriteSome (tokens_at cursor.old)) }
 {
     let stream = declared(header.streams, cursor)?;
     let bytes = bytes(alloc, header.limits.size, cursor)?;
@@ -182,7 +191,8 @@ fn write_some(alloc: Global, header: &Header, cursor: &mut Cursor<'_>) -> Result
 
 #[tactic(auto, unfolding(crate::specs::Acts::fields))]
 fn write_all(alloc: Global, header: &Header, cursor: &mut Cursor<'_>) -> Result<Act, ScriptFault>
-    ensures { Gives (λ x. x) result (tokens_at cursor.new) (fields header.now words.Write (tokens_at cursor.old)) }
+    ensures { Gives (λ x. x) result (tokens_at cursor.new)
+        (fields header.now words.Write (tokens_at cursor.old)) }
 {
     let stream = declared(header.streams, cursor)?;
     let bytes = bytes(alloc, header.limits.size, cursor)?;

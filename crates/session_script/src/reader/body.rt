@@ -21,7 +21,9 @@ fn first_word(
     count: usize,
     cursor: &mut Cursor<'_>,
 ) -> Result<ActWord, ScriptFault>
-    ensures value { Gives (λ x. x) result (tokens_at cursor.new) (one (act_word header.now.version (nat_le header.now.limits.acts count)) (tokens_at cursor.old)) }
+    ensures value { Gives (λ x. x) result (tokens_at cursor.new) (one
+        (act_word header.now.version (nat_le header.now.limits.acts count))
+        (tokens_at cursor.old)) }
     ensures room { OnOk result (count < 2 ^ 32) }
 {
     let token = cursor.take()?;
@@ -40,7 +42,8 @@ pub(crate) fn body(
     entries: &mut Vec<PlacedAct>,
     cursor: &mut Cursor<'_>,
 ) -> Result<(), ScriptFault>
-    ensures { Leaves result (entries_of entries.new.items) (tokens_at cursor.new) (body header.now levels parent (entries_of entries.old.items) (tokens_at cursor.old)) }
+    ensures { Leaves result (entries_of entries.new.items) (tokens_at cursor.new)
+        (body header.now levels parent (entries_of entries.old.items) (tokens_at cursor.old)) }
 {
     another(b"{", levels == 0, cursor)?;
     acts(alloc, header, levels, parent, entries, cursor)?;
@@ -59,7 +62,9 @@ fn acts(
     cursor: &mut Cursor<'_>,
 ) -> Result<(), ScriptFault>
     requires { 0 < levels }
-    ensures { Leaves result (entries_of entries.new.items) (tokens_at cursor.new) (repeated (goes_on (codes "}")) (entry header.now (body header.now (levels - 1)) parent) (entries_of entries.old.items) (tokens_at cursor.old)) }
+    ensures { Leaves result (entries_of entries.new.items) (tokens_at cursor.new)
+        (repeated (goes_on (codes "}")) (entry header.now (body header.now (levels - 1)) parent)
+        (entries_of entries.old.items) (tokens_at cursor.old)) }
 {
     'each_act: while cursor.goes_on(b"}") {
         entry(alloc, header, levels, parent, entries, cursor)?;
@@ -79,7 +84,9 @@ fn entry(
     cursor: &mut Cursor<'_>,
 ) -> Result<(), ScriptFault>
     requires { 0 < levels }
-    ensures { Leaves result (entries_of entries.new.items) (tokens_at cursor.new) (entry header.now (body header.now (levels - 1)) parent (entries_of entries.old.items) (tokens_at cursor.old)) }
+    ensures { Leaves result (entries_of entries.new.items) (tokens_at cursor.new)
+        (entry header.now (body header.now (levels - 1)) parent (entries_of entries.old.items)
+        (tokens_at cursor.old)) }
 {
     let op = entries.len();
     let word = first_word(header, op, cursor)?;
@@ -112,7 +119,9 @@ fn branches(
     cursor: &mut Cursor<'_>,
 ) -> Result<(), ScriptFault>
     requires { 0 < levels }
-    ensures { Leaves result (entries_of entries.new.items) (tokens_at cursor.new) (branches (body header.now (levels - 1)) op (entries_of entries.old.items) (tokens_at cursor.old)) }
+    ensures { Leaves result (entries_of entries.new.items) (tokens_at cursor.new)
+        (branches (body header.now (levels - 1)) op (entries_of entries.old.items)
+        (tokens_at cursor.old)) }
 {
     body(
         alloc,
@@ -156,7 +165,9 @@ fn branch(
     cursor: &mut Cursor<'_>,
 ) -> Result<(), ScriptFault>
     requires { 0 < levels }
-    ensures { Leaves result (entries_of entries.new.items) (tokens_at cursor.new) (branch text.now (body header.now (levels - 1)) (Some parent) (entries_of entries.old.items) (tokens_at cursor.old)) }
+    ensures { Leaves result (entries_of entries.new.items) (tokens_at cursor.new)
+        (branch text.now (body header.now (levels - 1)) (Some parent) (entries_of entries.old.items)
+        (tokens_at cursor.old)) }
 {
     if !cursor.begins(text) {
         return Ok(());

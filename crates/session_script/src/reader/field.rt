@@ -24,7 +24,8 @@ pub(crate) fn word(text: &[u8], cursor: &mut Cursor<'_>) -> Result<(), ScriptFau
 /// One word, or a brace, that begins one more of something, unless there are enough of them.
 #[tactic(auto, unfolding(crate::specs::Productions::another))]
 pub(crate) fn another(text: &[u8], full: bool, cursor: &mut Cursor<'_>) -> Result<(), ScriptFault>
-    ensures value { Gives (λ x. x) result (tokens_at cursor.new) (another text.now full (tokens_at cursor.old)) }
+    ensures value { Gives (λ x. x) result (tokens_at cursor.new)
+        (another text.now full (tokens_at cursor.old)) }
     ensures room { OnOk result (full ≡ false) }
 {
     let token = cursor.take()?;
@@ -34,7 +35,8 @@ pub(crate) fn another(text: &[u8], full: bool, cursor: &mut Cursor<'_>) -> Resul
 /// A number within limits.
 #[tactic(auto, unfolding(crate::specs::Productions::bounded))]
 pub(crate) fn bounded(least: u64, most: u64, cursor: &mut Cursor<'_>) -> Result<u64, ScriptFault>
-    ensures value { Gives (λ x. x) result (tokens_at cursor.new) (bounded least most (tokens_at cursor.old)) }
+    ensures value { Gives (λ x. x) result (tokens_at cursor.new)
+        (bounded least most (tokens_at cursor.old)) }
     ensures in_range { IfOk result (λ value. value ≤ most) }
 {
     let token = cursor.take()?;
@@ -52,7 +54,8 @@ pub(crate) fn size(most: u32, cursor: &mut Cursor<'_>) -> Result<u32, ScriptFaul
 /// The number of a stream, timer, slot or guard.
 #[tactic(auto, unfolding(crate::specs::Productions::declared_number))]
 pub(crate) fn declared(count: u8, cursor: &mut Cursor<'_>) -> Result<u8, ScriptFault>
-    ensures { Gives (λ x. x) result (tokens_at cursor.new) (declared_number count (tokens_at cursor.old)) }
+    ensures { Gives (λ x. x) result (tokens_at cursor.new)
+        (declared_number count (tokens_at cursor.old)) }
 {
     let token = cursor.take()?;
     token.at.judged(known(count, token.bytes))
@@ -82,7 +85,8 @@ pub(crate) fn plug(
     header: &Header,
     cursor: &mut Cursor<'_>,
 ) -> Result<(Option<SlotNo>, Types), ScriptFault>
-    ensures { Gives (λ x. x) result (tokens_at cursor.new) (plug header.now (tokens_at cursor.old)) }
+    ensures { Gives (λ x. x) result (tokens_at cursor.new)
+        (plug header.now (tokens_at cursor.old)) }
 {
     let slot = optional(header.slots, cursor)?;
     if slot.is_none() || header.version == 1 || !cursor.begins(b"only") {

@@ -21,7 +21,8 @@ fn version_at(cursor: &mut Cursor<'_>) -> Result<u8, ScriptFault>
 /// How many of something there are: none where its word is missing.
 #[tactic(auto, unfolding(crate::specs::Productions::count))]
 fn count(text: &[u8], most: u8, cursor: &mut Cursor<'_>) -> Result<u8, ScriptFault>
-    ensures { Gives (λ x. x) result (tokens_at cursor.new) (count text.now most (tokens_at cursor.old)) }
+    ensures { Gives (λ x. x) result (tokens_at cursor.new)
+        (count text.now most (tokens_at cursor.old)) }
 {
     if !cursor.begins(text) {
         return Ok(0);

@@ -36,7 +36,8 @@ fn pace_word(full: bool, bytes: &[u8]) -> Result<Pace, Rule>
 
 /// The pace of a round.
 fn pace(full: bool, cursor: &mut Cursor<'_>) -> Result<Pace, ScriptFault>
-    ensures { Gives (λ x. x) result (tokens_at cursor.new) (one (pace_word full) (tokens_at cursor.old)) }
+    ensures { Gives (λ x. x) result (tokens_at cursor.new)
+        (one (pace_word full) (tokens_at cursor.old)) }
 {
     let token = cursor.take()?;
     token.at.judged(pace_word(full, token.bytes))
@@ -57,7 +58,8 @@ fn restart(full: bool, cursor: &mut Cursor<'_>) -> Result<bool, ScriptFault>
 /// One round.
 #[tactic(auto, unfolding(crate::specs::Productions::round))]
 fn round(header: &Header, full: bool, cursor: &mut Cursor<'_>) -> Result<Round, ScriptFault>
-    ensures { Gives (λ x. x) result (tokens_at cursor.new) (round header.now full (tokens_at cursor.old)) }
+    ensures { Gives (λ x. x) result (tokens_at cursor.new)
+        (round header.now full (tokens_at cursor.old)) }
 {
     let restart = restart(full, cursor)?;
     let pace = pace(full, cursor)?;
@@ -85,7 +87,8 @@ fn next_round(
     rounds: &mut Vec<Round>,
     cursor: &mut Cursor<'_>,
 ) -> Result<(), ScriptFault>
-    ensures { Leaves result rounds.new.items (tokens_at cursor.new) (next_round header.now rounds.old.items (tokens_at cursor.old)) }
+    ensures { Leaves result rounds.new.items (tokens_at cursor.new)
+        (next_round header.now rounds.old.items (tokens_at cursor.old)) }
 {
     let full = header.limits.rounds as usize <= rounds.len();
     let next = round(header, full, cursor)?;
@@ -99,7 +102,8 @@ fn other_rounds(
     rounds: &mut Vec<Round>,
     cursor: &mut Cursor<'_>,
 ) -> Result<(), ScriptFault>
-    ensures { Leaves result rounds.new.items (tokens_at cursor.new) (repeated begins_round (next_round header.now) rounds.old.items (tokens_at cursor.old)) }
+    ensures { Leaves result rounds.new.items (tokens_at cursor.new)
+        (repeated begins_round (next_round header.now) rounds.old.items (tokens_at cursor.old)) }
 {
     'each_round: while begins_round(cursor) {
         next_round(header, rounds, cursor)?;
@@ -114,7 +118,8 @@ pub(crate) fn rounds(
     header: &Header,
     cursor: &mut Cursor<'_>,
 ) -> Result<Vec<Round>, ScriptFault>
-    ensures { Gives (λ rounds. rounds.items) result (tokens_at cursor.new) (session_rounds header.now (tokens_at cursor.old)) }
+    ensures { Gives (λ rounds. rounds.items) result (tokens_at cursor.new)
+        (session_rounds header.now (tokens_at cursor.old)) }
 {
     let mut rounds = Vec::new(alloc);
     let first = round(header, false, cursor)?;

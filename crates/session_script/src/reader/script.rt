@@ -49,7 +49,8 @@ fn are_released(guards: u8, entries: &[PlacedAct]) -> bool
 /// The end of the text, where all guards are released.
 #[tactic(auto, unfolding(crate::specs::Tokens::tokens_at))]
 fn end(guards: u8, entries: &[PlacedAct], cursor: &Cursor<'_>) -> Result<(), ScriptFault>
-    ensures { Gives (λ x. x) result (tokens_at cursor.now) (ends guards (entries_of entries.now) (tokens_at cursor.now)) }
+    ensures { Gives (λ x. x) result (tokens_at cursor.now)
+        (ends guards (entries_of entries.now) (tokens_at cursor.now)) }
 {
     match cursor.next {
         Some(token) => Err(token.at.refused(misplaced(token.bytes))),

@@ -55,7 +55,8 @@ fn what(
     word: WorldWord,
     cursor: &mut Cursor<'_>,
 ) -> Result<What, ScriptFault>
-    ensures { Gives (λ x. x) result (tokens_at cursor.new) (what_happens header.now word (tokens_at cursor.old)) }
+    ensures { Gives (λ x. x) result (tokens_at cursor.new)
+        (what_happens header.now word (tokens_at cursor.old)) }
 {
     match word {
         WorldWord::Feed => {
@@ -79,7 +80,8 @@ fn world_line(
     full: bool,
     cursor: &mut Cursor<'_>,
 ) -> Result<Line, ScriptFault>
-    ensures { Gives (λ x. x) result (tokens_at cursor.new) (world_line header.now full (tokens_at cursor.old)) }
+    ensures { Gives (λ x. x) result (tokens_at cursor.new)
+        (world_line header.now full (tokens_at cursor.old)) }
 {
     another(b"at", full, cursor)?;
     let time = bounded(0, header.limits.time, cursor)?;
@@ -97,7 +99,8 @@ fn next_world_line(
     lines: &mut Vec<Line>,
     cursor: &mut Cursor<'_>,
 ) -> Result<(), ScriptFault>
-    ensures { Leaves result lines.new.items (tokens_at cursor.new) (next_world_line header.now lines.old.items (tokens_at cursor.old)) }
+    ensures { Leaves result lines.new.items (tokens_at cursor.new)
+        (next_world_line header.now lines.old.items (tokens_at cursor.old)) }
 {
     let full = header.limits.lines as usize <= lines.len();
     let next = world_line(alloc, header, full, cursor)?;
@@ -112,7 +115,8 @@ fn all_world_lines(
     lines: &mut Vec<Line>,
     cursor: &mut Cursor<'_>,
 ) -> Result<(), ScriptFault>
-    ensures { Leaves result lines.new.items (tokens_at cursor.new) (repeated (begins (codes "at")) (next_world_line header.now) lines.old.items (tokens_at cursor.old)) }
+    ensures { Leaves result lines.new.items (tokens_at cursor.new) (repeated (begins (codes "at"))
+        (next_world_line header.now) lines.old.items (tokens_at cursor.old)) }
 {
     'each_line: while cursor.begins(b"at") {
         next_world_line(alloc, header, lines, cursor)?;
@@ -127,7 +131,8 @@ pub(crate) fn world_lines(
     header: &Header,
     cursor: &mut Cursor<'_>,
 ) -> Result<Vec<Line>, ScriptFault>
-    ensures { Gives (λ lines. lines.items) result (tokens_at cursor.new) (world_lines header.now (tokens_at cursor.old)) }
+    ensures { Gives (λ lines. lines.items) result (tokens_at cursor.new)
+        (world_lines header.now (tokens_at cursor.old)) }
 {
     let mut lines = Vec::new(alloc);
     all_world_lines(alloc, header, &mut lines, cursor)?;

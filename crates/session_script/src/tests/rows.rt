@@ -1,5 +1,5 @@
-//! Each place of the grammar with each rule that a token may break there. A front leads to a place: the fault is at the
-//! token behind it, marked with `@`, or at the end of the text.
+//! Each place of the grammar with each rule that a token may break there. A front leads to a place:
+//! the fault is at the token behind it, marked with `@`, or at the end of the text.
 
 use crate::tests::verdict;
 use std::alloc::{AllocError, Global};
@@ -163,7 +163,8 @@ const BYTES: Places = (
     ],
 );
 
-/// The text without its mark `@`, and the line and the number of the token behind the mark, or else of the end.
+/// The text without its mark `@`, and the line and the number of the token behind the mark, or else
+/// of the end.
 fn unmarked(alloc: Global, front: &str, marked: &str) -> Result<(Vec<u8>, u32, u32), AllocError> {
     let mut text = Vec::new(alloc);
     let mut line: u32 = 1;

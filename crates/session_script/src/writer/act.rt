@@ -34,7 +34,8 @@ pub(crate) fn act_text(act: &Act) -> &'static [u8]
 
 /// Two numbers.
 fn two(first: u8, second: u64, out: &mut Vec<u8>) -> Result<(), NoMemory>
-    ensures { OnOk result (out.new.items ≡ written out.old.items (decimal first ∷ decimal second ∷ [])) }
+    ensures { OnOk result
+        (out.new.items ≡ written out.old.items (decimal first ∷ decimal second ∷ [])) }
 {
     number(first as u64, out)?;
     number(second, out)

@@ -19,7 +19,8 @@ pub(crate) fn body(
     out: &mut Vec<u8>,
 ) -> Result<(), NoMemory>
     requires { EachIndex acts.now (λ i. slice_index acts.now i < length script.now.acts) }
-    ensures { OnOk result (out.new.items ≡ written out.old.items (body_words levels script.now acts.now)) }
+    ensures { OnOk result
+        (out.new.items ≡ written out.old.items (body_words levels script.now acts.now)) }
 {
     if levels == 0 {
         return Ok(());
@@ -33,7 +34,9 @@ pub(crate) fn body(
 #[cycle(bodies)]
 fn entries(script: &Script, levels: u32, acts: &[ActNo], out: &mut Vec<u8>) -> Result<(), NoMemory>
     requires { EachIndex acts.now (λ i. slice_index acts.now i < length script.now.acts) }
-    ensures { OnOk result (out.new.items ≡ written out.old.items (flat_map (entry_words (body_words levels script.now) script.now) acts.now)) }
+    ensures { OnOk result (out.new.items
+        ≡ written out.old.items
+        (flat_map (entry_words (body_words levels script.now) script.now) acts.now)) }
 {
     'each_act: for a in acts {
         entry(script, levels, *a, out)?;
@@ -45,7 +48,8 @@ fn entries(script: &Script, levels: u32, acts: &[ActNo], out: &mut Vec<u8>) -> R
 #[cycle(bodies)]
 fn entry(script: &Script, levels: u32, a: ActNo, out: &mut Vec<u8>) -> Result<(), NoMemory>
     requires { a < length script.now.acts }
-    ensures { OnOk result (out.new.items ≡ written out.old.items (entry_words (body_words levels script.now) script.now a)) }
+    ensures { OnOk result (out.new.items
+        ≡ written out.old.items (entry_words (body_words levels script.now) script.now a)) }
 {
     let act = script.act(a);
     word(act_text(act), out)?;
@@ -62,7 +66,9 @@ fn entry(script: &Script, levels: u32, a: ActNo, out: &mut Vec<u8>) -> Result<()
 fn branches(script: &Script, levels: u32, o: OpNo, out: &mut Vec<u8>) -> Result<(), NoMemory>
     requires in_range { o < length script.now.acts }
     requires operation { is_op script.now o ≡ true }
-    ensures { OnOk result (out.new.items ≡ written out.old.items (bodies_words (body_words levels script.now) script.now o bodies.Operation)) }
+    ensures { OnOk result (out.new.items
+        ≡ written out.old.items
+        (bodies_words (body_words levels script.now) script.now o bodies.Operation)) }
 {
     body(script, levels, script.branch(o, Class::Ok), out)?;
     branch(
@@ -91,7 +97,8 @@ fn branch(
     out: &mut Vec<u8>,
 ) -> Result<(), NoMemory>
     requires { EachIndex acts.now (λ i. slice_index acts.now i < length script.now.acts) }
-    ensures { OnOk result (out.new.items ≡ written out.old.items (branch_words (body_words levels script.now) text.now acts.now)) }
+    ensures { OnOk result (out.new.items
+        ≡ written out.old.items (branch_words (body_words levels script.now) text.now acts.now)) }
 {
     if acts.is_empty() {
         return Ok(());

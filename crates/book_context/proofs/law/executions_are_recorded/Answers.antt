@@ -5,4 +5,5 @@ pub returns-clause-next : goal.returns-clause-next
 returns-clause-next c = may_execute
 
 pub returns-clause-executions : goal.returns-clause-executions
-returns-clause-executions c = λ told r op code size newer calls knows oldest going round whole. has_executed told r op code size newer knows oldest going round calls whole
+returns-clause-executions c = λ told r op code size newer calls knows oldest going round whole.
+    has_executed told r op code size newer knows oldest going round calls whole

@@ -7,7 +7,8 @@ pub returns-clause-calls : goal.returns-clause-calls
 returns-clause-calls c = of_calls
 
 pub returns-clause-any : goal.returns-clause-any
-returns-clause-any c = λ script run op code size calls whole. follow_execution script (IsRunMark run) AnyMark (λ n mark has. tt) op code size calls whole
+returns-clause-any c = λ script run op code size calls whole.
+    follow_execution script (IsRunMark run) AnyMark (λ n mark has. tt) op code size calls whole
 
 pub returns-clause-executions : goal.returns-clause-executions
 returns-clause-executions c = marked_execution

@@ -5,7 +5,8 @@ use Rattle.generated_session.proofs.generator.acts_of.Given as goal
 
 abbrev pub invariant-loop-acts : goal.invariant-loop-acts
 invariant-loop-acts l = record {
-  made : entries_of l.acts.items ++ acts_from (l.size - vec_len l.acts) (vec_len l.acts) l.x ≡ acts_from l.size 0 l.fn.start;
+  made : entries_of l.acts.items ++ acts_from (l.size - vec_len l.acts) (vec_len l.acts) l.x
+      ≡ acts_from l.size 0 l.fn.start;
   within : vec_len l.acts ≤ l.size;
   room : l.size ≤ vec_capacity l.acts;
   number : l.x ≤ most_start;

@@ -6,6 +6,7 @@ use Rattle.generated_session.proofs.summary.write_summary.Given as goal
 
 abbrev pub invariant-loop-line : goal.invariant-loop-line
 invariant-loop-line g l = record {
-  written : Extends (g.K.Sink.written l.initial.sink) (flat_map text_of_line (take l.line-index l.line-items)) (g.K.Sink.written l.sink);
+  written : Extends (g.K.Sink.written l.initial.sink) (flat_map text_of_line (take l.line-index l.line-items))
+      (g.K.Sink.written l.sink);
   counted : g.K.Sink.faults l.sink ≡ g.K.Sink.faults l.initial.sink;
 }

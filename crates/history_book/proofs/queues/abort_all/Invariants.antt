@@ -7,7 +7,10 @@ use Rattle.history_book.proofs.queues.abort_all.Given as goal
 
 abbrev pub invariant-loop-first : goal.invariant-loop-first
 invariant-loop-first l = record {
-  due : (f : ℕ → Reading) (g : ℕ → Writing) → l.due.items ++ all_of_stream (map (asked f) l.reads.items) (map (asked g) l.writes.items) ≡ l.initial.due.items ++ all_of_stream (map (asked f) l.initial.reads.items) (map (asked g) l.initial.writes.items);
+  due : (f : ℕ → Reading) (g : ℕ → Writing) →
+      l.due.items ++ all_of_stream (map (asked f) l.reads.items) (map (asked g) l.writes.items)
+      ≡ l.initial.due.items
+      ++ all_of_stream (map (asked f) l.initial.reads.items) (map (asked g) l.initial.writes.items);
   room : vec_len l.due + deque_len l.reads + deque_len l.writes ≤ vec_capacity l.due;
   due_room : vec_capacity l.due ≡ vec_capacity l.initial.due;
   reads_room : deque_capacity l.reads ≡ deque_capacity l.initial.reads;

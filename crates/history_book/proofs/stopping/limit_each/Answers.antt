@@ -10,4 +10,5 @@ loop-strand-preserved c =
     let within : c.loop-strand.strand-index < length c.loop-strand.strands = omega arith in
     let at = get_or c.loop-strand.strands c.loop-strand.strand-index allowance.Free in
     rw c.at_most_one.ensures
-    (map_over_more at_most_one c.args.strands.now _ _ at (omega arith) c.loop-strand.invariant (get_or_default c.loop-strand.strands _ _ at within))
+    (map_over_more at_most_one c.args.strands.now _ _ at (omega arith) c.loop-strand.invariant
+    (get_or_default c.loop-strand.strands _ _ at within))

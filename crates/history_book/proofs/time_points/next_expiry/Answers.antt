@@ -7,4 +7,6 @@ use Rattle.history_book.proofs.time_points.next_expiry.Goals as goal
 pub loop-wait-preserved : goal.loop-wait-preserved
 loop-wait-preserved c =
     let none : Wait = record { op = 0; timer = 0 } in
-    rw (c.with_expiry-least.ensures, c.expiry_in.ensures, c.loop-wait.invariant) (sym (least-more (expiry_in c.args.expiries.now) c.args.now c.args.waits.now c.loop-wait.wait-index none c.loop-wait-test.true))
+    rw (c.with_expiry-least.ensures, c.expiry_in.ensures, c.loop-wait.invariant) (sym (least-more
+    (expiry_in c.args.expiries.now) c.args.now c.args.waits.now c.loop-wait.wait-index none
+    c.loop-wait-test.true))

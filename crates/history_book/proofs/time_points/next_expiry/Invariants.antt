@@ -4,4 +4,5 @@ use Rattle.history_book.specs.Waiting.{expiry_in}
 use Rattle.history_book.proofs.time_points.next_expiry.Given as goal
 
 abbrev pub invariant-loop-wait : goal.invariant-loop-wait
-invariant-loop-wait l = l.least ≡ least_of (filter (λ expiry. nat_lt l.now expiry) (map (expiry_in l.expiries) (take l.wait-index l.waits)))
+invariant-loop-wait l =
+    l.least ≡ least_of (filter (λ expiry. nat_lt l.now expiry) (map (expiry_in l.expiries) (take l.wait-index l.waits)))

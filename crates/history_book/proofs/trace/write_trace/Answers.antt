@@ -10,6 +10,10 @@ returns-in_err-write_all-clause-part g c =
     let third = g.K.Sink.written c.write_all.new.sink in
     let part : ExtendsByPart first (trace_of c.args.history.now.events) third =
     subst (λ events. ExtendsByPart first (trace_of events) third) c.events-events.ensures
-    (extends_by_part_at line_of first (g.K.Sink.written c.loop-event.sink) third c.events-events.result.now c.loop-event.event-index _ c.as_slice.result.now
-    c.loop-event-test.true (c.as_slice.ensures ∙ c.of_event.ensures) c.loop-event.invariant.written c.in_err-write_all.ensures.part) in
-    elim c.from_residual.result as (λ r. OnErr r (ExtendsByPart first (trace_of c.args.history.now.events) third)) [ Ok x ↦ tt | Err e ↦ part ]
+    (extends_by_part_at line_of first (g.K.Sink.written c.loop-event.sink) third c.events-events.result.now
+    c.loop-event.event-index _ c.as_slice.result.now c.loop-event-test.true
+    (c.as_slice.ensures ∙ c.of_event.ensures) c.loop-event.invariant.written c.in_err-write_all.ensures.part) in
+    elim c.from_residual.result as (λ r. OnErr r (ExtendsByPart first (trace_of c.args.history.now.events) third)) [
+      | Ok x ↦ tt
+      | Err e ↦ part
+    ]

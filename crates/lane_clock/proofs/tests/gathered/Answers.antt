@@ -5,7 +5,10 @@ use Rattle.lane_clock.proofs.tests.gathered.Goals as goal
 
 pub close-requires-clause-all : goal.close-requires-clause-all
 close-requires-clause-all c n lt =
-    let clock = ap (λ (s : SeatView). s.clock) c.join-3.ensures.step ∙ (ap (λ (s : SeatView). s.clock) c.join-2.ensures.step ∙ (ap (λ (s : SeatView). s.clock) c.join.ensures.step ∙ c.requires.one.0)) in
+    let clock =
+    ap (λ (s : SeatView). s.clock) c.join-3.ensures.step
+    ∙ (ap (λ (s : SeatView). s.clock) c.join-2.ensures.step
+    ∙ (ap (λ (s : SeatView). s.clock) c.join.ensures.step ∙ c.requires.one.0)) in
     let four = ap (λ k. k.plan.seats) clock ∙ c.requires.seats in
     below_four (λ k. Owns c.join-3.new.seat k)
     (c.join-3.ensures.keeps 0 (c.join-2.ensures.keeps 0 (c.join.ensures.keeps 0 c.requires.one.1)))

@@ -4,5 +4,8 @@ use Rattle.op_handlers.proofs.tests.a_discarded_handler_answers_its_drop_mark.Ow
 use Rattle.op_handlers.proofs.tests.a_discarded_handler_answers_its_drop_mark.Goals as goal
 
 pub of-requires : goal.of-requires
-of-requires g c =
-    (record { run = 7; drop = 70 }, AnswersBy-boxed own-1 entry-1-1 at-1-1 same-1-1 _ c.into_dyn_box.ensures.1 (λ s. tt) (λ s r p. p.2) (λ s. (tt, s, refl)))
+of-requires g c = (
+  record { run = 7; drop = 70 },
+  AnswersBy-boxed own-1 entry-1-1 at-1-1 same-1-1 _ c.into_dyn_box.ensures.1 (λ s. tt) (λ s r p. p.2)
+      (λ s. (tt, s, refl)),
+)

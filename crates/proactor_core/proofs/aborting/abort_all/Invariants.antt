@@ -6,7 +6,9 @@ use Rattle.proactor_core.proofs.aborting.abort_all.Given as goal
 
 abbrev pub invariant-loop-first : goal.invariant-loop-first
 invariant-loop-first l = record {
-  coming : l.due.coming ++ all_of_stream (map pending_read l.reads.items) (map pending_write l.writes.items) ≡ l.initial.due.coming ++ all_of_stream (map pending_read l.initial.reads.items) (map pending_write l.initial.writes.items);
+  coming : l.due.coming ++ all_of_stream (map pending_read l.reads.items) (map pending_write l.writes.items)
+      ≡ l.initial.due.coming
+      ++ all_of_stream (map pending_read l.initial.reads.items) (map pending_write l.initial.writes.items);
   room : l.due.spare + length l.due.coming ≡ l.initial.due.spare + length l.initial.due.coming;
   count : deque_len l.reads + deque_len l.writes ≤ l.due.spare;
   reads_room : deque_capacity l.reads ≡ deque_capacity l.initial.reads;

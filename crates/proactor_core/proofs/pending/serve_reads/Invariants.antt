@@ -19,7 +19,8 @@ invariant-loop-head g l = record {
   queue_room : deque_capacity l.queue ≡ deque_capacity l.initial.queue;
   due_room : deque_len l.queue ≤ l.due.spare;
   reads : AreReads (length l.initial.buffer) l.held l.queue.items;
-  gives : GivesSoFar may_give_read (map pending_read l.initial.queue.items) (map pending_read l.queue.items) l.initial.due l.due;
+  gives : GivesSoFar may_give_read (map pending_read l.initial.queue.items) (map pending_read l.queue.items)
+      l.initial.due l.due;
   served : IfSome (g.X.Reactor.told l.initial.reactor) (λ _. RulesSoFar reading_side
       (map pending_read l.initial.queue.items) (map pending_read l.queue.items)
       (whole_told l.initial.held.bytes (g.X.Reactor.told l.initial.reactor) l.stream)

@@ -18,7 +18,8 @@ invariant-loop-head g l = record {
   queue_room : deque_capacity l.queue ≡ deque_capacity l.initial.queue;
   due_room : deque_len l.queue ≤ l.due.spare;
   writes : AreWrites l.queue.items;
-  gives : GivesSoFar may_give_write (map pending_write l.initial.queue.items) (map pending_write l.queue.items) l.initial.due l.due;
+  gives : GivesSoFar may_give_write (map pending_write l.initial.queue.items) (map pending_write l.queue.items)
+      l.initial.due l.due;
   served : (held : List ℕ) → IfSome (g.X.Reactor.told l.initial.reactor) (λ _. RulesSoFar writing_side
       (map pending_write l.initial.queue.items) (map pending_write l.queue.items)
       (whole_told held (g.X.Reactor.told l.initial.reactor) l.stream)

@@ -24,7 +24,10 @@ loop-held-preserved g c =
       room = ap (λ (h : HeldBytes). h.room) c.append.ensures ∙ before.room;
       there = there-still told left number changed before.there;
       told = changes-on first told left number before.told changed;
-      same = filling-keeps first told left number count c.args.held.now.bytes c.loop-held.held.bytes c.append.new.self.bytes piece before.there read.told_bytes read.told_gives (rw c.in-Took.is keeps) before.told before.same;
+      same =
+          filling-keeps first told left number count c.args.held.now.bytes c.loop-held.held.bytes
+          c.append.new.self.bytes piece before.there read.told_bytes read.told_gives (rw c.in-Took.is keeps)
+          before.told before.same;
     }
 
 pub returns-in_default : goal.returns-in_default
@@ -38,7 +41,9 @@ returns-in_default g c =
     let most = c.args.size - c.len-in-loop-held.result in
     let some : 1 ≤ most = omega arith in
     let changed : ChangesOne number told left = search rules in
-    let dry = dry-left told left number most c.in_ok-count.field-0 some before.there c.in_default.not-Took read.told_answer read.told_gives in
+    let dry =
+    dry-left told left number most c.in_ok-count.field-0 some before.there c.in_default.not-Took read.told_answer
+    read.told_gives in
     record {
       keeps = read.keeps ∙ before.keeps;
       counts = read.counts ∙ before.faults;

@@ -13,7 +13,9 @@ returns-in-Held-clause-follows g c =
     let wants = rw c.as_slice.ensures.value at c.in-Held.ensures.wanted in
     let keeps = ap (λ (h : HeldBytes). h.bytes) c.consume.ensures in
     let turns = c.round_of.ensures ∙ ap round_of c.got.ensures.step in
-    held-follows (g.X.Reactor.told c.args.reactor.now) c.args.stream progress (progress_of c.got.new.self) c.args.held.now.bytes c.consume.new.self.bytes c.in-Held.count c.round_of.result may.under_way may.searched (sym wants) c.requires.gathered keeps c.got.ensures.progress turns
+    held-follows (g.X.Reactor.told c.args.reactor.now) c.args.stream progress (progress_of c.got.new.self)
+    c.args.held.now.bytes c.consume.new.self.bytes c.in-Held.count c.round_of.result may.under_way may.searched
+    (sym wants) c.requires.gathered keeps c.got.ensures.progress turns
 
 pub returns-in-Finish-clause-allowed : goal.returns-in-Finish-clause-allowed
 returns-in-Finish-clause-allowed g c =
@@ -27,4 +29,5 @@ returns-in-Finish-clause-follows g c =
     let progress = progress_of c.args.machine.now in
     let wants = rw c.as_slice.ensures.value at c.in-Finish.ensures.wanted in
     let keeps = ap (λ (h : HeldBytes). h.bytes) c.consume-in-Finish.ensures in
-    finish-follows (g.X.Reactor.told c.args.reactor.now) c.args.stream progress c.args.held.now.bytes c.consume-in-Finish.new.self.bytes c.in-Finish.code c.in-Finish.size may.under_way may.searched (sym wants) keeps
+    finish-follows (g.X.Reactor.told c.args.reactor.now) c.args.stream progress c.args.held.now.bytes
+    c.consume-in-Finish.new.self.bytes c.in-Finish.code c.in-Finish.size may.under_way may.searched (sym wants) keeps

@@ -24,14 +24,22 @@ rounds-preserved g c =
       told = changes-on first told left number before.told once.told;
       asks = once.asks ∙ before.asks;
       reads = rw (c.rounds.auto.buffer, c.gather.auto.buffer) at (reads tt);
-      same = goes-on-same first told left number (progress_of c.args.machine.now) (progress_of c.rounds.machine) (progress_of c.read_once.new.machine) c.args.held.now.bytes c.rounds.held.bytes c.read_once.new.held.bytes before.told follows before.same;
-      gathered = told-still told left number (IsGathered (progress_of c.read_once.new.machine).asks c.read_once.new.held.bytes (told_stream left number)) once.told (once.gathered c.in-GoesOn.is);
+      same =
+          goes-on-same first told left number (progress_of c.args.machine.now) (progress_of c.rounds.machine)
+          (progress_of c.read_once.new.machine) c.args.held.now.bytes c.rounds.held.bytes c.read_once.new.held.bytes
+          before.told follows before.same;
+      gathered =
+          told-still told left number
+          (IsGathered (progress_of c.read_once.new.machine).asks c.read_once.new.held.bytes (told_stream left number))
+          once.told (once.gathered c.in-GoesOn.is);
     }
 
 pub returns-in-Stays-clause-told : goal.returns-in-Stays-clause-told
 returns-in-Stays-clause-told g c =
-    changes-on (g.X.Reactor.told c.args.reactor.now) (g.X.Reactor.told c.rounds.reactor) (g.X.Reactor.told c.read_once.new.reactor) c.args.stream c.rounds.invariant.told c.in_ok-read_once.ensures.told
+    changes-on (g.X.Reactor.told c.args.reactor.now) (g.X.Reactor.told c.rounds.reactor)
+    (g.X.Reactor.told c.read_once.new.reactor) c.args.stream c.rounds.invariant.told c.in_ok-read_once.ensures.told
 
 pub returns-in-Completes-clause-told : goal.returns-in-Completes-clause-told
 returns-in-Completes-clause-told g c =
-    changes-on (g.X.Reactor.told c.args.reactor.now) (g.X.Reactor.told c.rounds.reactor) (g.X.Reactor.told c.read_once.new.reactor) c.args.stream c.rounds.invariant.told c.in_ok-read_once.ensures.told
+    changes-on (g.X.Reactor.told c.args.reactor.now) (g.X.Reactor.told c.rounds.reactor)
+    (g.X.Reactor.told c.read_once.new.reactor) c.args.stream c.rounds.invariant.told c.in_ok-read_once.ensures.told

@@ -5,5 +5,6 @@ use Rattle.proactor_core.proofs.streams.open_streams.Given as goal
 abbrev pub invariant-loop-stream : goal.invariant-loop-stream
 invariant-loop-stream l = record {
   count : length l.made.items ≡ l.stream;
-  each : (n : ℕ) → n < l.stream → stream_in l.made.items n ≡ new_stream_view (get_or l.sizes n 0) (get_or l.reads n 0) (get_or l.writes n 0);
+  each : (n : ℕ) → n < l.stream →
+      stream_in l.made.items n ≡ new_stream_view (get_or l.sizes n 0) (get_or l.reads n 0) (get_or l.writes n 0);
 }

@@ -29,7 +29,8 @@ returns-clause-ran g c =
     let reactor = c.finish-ran.result.1 in
     run_of g.H.CompletionHandler.marks g.N.Session.script c.args.script.now g.N.Session.told g.N.Session.run
     g.N.Session.drop g.N.Session.faults (g.X.Reactor.faults c.args.reactor) (g.X.Reactor.faults reactor) history.events
-    (g.X.Reactor.state reactor) (g.X.Reactor.told c.args.reactor) (g.X.Reactor.told reactor) c.args.rack.now c.discard_rest-2.new.self
+    (g.X.Reactor.state reactor) (g.X.Reactor.told c.args.reactor) (g.X.Reactor.told reactor) c.args.rack.now
+    c.discard_rest-2.new.self
     c.requires.named c.requires.faults c.requires.run_marks c.requires.drop_marks
     (all_taken c.args.rack.now c.make.new.rack c.discard_rest-2.new.self c.in-Ok-make.ensures.count c.discard_rest-2.ensures)
     (record {

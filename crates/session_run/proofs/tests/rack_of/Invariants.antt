@@ -5,4 +5,8 @@ use Rattle.session_run.proofs.tests.rack_of.Given as goal
 
 abbrev pub invariant-loop-n : goal.invariant-loop-n
 invariant-loop-n l =
-    record { room : most_acts ≤ vec_capacity l.handlers; count : vec_len l.handlers ≡ l.n; whole : All IsSome l.handlers.items }
+    record {
+      room : most_acts ≤ vec_capacity l.handlers;
+      count : vec_len l.handlers ≡ l.n;
+      whole : All IsSome l.handlers.items;
+    }

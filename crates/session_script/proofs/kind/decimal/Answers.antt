@@ -3,7 +3,11 @@ use Rattle.session_script.proofs.Numbers.{decimal_overflows}
 use Rattle.session_script.proofs.kind.decimal.Goals as goal
 
 pub returns-in-None : goal.returns-in-None
-returns-in-None c = decimal_overflows c.loop-digit.value c.loop-digit.digit-index (2 ^ 64) _ c.args.digits.now (omega arith) c.loop-digit.invariant (omega (arith, c.in-None.ensures))
+returns-in-None c =
+    decimal_overflows c.loop-digit.value c.loop-digit.digit-index (2 ^ 64) _ c.args.digits.now (omega arith)
+    c.loop-digit.invariant (omega (arith, c.in-None.ensures))
 
 pub returns-in-None-checked_add : goal.returns-in-None-checked_add
-returns-in-None-checked_add c = decimal_overflows c.loop-digit.value c.loop-digit.digit-index (2 ^ 64) _ c.args.digits.now (omega arith) c.loop-digit.invariant (omega (arith, c.in-None-checked_add.ensures))
+returns-in-None-checked_add c =
+    decimal_overflows c.loop-digit.value c.loop-digit.digit-index (2 ^ 64) _ c.args.digits.now (omega arith)
+    c.loop-digit.invariant (omega (arith, c.in-None-checked_add.ensures))

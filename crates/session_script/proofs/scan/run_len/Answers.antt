@@ -9,5 +9,7 @@ loop-count-preserved c =
     let printable : is_printable b ≡ true = search rules in
     record {
       in_range = omega arith;
-      same = λ line count. sym (run_one line count c.loop-count.count c.args.bytes.now (omega arith) printable) ∙ c.loop-count.invariant.same line count;
+      same = λ line count.
+          sym (run_one line count c.loop-count.count c.args.bytes.now (omega arith) printable)
+          ∙ c.loop-count.invariant.same line count;
     }

@@ -20,4 +20,5 @@ make-requires c =
       world = c.in_ok-world.world;
       rounds = c.in_ok-rounds.rounds;
     }) = search rules in
-    subst (λ (script : ScriptModel). IsScript (spelling_of script) script) same (upgrade_is_read (spelling_of old) old c.script.invariant.reads_back).0
+    subst (λ (script : ScriptModel). IsScript (spelling_of script) script) same
+    (upgrade_is_read (spelling_of old) old c.script.invariant.reads_back).0

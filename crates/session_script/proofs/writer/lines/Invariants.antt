@@ -4,4 +4,6 @@ use Rattle.session_script.specs.Spelling.{written, line_words}
 use Rattle.session_script.proofs.writer.lines.Given as goal
 
 abbrev pub invariant-loop-next : goal.invariant-loop-next
-invariant-loop-next l = written l.out.items (flat_map line_words (drop l.next-index l.lines)) ≡ written l.fn.out.items (flat_map line_words l.lines)
+invariant-loop-next l =
+    written l.out.items (flat_map line_words (drop l.next-index l.lines))
+    ≡ written l.fn.out.items (flat_map line_words l.lines)

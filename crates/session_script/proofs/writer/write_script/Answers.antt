@@ -12,4 +12,5 @@ pub returns-clause-reads_back : goal.returns-clause-reads_back
 returns-clause-reads_back c = subst (λ text. IsScript text c.args.script.now) (sym (spelled c)) c.reads_back.ensures
 
 pub returns-clause-shortest : goal.returns-clause-shortest
-returns-clause-shortest c bytes is = omega (arith, c.after_session.new.out.ok, ap length (spelled c), (written_is_read bytes c.args.script.now is).1)
+returns-clause-shortest c bytes is =
+    omega (arith, c.after_session.new.out.ok, ap length (spelled c), (written_is_read bytes c.args.script.now is).1)

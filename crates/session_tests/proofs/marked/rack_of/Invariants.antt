@@ -3,4 +3,8 @@ use Rattle.std.specs.Prelude.{All, IsSome}
 use Rattle.session_tests.proofs.marked.rack_of.Given as goal
 
 abbrev pub invariant-loop-n : goal.invariant-loop-n
-invariant-loop-n g l = record { room : l.fn.count ≤ vec_capacity l.handlers; count : vec_len l.handlers ≡ l.n; whole : All IsSome l.handlers.items }
+invariant-loop-n g l = record {
+  room : l.fn.count ≤ vec_capacity l.handlers;
+  count : vec_len l.handlers ≡ l.n;
+  whole : All IsSome l.handlers.items;
+}

@@ -5,11 +5,15 @@ use Rattle.strand_core.proofs.execution.execute.Goals as goal
 
 pub returns-in-None-clause-same_hands : goal.returns-in-None-clause-same_hands
 returns-in-None-clause-same_hands g c =
-    same_held _ _ c.take.ensures.script (c.take.ensures.after ∙ taken_none c.args.hands.now.handlers c.args.op (sym c.in-None.ensures.taken))
+    same_held _ _ c.take.ensures.script
+    (c.take.ensures.after ∙ taken_none c.args.hands.now.handlers c.args.op (sym c.in-None.ensures.taken))
 
 pub returns-in-Some-clause-executed : goal.returns-in-Some-clause-executed
 returns-in-Some-clause-executed g c =
-    executed g.H.CompletionHandler.marks c.args.op c.args.code c.args.size (g.H.CompletionHandler.marks c.in-Some.handler).run c.in-Some.handler c.args.hands.now c.take.new.self c.run.new.hands (g.P.Poster.made c.args.poster.now) (g.P.Poster.made c.run.new.poster) (g.P.Poster.takes c.args.poster.now) (g.P.Poster.takes c.run.new.poster)
+    executed g.H.CompletionHandler.marks c.args.op c.args.code c.args.size
+    (g.H.CompletionHandler.marks c.in-Some.handler).run c.in-Some.handler c.args.hands.now c.take.new.self
+    c.run.new.hands (g.P.Poster.made c.args.poster.now) (g.P.Poster.made c.run.new.poster)
+    (g.P.Poster.takes c.args.poster.now) (g.P.Poster.takes c.run.new.poster)
     (sym c.in-Some.ensures.taken) refl c.take.ensures.after c.take.ensures.script c.run.ensures.ran
 
 pub returns-in-Some-clause-script : goal.returns-in-Some-clause-script

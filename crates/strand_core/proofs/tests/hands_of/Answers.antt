@@ -4,9 +4,11 @@ use Rattle.strand_core.proofs.MovingLemmas.{others_left, whole_has}
 use Rattle.strand_core.proofs.tests.hands_of.Goals as goal
 
 pub of_lane-requires : goal.of_lane-requires
-of_lane-requires g c = whole_has c.args.script.now (Some c.args.first) (handlers_in c.args.rack.now) c.requires.whole c.requires.enough
+of_lane-requires g c =
+    whole_has c.args.script.now (Some c.args.first) (handlers_in c.args.rack.now) c.requires.whole c.requires.enough
 
 pub of_lane-requires-2 : goal.of_lane-requires-2
 of_lane-requires-2 g c =
-    others_left c.args.script.now c.args.first c.args.second (handlers_in c.args.rack.now) (handlers_in c.of_lane.new.rack) c.requires.apart (rw c.expect-one.ensures at c.of_lane.ensures.left)
+    others_left c.args.script.now c.args.first c.args.second (handlers_in c.args.rack.now)
+    (handlers_in c.of_lane.new.rack) c.requires.apart (rw c.expect-one.ensures at c.of_lane.ensures.left)
     (whole_has c.args.script.now (Some c.args.second) (handlers_in c.args.rack.now) c.requires.whole c.requires.enough)

@@ -6,4 +6,8 @@ use Rattle.stream_rules.proofs.pipes.mark_last.Given as goal
 
 abbrev pub invariant-loop-pipe : goal.invariant-loop-pipe
 invariant-loop-pipe l =
-    (map stream_of l.pipes ≡ map marked_last (take l.pipe-index (map stream_of l.initial.pipes)) ++ drop l.pipe-index (map stream_of l.initial.pipes)) × KeepsRoom l.initial.pipes l.pipes × ((k : ℕ) (pipe : Pipe) → k < l.pipe-index → IsMarked (get_or l.pipes k pipe))
+    (map stream_of l.pipes
+    ≡ map marked_last (take l.pipe-index (map stream_of l.initial.pipes))
+    ++ drop l.pipe-index (map stream_of l.initial.pipes))
+    × KeepsRoom l.initial.pipes l.pipes
+    × ((k : ℕ) (pipe : Pipe) → k < l.pipe-index → IsMarked (get_or l.pipes k pipe))

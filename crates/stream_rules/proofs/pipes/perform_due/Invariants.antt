@@ -5,4 +5,7 @@ use Rattle.stream_rules.proofs.pipes.perform_due.Given as goal
 
 abbrev pub invariant-loop-number : goal.invariant-loop-number
 invariant-loop-number l =
-    (map stream_of l.pipes ≡ perform_lines (take l.number (lines_at l.schedule.time l.schedule.lines)) (map stream_of l.initial.pipes)) × UsesRoom (take l.number (lines_at l.schedule.time l.schedule.lines)) l.initial.pipes l.pipes × (All IsMarked l.initial.pipes → All IsMarked l.pipes)
+    (map stream_of l.pipes
+    ≡ perform_lines (take l.number (lines_at l.schedule.time l.schedule.lines)) (map stream_of l.initial.pipes))
+    × UsesRoom (take l.number (lines_at l.schedule.time l.schedule.lines)) l.initial.pipes l.pipes
+    × (All IsMarked l.initial.pipes → All IsMarked l.pipes)

@@ -7,4 +7,8 @@ use Rattle.stream_rules.proofs.pipes.pipes_for.Given as goal
 
 abbrev pub invariant-loop-stream : goal.invariant-loop-stream
 invariant-loop-stream l =
-    (map stream_of l.pipes.items ≡ replicate l.stream new_stream) × (length l.pipes.items ≡ l.stream) × ((stream : ℕ) (pipe : Pipe) → stream < length l.pipes.items → (slice_index_or l.pipes.items stream pipe).inbound.left ≡ fed_to stream l.lines) × ((stream : ℕ) (pipe : Pipe) → stream < length l.pipes.items → (slice_index_or l.pipes.items stream pipe).outbound.left ≡ room_to stream l.lines)
+    (map stream_of l.pipes.items ≡ replicate l.stream new_stream) × (length l.pipes.items ≡ l.stream)
+    × ((stream : ℕ) (pipe : Pipe) → stream < length l.pipes.items →
+    (slice_index_or l.pipes.items stream pipe).inbound.left ≡ fed_to stream l.lines)
+    × ((stream : ℕ) (pipe : Pipe) → stream < length l.pipes.items →
+    (slice_index_or l.pipes.items stream pipe).outbound.left ≡ room_to stream l.lines)

@@ -8,7 +8,9 @@ use Rattle.stream_rules.proofs.queue.serve_reads.Given as goal
 
 abbrev pub invariant-loop-head : goal.invariant-loop-head
 invariant-loop-head g l =
-    ServedSoFar reading_side (g.A.Asks.reads l.asks) (served_queue reading_side (map (asked (g.A.Asks.reads l.asks)) l.initial.queue.items) (stream_of l.initial.pipe)) l.initial.completed.items l.completed.items l.queue.items (stream_of l.pipe)
+    ServedSoFar reading_side (g.A.Asks.reads l.asks)
+    (served_queue reading_side (map (asked (g.A.Asks.reads l.asks)) l.initial.queue.items) (stream_of l.initial.pipe))
+    l.initial.completed.items l.completed.items l.queue.items (stream_of l.pipe)
     × All (λ queued. g.A.Asks.IsReading l.asks queued.op) l.queue.items
     × (vec_len l.completed + deque_len l.queue ≡ vec_len l.initial.completed + deque_len l.initial.queue)
     × (l.pipe.inbound.left ≡ l.initial.pipe.inbound.left)

@@ -16,5 +16,17 @@ loop-head-preserved g c =
     let is = rw c.writing.ensures.bytes at step.ensures.served in
     let left = rw c.writing.ensures.bytes at step.ensures.stream in
     let some = after.stays.1 in
-    let gone = there step.result.outcome (c.stays.new.queue.items ≡ queue) some after.gone in
-    (served-goes_on writing_side asks (served_queue writing_side (map (asked asks) c.args.queue.now.items) (stream_of c.args.pipe.now)) c.args.completed.now.items c.loop-head.completed.items c.stays.new.completed.items head queue c.stays.new.queue.items (stream_of c.loop-head.pipe) (stream_of step.new.self) step.result step.result.outcome refl some is left after.listed after.gone (rw popped at before.0), All-behind (g.A.Asks.IsWriting c.args.asks.now) head c.loop-head.queue.items queue c.stays.new.queue.items popped gone before.1, omega (arith, c.in-Some.ensures.len, after.lengths, before.2), step.ensures.bytes_left ∙ before.3, step.ensures.room_left ∙ before.4, after.kept_list_room ∙ before.5, after.kept_queue_room ∙ c.in-Some.ensures.capacity ∙ before.6)
+    let gone = there step.result.outcome (c.stays.new.queue.items ≡ queue) some after.gone in (
+      served-goes_on writing_side asks
+          (served_queue writing_side (map (asked asks) c.args.queue.now.items) (stream_of c.args.pipe.now))
+          c.args.completed.now.items c.loop-head.completed.items c.stays.new.completed.items head queue
+          c.stays.new.queue.items (stream_of c.loop-head.pipe) (stream_of step.new.self) step.result step.result.outcome
+          refl some is left after.listed after.gone (rw popped at before.0),
+      All-behind (g.A.Asks.IsWriting c.args.asks.now) head c.loop-head.queue.items queue c.stays.new.queue.items
+          popped gone before.1,
+      omega (arith, c.in-Some.ensures.len, after.lengths, before.2),
+      step.ensures.bytes_left ∙ before.3,
+      step.ensures.room_left ∙ before.4,
+      after.kept_list_room ∙ before.5,
+      after.kept_queue_room ∙ c.in-Some.ensures.capacity ∙ before.6,
+    )

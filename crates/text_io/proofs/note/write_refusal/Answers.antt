@@ -14,20 +14,27 @@ returns-in_err-write_field-clause-part g c =
 pub returns-in_err-write_field-2-clause-part : goal.returns-in_err-write_field-2-clause-part
 returns-in_err-write_field-2-clause-part g c =
     on_any c.from_residual-in_err-write_field-2.result
-    (cut_in_second (g.N.Sink.written c.args.notes.now) (g.N.Sink.written c.write_field.new.notes) (g.N.Sink.written c.write_field-2.new.notes)
-    (field c.args.words.now c.args.rule) (field (codes " at line ") c.args.line) (field (codes " token ") c.args.token) (10 ∷ [])
+    (cut_in_second (g.N.Sink.written c.args.notes.now) (g.N.Sink.written c.write_field.new.notes)
+    (g.N.Sink.written c.write_field-2.new.notes) (field c.args.words.now c.args.rule)
+    (field (codes " at line ") c.args.line) (field (codes " token ") c.args.token) (10 ∷ [])
     c.in_ok-write_field.ensures.whole c.in_err-write_field-2.ensures.part)
 
 pub returns-in_err-write_field-3-clause-part : goal.returns-in_err-write_field-3-clause-part
 returns-in_err-write_field-3-clause-part g c =
     on_any c.from_residual-in_err-write_field-3.result
-    (cut_in_third (g.N.Sink.written c.args.notes.now) (g.N.Sink.written c.write_field.new.notes) (g.N.Sink.written c.write_field-2.new.notes) (g.N.Sink.written c.write_field-3.new.notes)
-    (field c.args.words.now c.args.rule) (field (codes " at line ") c.args.line) (field (codes " token ") c.args.token) (10 ∷ [])
-    c.in_ok-write_field.ensures.whole c.in_ok-write_field-2.ensures.whole c.in_err-write_field-3.ensures.part)
+    (cut_in_third (g.N.Sink.written c.args.notes.now) (g.N.Sink.written c.write_field.new.notes)
+    (g.N.Sink.written c.write_field-2.new.notes) (g.N.Sink.written c.write_field-3.new.notes)
+    (field c.args.words.now c.args.rule) (field (codes " at line ") c.args.line)
+    (field (codes " token ") c.args.token) (10 ∷ []) c.in_ok-write_field.ensures.whole
+    c.in_ok-write_field-2.ensures.whole c.in_err-write_field-3.ensures.part)
 
 pub returns-clause-part : goal.returns-clause-part
 returns-clause-part g c =
     on_err c.write_all.result c.write_all.ensures.part
-    (λ part. cut_in_last (g.N.Sink.written c.args.notes.now) (g.N.Sink.written c.write_field.new.notes) (g.N.Sink.written c.write_field-2.new.notes) (g.N.Sink.written c.write_field-3.new.notes) (g.N.Sink.written c.write_all.new.sink)
-    (field c.args.words.now c.args.rule) (field (codes " at line ") c.args.line) (field (codes " token ") c.args.token) (10 ∷ [])
-    c.in_ok-write_field.ensures.whole c.in_ok-write_field-2.ensures.whole c.in_ok-write_field-3.ensures.whole part)
+    (λ part.
+    cut_in_last (g.N.Sink.written c.args.notes.now) (g.N.Sink.written c.write_field.new.notes)
+    (g.N.Sink.written c.write_field-2.new.notes) (g.N.Sink.written c.write_field-3.new.notes)
+    (g.N.Sink.written c.write_all.new.sink) (field c.args.words.now c.args.rule)
+    (field (codes " at line ") c.args.line) (field (codes " token ") c.args.token) (10 ∷ [])
+    c.in_ok-write_field.ensures.whole c.in_ok-write_field-2.ensures.whole c.in_ok-write_field-3.ensures.whole
+    part)

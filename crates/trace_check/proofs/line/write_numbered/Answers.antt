@@ -7,4 +7,6 @@ pub returns-clause-part : goal.returns-clause-part
 returns-clause-part g c =
     let written = g.K.Sink.written in
     on_err c.write_all.result c.write_all.ensures.part
-    (λ part. part_after (written c.args.sink.now) (written c.write_field.new.notes) (written c.write_all.new.sink) (field c.args.words.now c.args.number) line_end c.in_ok-write_field.ensures.whole part)
+    (λ part.
+    part_after (written c.args.sink.now) (written c.write_field.new.notes) (written c.write_all.new.sink)
+    (field c.args.words.now c.args.number) line_end c.in_ok-write_field.ensures.whole part)

@@ -16,7 +16,8 @@ pub returns-in_err-event-clause-event : goal.returns-in_err-event-clause-event
 returns-in_err-event-clause-event c =
     let cut : split_once 10 c.args.text.now ≡ Some (c.in_ok-line.line.now, c.in_ok-line.rest.now) = search rules in
     let unread : event_in c.in_ok-line.line.now ≡ None = search rules in
-    let never : BeginsWithEvent c.args.text.now → ⊥ = no_event c.args.text.now c.in_ok-line.line.now c.in_ok-line.rest.now cut unread in
+    let never : BeginsWithEvent c.args.text.now → ⊥ =
+    no_event c.args.text.now c.in_ok-line.line.now c.in_ok-line.rest.now cut unread in
     search rules
 
 pub returns-clause-event : goal.returns-clause-event

@@ -9,6 +9,10 @@ loop-byte-preserved c =
     let i = c.loop-byte.byte-index in
     let more = count_more 10 i bytes (omega arith) in
     elim c.if-byte-eq10.branch [
-      | then-byte-eq10 w ↦ let one = count_of_same 10 (get_or bytes i 0) (omega arith) in record { counted = omega (arith, more, one); few = omega arith }
-      | else-byte-eq10 w ↦ let none = count_of_other 10 (get_or bytes i 0) (omega arith) in record { counted = omega (arith, more, none); few = omega arith }
+      | then-byte-eq10 w ↦
+          let one = count_of_same 10 (get_or bytes i 0) (omega arith) in
+          record { counted = omega (arith, more, one); few = omega arith }
+      | else-byte-eq10 w ↦
+          let none = count_of_other 10 (get_or bytes i 0) (omega arith) in
+          record { counted = omega (arith, more, none); few = omega arith }
     ]

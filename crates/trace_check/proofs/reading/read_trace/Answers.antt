@@ -12,7 +12,8 @@ pub loop-rest-init : goal.loop-rest-init
 loop-rest-init c =
     let bytes = c.args.bytes.now in
     let empty : c.in_ok-history.history.events ≡ [] = ap (λ h. h.events) c.in_ok-history.ensures in
-    let room : c.in_ok-history.history.spare ≡ count_of 10 bytes = ap (λ h. h.spare) c.in_ok-history.ensures ∙ c.line_count.ensures in
+    let room : c.in_ok-history.history.spare ≡ count_of 10 bytes =
+    ap (λ h. h.spare) c.in_ok-history.ensures ∙ c.line_count.ensures in
     record {
       lines_before = ap (λ events. trace_of events ++ bytes) (sym empty);
       numbers = subst AreEvents (sym empty) tt;
@@ -25,10 +26,12 @@ bad_here : (c : goal.After-drop-history-inside) → BadLine c.args.bytes.now c.l
 bad_here c = search rules
 
 pub returns-in_default-clause-accepted : goal.returns-in_default-clause-accepted
-returns-in_default-clause-accepted c events few trace = absurd (no_bad_line c.args.bytes.now c.loop-rest.line events trace (bad_here c))
+returns-in_default-clause-accepted c events few trace =
+    absurd (no_bad_line c.args.bytes.now c.loop-rest.line events trace (bad_here c))
 
 pub returns-in_default-clause-bad : goal.returns-in_default-clause-bad
-returns-in_default-clause-bad c line bad = named_line c.args.bytes.now c.loop-rest.line line (omega arith) (bad_here c) bad
+returns-in_default-clause-bad c line bad =
+    named_line c.args.bytes.now c.loop-rest.line line (omega arith) (bad_here c) bad
 
 pub returns-clause-bad : goal.returns-clause-bad
 returns-clause-bad c line bad =
@@ -44,10 +47,14 @@ loop-rest-preserved c =
     let lines : count_of 10 c.loop-rest.rest.now ≡ count_of 10 tail + 1 = c.in-Some.ensures.lines in
     record {
       lines_before =
-          trace_more before c.in-Some.event c.args.bytes.now c.loop-rest.rest.now tail c.loop-rest.invariant.lines_before c.in-Some.ensures.event.1
+          trace_more before c.in-Some.event c.args.bytes.now c.loop-rest.rest.now tail
+          c.loop-rest.invariant.lines_before c.in-Some.ensures.event.1
           ∙ ap (λ events. trace_of events ++ tail) (sym longer);
-      numbers = subst AreEvents (sym longer) (are_events_more before c.in-Some.event c.loop-rest.invariant.numbers c.in-Some.ensures.event.0);
-      number_of_line = omega (arith, c.loop-rest.invariant.number_of_line, ap length longer, length-append before (c.in-Some.event ∷ []));
+      numbers =
+          subst AreEvents (sym longer)
+          (are_events_more before c.in-Some.event c.loop-rest.invariant.numbers c.in-Some.ensures.event.0);
+      number_of_line =
+          omega (arith, c.loop-rest.invariant.number_of_line, ap length longer, length-append before (c.in-Some.event ∷ []));
       room = omega (arith, lines, c.push_reserved.ensures.spare, c.loop-rest.invariant.room);
       few = omega (arith, lines, c.loop-rest.invariant.few);
     }

@@ -4,7 +4,8 @@ use Rattle.trace_check.proofs.session.check_session.Goals as goal
 pub returns-clause-complete : goal.returns-clause-complete
 returns-clause-complete g c input script events form told asks read write =
     rw c.status.ensures
-    (complete _ _ _ c.end-ending.ensures.says input script events (record { form = form; told = told; asks = asks; read = read; write = write }))
+    (complete _ _ _ c.end-ending.ensures.says input script events
+    (record { form = form; told = told; asks = asks; read = read; write = write }))
 
 pub returns-clause-right : goal.returns-clause-right
 returns-clause-right g c form input script events words told asks =

@@ -29,14 +29,22 @@ returns-in-Ok-judge-clause-says g c =
     let script = c.in-Ok-question_of.question.script in
     let events = c.in-Ok-question_of.question.history.events in
     said_of
-    (record { words = map string_bytes c.args.words.now; source = seen_by g.S.Source.left g.S.Source.faults c.args.source.now c.read_text.new.source; out = seen_by g.K.Sink.written g.K.Sink.faults c.args.out.now c.judge.new.out })
+    (record {
+      words = map string_bytes c.args.words.now;
+      source = seen_by g.S.Source.left g.S.Source.faults c.args.source.now c.read_text.new.source;
+      out = seen_by g.K.Sink.written g.K.Sink.faults c.args.out.now c.judge.new.out;
+    })
     c.in-Ok-judge.verdict
     (record {
       form = c.in-Some.form;
       words = (c.in-Some.ensures.some c.in-Some.form).0 refl;
       script = script;
       events = events;
-      read = (c.in-Ok.input.items, c.in-Ok.ensures.text, subst (λ text. Asks text script events) c.as_slice.ensures.value c.in-Ok-question_of.ensures.asks);
+      read = (
+        c.in-Ok.input.items,
+        c.in-Ok.ensures.text,
+        subst (λ text. Asks text script events) c.as_slice.ensures.value c.in-Ok-question_of.ensures.asks,
+      );
       verdict = c.in-Ok-judge.verdict;
       is = c.in-Ok-judge.ensures.verdict;
       kind = refl;

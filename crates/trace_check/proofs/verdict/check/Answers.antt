@@ -9,8 +9,12 @@ returns-then-not-step c =
     let script = c.args.script.now in
     let told = c.args.bytes_told in
     let events = c.args.events.now in
-    let here = may_here c.loop-i.replay.script script c.loop-i.replay.told told c.loop-i.replay.state (state_of script told (take c.loop-i.i events)) (get_or events c.loop-i.i (event.Call 0)) c.loop-i.invariant.script c.loop-i.invariant.told c.loop-i.invariant.state in
-    illegal_at script told events c.loop-i.i (event.Call 0) (omega arith) c.loop-i.invariant.legal (λ may. cc (c.if-not-step.ensures.legal.1 (here.1 may)))
+    let here =
+    may_here c.loop-i.replay.script script c.loop-i.replay.told told c.loop-i.replay.state
+    (state_of script told (take c.loop-i.i events)) (get_or events c.loop-i.i (event.Call 0))
+    c.loop-i.invariant.script c.loop-i.invariant.told c.loop-i.invariant.state in
+    illegal_at script told events c.loop-i.i (event.Call 0) (omega arith) c.loop-i.invariant.legal
+    (λ may. cc (c.if-not-step.ensures.legal.1 (here.1 may)))
 
 pub loop-i-preserved : goal.loop-i-preserved
 loop-i-preserved c =
@@ -19,13 +23,18 @@ loop-i-preserved c =
     let events = c.args.events.now in
     let now = state_of script told (take c.loop-i.i events) in
     let next = get_or events c.loop-i.i (event.Call 0) in
-    let here = may_here c.loop-i.replay.script script c.loop-i.replay.told told c.loop-i.replay.state now next c.loop-i.invariant.script c.loop-i.invariant.told c.loop-i.invariant.state in
+    let here =
+    may_here c.loop-i.replay.script script c.loop-i.replay.told told c.loop-i.replay.state now next
+    c.loop-i.invariant.script c.loop-i.invariant.told c.loop-i.invariant.state in
     record {
       script = c.if-not-step.ensures.script ∙ c.loop-i.invariant.script;
       told = c.if-not-step.ensures.told ∙ c.loop-i.invariant.told;
       state =
           c.if-not-step.ensures.next
-          ∙ after_here c.loop-i.replay.script script c.loop-i.replay.told told c.loop-i.replay.state now next c.loop-i.invariant.script c.loop-i.invariant.told c.loop-i.invariant.state
+          ∙ after_here c.loop-i.replay.script script c.loop-i.replay.told told c.loop-i.replay.state now next
+          c.loop-i.invariant.script c.loop-i.invariant.told c.loop-i.invariant.state
           ∙ sym (state_more script told events c.loop-i.i (event.Call 0) (omega arith));
-      legal = legal_more script told events c.loop-i.i (event.Call 0) (omega arith) c.loop-i.invariant.legal (here.0 (c.if-not-step.ensures.legal.0 refl));
+      legal =
+          legal_more script told events c.loop-i.i (event.Call 0) (omega arith) c.loop-i.invariant.legal
+          (here.0 (c.if-not-step.ensures.legal.0 refl));
     }

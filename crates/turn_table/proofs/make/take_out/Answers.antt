@@ -10,24 +10,44 @@ use Rattle.turn_table.proofs.make.take_out.Goals as goal
 
 pub unreachable-requires-in_default-place : goal.unreachable-requires-in_default-place
 unreachable-requires-in_default-place g c = let each = c.requires.whole.each c.loop-lane.lane c.loop-lane-test.true in
-    let same : slots_items c.loop-lane.closed.slots ≡ slots_items c.args.closed.slots = c.loop-lane.invariant.0 ∙ c.take-last.ensures.others.0 in
-    c.in_default-place.not-Value each.0 (some-injective _ _ (sym c.take-place.ensures.value ∙ (ap (λ xs. get_elem? xs c.loop-lane.lane) same ∙ each.2)))
+    let same : slots_items c.loop-lane.closed.slots ≡ slots_items c.args.closed.slots =
+    c.loop-lane.invariant.0 ∙ c.take-last.ensures.others.0 in
+    c.in_default-place.not-Value each.0
+    (some-injective _ _ (sym c.take-place.ensures.value ∙ (ap (λ xs. get_elem? xs c.loop-lane.lane) same ∙ each.2)))
 
 pub loop-lane-preserved : goal.loop-lane-preserved
-loop-lane-preserved g c = let was = c.loop-lane.invariant in let took = c.take-place.ensures in let filled = slots_filled c.loop-lane.closed.slots in let lane = c.loop-lane.lane in
-    let each = c.requires.whole.each lane c.loop-lane-test.true in let same : slots_items c.loop-lane.closed.slots ≡ slots_items c.args.closed.slots = was.0 ∙ c.take-last.ensures.others.0 in
-    let is : Value c.in-Value.value ≡ Value each.0 = sym c.in-Value.is ∙ some-injective _ _ (sym took.value ∙ (ap (λ xs. get_elem? xs lane) same ∙ each.2)) in
+loop-lane-preserved g c =
+    let was = c.loop-lane.invariant in
+    let took = c.take-place.ensures in
+    let filled = slots_filled c.loop-lane.closed.slots in let lane = c.loop-lane.lane in
+    let each = c.requires.whole.each lane c.loop-lane-test.true in
+    let same : slots_items c.loop-lane.closed.slots ≡ slots_items c.args.closed.slots =
+    was.0 ∙ c.take-last.ensures.others.0 in
+    let is : Value c.in-Value.value ≡ Value each.0 =
+    sym c.in-Value.is ∙ some-injective _ _ (sym took.value ∙ (ap (λ xs. get_elem? xs lane) same ∙ each.2)) in
     let inside = c.loop-lane-test.true in let count = was.1 in let long = (slots_counts c.loop-lane.closed.slots).1 in
-    let now : slots_filled c.take-place.new.self.slots ≡ set filled lane false = took.others.1 in let size = c.loop-lane.values.ok.0 in let held = was.6 in let pushed = c.push_reserved.ensures in (
+    let now : slots_filled c.take-place.new.self.slots ≡ set filled lane false = took.others.1 in
+    let size = c.loop-lane.values.ok.0 in
+    let held = was.6 in
+    let pushed = c.push_reserved.ensures in (
       took.others.0 ∙ was.0,
       took.others.2 ∙ was.1,
-      (λ k low high. ap (λ fs. get_or fs k false) now ∙ (get_or-set_other filled lane k false false (λ e. omega arith) ∙ was.2 k (omega arith) high)),
-      (λ k low. ap (λ fs. get_or fs k false) now ∙ ⊎_elim (λ e. ap (λ i. get_or (set filled lane false) i false) e ∙ get_or-set_same filled lane false false (omega arith))
+      (λ k low high.
+          ap (λ fs. get_or fs k false) now
+          ∙ (get_or-set_other filled lane k false false (λ e. omega arith) ∙ was.2 k (omega arith) high)),
+      (λ k low.
+          ap (λ fs. get_or fs k false) now
+          ∙ ⊎_elim
+          (λ e.
+          ap (λ i. get_or (set filled lane false) i false) e
+          ∙ get_or-set_same filled lane false false (omega arith))
           (λ other. get_or-set_other filled lane k false false other ∙ was.3 k (omega arith)) (cases_eq k lane)),
-      ap (λ fs. get_or fs c.args.lanes false) now ∙ (get_or-set_other filled lane c.args.lanes false false (λ e. omega arith) ∙ was.4),
+      ap (λ fs. get_or fs c.args.lanes false) now
+          ∙ (get_or-set_other filled lane c.args.lanes false false (λ e. omega arith) ∙ was.4),
       omega arith,
       pushed.len ∙ ap (λ n. n + 1) was.6,
       subst (λ n. c.args.lanes ≤ n) (sym pushed.capacity) was.7,
       subst (AreAtHome g.T.Home.home_of) (sym pushed.items)
-          (at_home_more g.T.Home.home_of c.loop-lane.values.items lane c.in-Value.value (sym size ∙ held) (ap (λ p. g.T.Home.home_of (value_or each.0 p)) is ∙ each.1) was.8),
+          (at_home_more g.T.Home.home_of c.loop-lane.values.items lane c.in-Value.value (sym size ∙ held)
+          (ap (λ p. g.T.Home.home_of (value_or each.0 p)) is ∙ each.1) was.8),
     )

@@ -6,8 +6,10 @@ use Rattle.turn_table.proofs.make.take_out.Given as goal
 
 abbrev pub invariant-loop-lane : goal.invariant-loop-lane
 invariant-loop-lane g l =
-    (slots_items l.closed.slots ≡ slots_items l.initial.closed.slots) × (slots_len l.closed.slots ≡ l.lanes + 1) × Filled (slots_filled l.closed.slots) l.lane l.lanes
-    × ((k : ℕ) → k < l.lane → get_or (slots_filled l.closed.slots) k false ≡ false) × (get_or (slots_filled l.closed.slots) l.lanes false ≡ false) × (l.lane ≤ l.lanes)
+    (slots_items l.closed.slots ≡ slots_items l.initial.closed.slots) × (slots_len l.closed.slots ≡ l.lanes + 1)
+    × Filled (slots_filled l.closed.slots) l.lane l.lanes
+    × ((k : ℕ) → k < l.lane → get_or (slots_filled l.closed.slots) k false ≡ false)
+    × (get_or (slots_filled l.closed.slots) l.lanes false ≡ false) × (l.lane ≤ l.lanes)
     × (vec_len l.values ≡ l.lane) × (l.lanes ≤ vec_capacity l.values) × AreAtHome g.T.Home.home_of l.values.items
 
 abbrev pub decreases-loop-lane : goal.decreases-loop-lane

@@ -28,7 +28,8 @@ returns-clause-unstopped g c none =
 pub returns-clause-rose : goal.returns-clause-rose
 returns-clause-rose g c =
     rose_at_end c.self.invariant.history c.self.invariant.reactor c.discard_unspent-left.new.record c.into_history.result.events
-    (ap (λ h. h.events) c.into_history.ensures) c.discard_unspent-left.ensures.faults c.into_reactor.result c.into_reactor.ensures.reactor
+    (ap (λ h. h.events) c.into_history.ensures) c.discard_unspent-left.ensures.faults c.into_reactor.result
+    c.into_reactor.ensures.reactor
 
 pub returns-clause-sent : goal.returns-clause-sent
 returns-clause-sent g c =

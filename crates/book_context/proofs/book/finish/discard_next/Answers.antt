@@ -22,10 +22,12 @@ returns-then-not-is_op-clause-ending g c =
           let is : is_op c.script-script.result.now c.args.op ≡ false = cc (w.if-not-is_op.true, c.is_op.ensures) in
           inl (subst (λ (script : ScriptModel). is_op script c.args.op ≡ false) c.script-script.ensures is)
       | then-not-is_op-via-else-not-is_op+then-is_inline w ↦
-          let is : is_inline c.script-script.result.now c.args.op ≡ true = cc (w.if-is_inline.true, w.is_inline.ensures) in
+          let is : is_inline c.script-script.result.now c.args.op ≡ true =
+          cc (w.if-is_inline.true, w.is_inline.ensures) in
           inr (inl (subst (λ (script : ScriptModel). is_inline script c.args.op ≡ true) c.script-script.ensures is))
       | then-not-is_op-via-else-not-is_op+else-is_inline+then-not-was_called w ↦
-          let is : slice_index_or c.args.record.now.called c.args.op false ≡ false = cc (w.if-not-was_called.true, w.was_called.ensures) in
+          let is : slice_index_or c.args.record.now.called c.args.op false ≡ false =
+          cc (w.if-not-was_called.true, w.was_called.ensures) in
           inr (inr is)
     ])
 
@@ -48,7 +50,8 @@ returns-in-Some-clause-ending g c =
     let discarded = c.discard-rest.ensures in
     let marks = g.H.CompletionHandler.marks in
     let N = g.N.Session in
-    subst (λ r. IsEnding marks N.told N.run N.drop g.N.Session.outside (c.args.op + 1) r c.discard-rest.result.0) (sym c.push.ensures)
+    subst (λ r. IsEnding marks N.told N.run N.drop g.N.Session.outside (c.args.op + 1) r c.discard-rest.result.0)
+    (sym c.push.ensures)
     (drop_next c.requires.ending law.unspent c.discard-rest.result.0 discarded.script discarded.after law.drops (called g at)
     c.in-Some.mark (sym discarded.mark ∙ c.in-Some.is))
 

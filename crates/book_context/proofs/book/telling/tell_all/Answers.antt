@@ -15,8 +15,12 @@ loop-preserved g c = record {
   history = c.tell_next.ensures.history;
   turn = c.tell_next.ensures.turn;
   reactor = c.tell_next.ensures.reactor ∙ c.loop.invariant.reactor;
-  told_so_far = told-more g.N.Session.told c.args.record.now c.loop.record c.tell_next.new.record c.loop.invariant.told_so_far c.tell_next.ensures.told;
+  told_so_far =
+      told-more g.N.Session.told c.args.record.now c.loop.record c.tell_next.new.record c.loop.invariant.told_so_far
+      c.tell_next.ensures.told;
 }
 
 pub returns-clause-told : goal.returns-clause-told
-returns-clause-told g c = told-more g.N.Session.told c.args.record.now c.loop.record c.tell_next.new.record c.loop.invariant.told_so_far c.tell_next.ensures.told
+returns-clause-told g c =
+    told-more g.N.Session.told c.args.record.now c.loop.record c.tell_next.new.record c.loop.invariant.told_so_far
+    c.tell_next.ensures.told

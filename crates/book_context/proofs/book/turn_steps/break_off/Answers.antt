@@ -5,7 +5,9 @@ use Rattle.book_context.proofs.ReactorTurnLemmas.{broken_off_none, broken_off_so
 use Rattle.book_context.proofs.book.turn_steps.break_off.Goals as goal
 
 pub fail-requires-clause-some : goal.fail-requires-clause-some
-fail-requires-clause-some g c = some_behind c.args.record.now.events c.begin_tick.ensures.begun.event c.begin_tick.new.record.events c.begin_tick.ensures.begun.is
+fail-requires-clause-some g c =
+    some_behind c.args.record.now.events c.begin_tick.ensures.begun.event c.begin_tick.new.record.events
+    c.begin_tick.ensures.begun.is
 
 pub fail-requires-clause-untold : goal.fail-requires-clause-untold
 fail-requires-clause-untold g c = inl c.begin_tick.ensures.begun.whole
@@ -19,7 +21,8 @@ fail-requires-in-None-clause-some g c = pending_some g.N.Session.told c.args.rec
 pub returns-in-Some-clause-broken : goal.returns-in-Some-clause-broken
 returns-in-Some-clause-broken g c =
     subst (HasBrokenOff g.N.Session.told c.args.record.now c.fail.new.record) (sym c.in-Some.is)
-    (broken_off_some g.N.Session.told c.args.record.now c.begin_tick.new.record c.fail.new.record c.in-Some.point c.begin_tick.ensures.begun c.fail.ensures.broken)
+    (broken_off_some g.N.Session.told c.args.record.now c.begin_tick.new.record c.fail.new.record c.in-Some.point
+    c.begin_tick.ensures.begun c.fail.ensures.broken)
 
 pub returns-in-None-clause-broken : goal.returns-in-None-clause-broken
 returns-in-None-clause-broken g c =

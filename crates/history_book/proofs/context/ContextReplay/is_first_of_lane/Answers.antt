@@ -6,4 +6,10 @@ use Rattle.history_book.proofs.context.ContextReplay.is_first_of_lane.Goals.{els
 pub loop-n-preserved : goal.loop-n-preserved
 loop-n-preserved c =
     below_more _ _ c.loop-n.invariant
-    (elim c.else-eq.branch [ else-eq-via-then-eq+else-goes_before w ↦ λ same. ap (λ act. goes_before act c.act-act.result) (sym w.act.ensures) ∙ sym w.goes_before.ensures ∙ w.if-goes_before.false | else-eq-via-else-eq w ↦ search rules ])
+    (elim c.else-eq.branch [
+      | else-eq-via-then-eq+else-goes_before w ↦
+          λ same.
+          ap (λ act. goes_before act c.act-act.result) (sym w.act.ensures) ∙ sym w.goes_before.ensures
+          ∙ w.if-goes_before.false
+      | else-eq-via-else-eq w ↦ search rules
+    ])

@@ -6,4 +6,5 @@ pub returns : goal.returns
 returns c =
     let s = c.self.inside in
     let at = c.in-Some.ensures.item in
-    rw (← c.self.view_is) (played-changed (closed_stream) s.told s.schedule s.pipes.items c.args.stream c.in-Some.pipe.now c.close.new.self at.3.0 c.in-Some.ensures.value c.close.ensures.stream)
+    rw (← c.self.view_is) (played-changed (closed_stream) s.told s.schedule s.pipes.items c.args.stream
+    c.in-Some.pipe.now c.close.new.self at.3.0 c.in-Some.ensures.value c.close.ensures.stream)

@@ -27,4 +27,5 @@ invariant_of-result c =
     let long = rw c.as_mut_slice.ensures.value at c.perform_due.auto.pipes in
     let whole = written pipes.len pipes.items c.perform_due.new.pipes (omega (arith, pipes.ok.0)) long in
     let uses = rw c.as_mut_slice.ensures.value at c.perform_due.ensures.room in
-    rw (whole, c.if-told.true) (IsPlayed-first schedule.schedule world.streams pipes.items c.perform_due.new.pipes schedule.ensures.time (rw lines c.requires) c.in_ok-pipes.ensures.streams room uses long)
+    rw (whole, c.if-told.true) (IsPlayed-first schedule.schedule world.streams pipes.items c.perform_due.new.pipes
+    schedule.ensures.time (rw lines c.requires) c.in_ok-pipes.ensures.streams room uses long)

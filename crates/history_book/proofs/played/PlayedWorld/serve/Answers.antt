@@ -11,5 +11,8 @@ pub returns-clause-stream : goal.returns-clause-stream
 returns-clause-stream c =
     let s = c.self.inside in
     let there = rw (← c.self.view_is) at c.requires.there in
-    let serve = λ (stream : Stream). (served_stream stream (queues_of c.args.asking.now.script.now c.args.queues.now)).stream in
-    rw (← c.self.view_is) (played-changed serve s.told s.schedule s.pipes.items c.args.stream c.index_mut-pipe.result.now c.serve_stream.new.pipe (omega (arith, length-map s.pipes.items stream_of)) c.index_mut-pipe.ensures.value c.serve_stream.ensures.stream)
+    let serve = λ (stream : Stream).
+    (served_stream stream (queues_of c.args.asking.now.script.now c.args.queues.now)).stream in
+    rw (← c.self.view_is) (played-changed serve s.told s.schedule s.pipes.items c.args.stream
+    c.index_mut-pipe.result.now c.serve_stream.new.pipe (omega (arith, length-map s.pipes.items stream_of))
+    c.index_mut-pipe.ensures.value c.serve_stream.ensures.stream)

@@ -29,8 +29,13 @@ invariant_of-self-2 c =
     let kind = rw (← c.self.view_is) at c.requires.reads in
     let are = AreQueues-at s.script.now s.world s.waits s.queues.items s.due c.args.stream old c.self.invariant at is in
     let more = ap length push.ensures.items ∙ length-append old.reads.items (c.new_queued-new.result ∷ []) in
-    IsRoomy-changed s.script.now s.world s.waits s.queues.items s.due s.due c.args.stream old (record { closed = old.closed; reads = push.new.self; writes = old.writes }) c.self.invariant at is (record {
-      reads = rw push.ensures.items (All-push (IsReading s.script.now) old.reads.items c.new_queued-new.result are.reads (rw c.new_queued-new.ensures kind));
+    IsRoomy-changed s.script.now s.world s.waits s.queues.items s.due s.due c.args.stream old
+    (record { closed = old.closed; reads = push.new.self; writes = old.writes }) c.self.invariant at is
+    (record {
+      reads =
+          rw push.ensures.items
+          (All-push (IsReading s.script.now) old.reads.items c.new_queued-new.result are.reads
+          (rw c.new_queued-new.ensures kind));
       writes = are.writes;
       reads_room = rw push.ensures.capacity are.reads_room;
       writes_room = are.writes_room;
@@ -43,7 +48,13 @@ returns c =
     let at = c.in-Some.ensures.item.3.0 in
     let is = c.in-Some.ensures.value in
     let push = c.push_back_reserved in
-    let open_still = ap (λ (q : StreamQueues). q.closed) (queues-at s.script.now s.queues.items c.args.stream old at is) ∙ c.if-queues.false in
-    let change = λ (q : StreamQueues). record q { reads = q.reads ++ new_pending c.args.op s.accepted (asked_reading s.script.now c.args.op) ∷ [] } in
-    let changed = queues-changed s.script.now s.queues.items c.args.stream old (record { closed = old.closed; reads = push.new.self; writes = old.writes }) change at is (rw (push.ensures.items, c.new_queued-new.ensures, map-append)) in
+    let open_still =
+    ap (λ (q : StreamQueues). q.closed) (queues-at s.script.now s.queues.items c.args.stream old at is)
+    ∙ c.if-queues.false in
+    let change = λ (q : StreamQueues).
+    record q { reads = q.reads ++ new_pending c.args.op s.accepted (asked_reading s.script.now c.args.op) ∷ [] } in
+    let changed =
+    queues-changed s.script.now s.queues.items c.args.stream old
+    (record { closed = old.closed; reads = push.new.self; writes = old.writes }) change at is
+    (rw (push.ensures.items, c.new_queued-new.ensures, map-append)) in
     rw (← c.self.view_is, changed, open_still)

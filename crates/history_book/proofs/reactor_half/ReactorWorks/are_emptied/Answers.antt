@@ -10,6 +10,8 @@ pub returns : goal.returns
 returns c =
     let s = c.self.inside in
     let value = c.as_slice.ensures.value in
-    let yes = λ (h : IsTrue c.are_empty.result). emptied-all s.script.now s.queues.items (rw value at (c.are_empty.ensures.0 h)) in
-    let no = λ (h : All IsEmptied (map (queues_of s.script.now) s.queues.items)). c.are_empty.ensures.1 (rw value (all-emptied s.script.now s.queues.items h)) in
+    let yes = λ (h : IsTrue c.are_empty.result).
+    emptied-all s.script.now s.queues.items (rw value at (c.are_empty.ensures.0 h)) in
+    let no = λ (h : All IsEmptied (map (queues_of s.script.now) s.queues.items)).
+    c.are_empty.ensures.1 (rw value (all-emptied s.script.now s.queues.items h)) in
     rw (← c.self.view_is) (yes, no)

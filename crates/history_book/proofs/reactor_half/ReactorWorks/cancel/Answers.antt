@@ -7,7 +7,9 @@ pub invariant_of-self : goal.invariant_of-self
 invariant_of-self c =
     let s = c.self.inside in
     let done = c.complete_waits in
-    IsRoomy-completed s.script.now s.world s.waits done.new.waits s.queues.items s.due done.new.due (code.Aborted) (is_wait_of c.args.timer) c.self.invariant done.ensures.waits done.ensures.due done.ensures.waits_room done.ensures.due_room
+    IsRoomy-completed s.script.now s.world s.waits done.new.waits s.queues.items s.due done.new.due (code.Aborted)
+    (is_wait_of c.args.timer) c.self.invariant done.ensures.waits done.ensures.due done.ensures.waits_room
+    done.ensures.due_room
 
 pub returns : goal.returns
 returns c = rw (← c.self.view_is, c.complete_waits.ensures.waits, c.complete_waits.ensures.due)

@@ -11,16 +11,29 @@ pub abort_in-requires : goal.abort_in-requires
 abort_in-requires c =
     let s = c.self.inside in
     let old = c.in-Some.queues.now in
-    let size = size-pending s.script.now s.waits.items s.queues.items s.due.items c.args.stream old c.in-Some.ensures.item.3.0 c.in-Some.ensures.value in
+    let size =
+    size-pending s.script.now s.waits.items s.queues.items s.due.items c.args.stream old c.in-Some.ensures.item.3.0
+    c.in-Some.ensures.value in
     omega (arith, old.reads.ok.0, s.due.ok.0, c.self.invariant.pending, c.self.invariant.due_room)
 
 pub abort_in-requires-2 : goal.abort_in-requires-2
 abort_in-requires-2 c =
     let s = c.self.inside in
     let old = c.in-Some.queues.now in
-    let size = size-pending s.script.now s.waits.items s.queues.items s.due.items c.args.stream old c.in-Some.ensures.item.3.0 c.in-Some.ensures.value in
+    let size =
+    size-pending s.script.now s.waits.items s.queues.items s.due.items c.args.stream old c.in-Some.ensures.item.3.0
+    c.in-Some.ensures.value in
     let left = left-count c.args.op old.reads.items s.due.items c.abort_in.new.due.items c.abort_in.ensures.due in
-    omega (arith, old.reads.ok.0, old.writes.ok.0, s.due.ok.0, c.abort_in.new.due.ok.0, c.abort_in.ensures.due_room, c.self.invariant.pending, c.self.invariant.due_room)
+    omega (
+      arith,
+      old.reads.ok.0,
+      old.writes.ok.0,
+      s.due.ok.0,
+      c.abort_in.new.due.ok.0,
+      c.abort_in.ensures.due_room,
+      c.self.invariant.pending,
+      c.self.invariant.due_room,
+    )
 
 pub invariant_of-self-2 : goal.invariant_of-self-2
 invariant_of-self-2 c =
@@ -35,7 +48,9 @@ invariant_of-self-2 c =
     let writes = left-count c.args.op old.writes.items one.new.due.items two.new.due.items two.ensures.due in
     let reads_left = ap length one.ensures.queue in
     let writes_left = ap length two.ensures.queue in
-    IsRoomy-changed s.script.now s.world s.waits s.queues.items s.due two.new.due c.args.stream old (record { closed = old.closed; reads = one.new.queue; writes = two.new.queue }) c.self.invariant at is (record {
+    IsRoomy-changed s.script.now s.world s.waits s.queues.items s.due two.new.due c.args.stream old
+    (record { closed = old.closed; reads = one.new.queue; writes = two.new.queue }) c.self.invariant at is
+    (record {
       reads = rw one.ensures.queue (All-left (IsReading s.script.now) c.args.op old.reads.items are.reads);
       writes = rw two.ensures.queue (All-left (IsWriting s.script.now) c.args.op old.writes.items are.writes);
       reads_room = rw one.ensures.queue_room are.reads_room;
@@ -52,10 +67,29 @@ returns c =
     let two = c.abort_in-2 in
     let op = c.args.op in
     let here = queues-at s.script.now s.queues.items c.args.stream old at is in
-    let change = λ (q : StreamQueues). record q { reads = filter (λ pending. not (is_of op pending)) q.reads; writes = filter (λ pending. not (is_of op pending)) q.writes } in
-    let changed = queues-changed s.script.now s.queues.items c.args.stream old (record { closed = old.closed; reads = one.new.queue; writes = two.new.queue }) change at is (rw (one.ensures.queue, two.ensures.queue, filter-asked (asked_reading s.script.now) op old.reads.items, filter-asked (asked_writing s.script.now) op old.writes.items)) in
-    let listed = two.ensures.due ∙ ap (λ d. d ++ aborts_of (is_queued op) old.writes.items) one.ensures.due ∙ append_assoc s.due.items (aborts_of (is_queued op) old.reads.items) (aborts_of (is_queued op) old.writes.items) in
-    let due_of = λ (q : StreamQueues). s.due.items ++ (all_aborted (filter (is_of op) q.reads) ++ all_aborted (filter (is_of op) q.writes)) in
-    let same : due_of (queues_of s.script.now old) ≡ s.due.items ++ (aborts_of (is_queued op) old.reads.items ++ aborts_of (is_queued op) old.writes.items) = rw (aborts-asked (asked_reading s.script.now) op old.reads.items, aborts-asked (asked_writing s.script.now) op old.writes.items) in
+    let change = λ (q : StreamQueues). record q {
+      reads = filter (λ pending. not (is_of op pending)) q.reads;
+      writes = filter (λ pending. not (is_of op pending)) q.writes;
+    } in
+    let changed =
+    queues-changed s.script.now s.queues.items c.args.stream old
+    (record { closed = old.closed; reads = one.new.queue; writes = two.new.queue }) change at is
+    (rw (
+      one.ensures.queue,
+      two.ensures.queue,
+      filter-asked (asked_reading s.script.now) op old.reads.items,
+      filter-asked (asked_writing s.script.now) op old.writes.items,
+    )) in
+    let listed =
+    two.ensures.due ∙ ap (λ d. d ++ aborts_of (is_queued op) old.writes.items) one.ensures.due
+    ∙ append_assoc s.due.items (aborts_of (is_queued op) old.reads.items) (aborts_of (is_queued op) old.writes.items) in
+    let due_of = λ (q : StreamQueues).
+    s.due.items ++ (all_aborted (filter (is_of op) q.reads) ++ all_aborted (filter (is_of op) q.writes)) in
+    let same : due_of (queues_of s.script.now old)
+    ≡ s.due.items ++ (aborts_of (is_queued op) old.reads.items ++ aborts_of (is_queued op) old.writes.items) =
+    rw (
+      aborts-asked (asked_reading s.script.now) op old.reads.items,
+      aborts-asked (asked_writing s.script.now) op old.writes.items,
+    ) in
     let dues = listed ∙ sym same ∙ ap due_of (sym here) in
     rw (← c.self.view_is, changed, dues)

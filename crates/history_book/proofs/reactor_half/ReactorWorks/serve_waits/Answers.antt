@@ -9,7 +9,17 @@ pub invariant_of-self : goal.invariant_of-self
 invariant_of-self c =
     let s = c.self.inside in
     let done = c.complete_waits in
-    IsRoomy-completed s.script.now s.world s.waits done.new.waits s.queues.items s.due done.new.due (code.Ok) (is_chosen (which.Due c.now-now.result c.as_slice.result)) c.self.invariant done.ensures.waits done.ensures.due done.ensures.waits_room done.ensures.due_room
+    IsRoomy-completed s.script.now s.world s.waits done.new.waits s.queues.items s.due done.new.due (code.Ok)
+    (is_chosen (which.Due c.now-now.result c.as_slice.result)) c.self.invariant done.ensures.waits done.ensures.due
+    done.ensures.waits_room done.ensures.due_room
 
 pub returns : goal.returns
-returns c = rw (due-together c.args.self.now.half c.requires, ← c.self.view_is, c.complete_waits.ensures.waits, c.complete_waits.ensures.due, c.as_slice.ensures.value, c.now-now.ensures)
+returns c =
+    rw (
+      due-together c.args.self.now.half c.requires,
+      ← c.self.view_is,
+      c.complete_waits.ensures.waits,
+      c.complete_waits.ensures.due,
+      c.as_slice.ensures.value,
+      c.now-now.ensures,
+    )

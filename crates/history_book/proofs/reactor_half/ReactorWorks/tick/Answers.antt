@@ -15,7 +15,9 @@ tick-requires-clause-ahead c = λ x is.
 pub invariant_of-self : goal.invariant_of-self
 invariant_of-self c =
     let s = c.self.inside in
-    IsRoomy-streams s.script.now s.world c.tick.new.self s.waits s.queues.items s.due c.self.invariant (ap (λ (w : Played). w.lines) c.tick.ensures) (ap (λ (w : Played). length w.streams) c.tick.ensures ∙ length-played_at c.args.now s.world)
+    IsRoomy-streams s.script.now s.world c.tick.new.self s.waits s.queues.items s.due c.self.invariant
+    (ap (λ (w : Played). w.lines) c.tick.ensures)
+    (ap (λ (w : Played). length w.streams) c.tick.ensures ∙ length-played_at c.args.now s.world)
 
 pub returns : goal.returns
 returns c =

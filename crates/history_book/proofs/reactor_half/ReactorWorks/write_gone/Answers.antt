@@ -15,7 +15,9 @@ invariant_of-self-2 c =
     let pop = c.pop_front in
     let are = AreQueues-at s.script.now s.world s.waits s.queues.items s.due c.args.stream old c.self.invariant at is in
     let less = ap length pop.ensures.rest ∙ length-drop 1 old.writes.items in
-    IsRoomy-changed s.script.now s.world s.waits s.queues.items s.due s.due c.args.stream old (record { closed = old.closed; reads = old.reads; writes = pop.new.self }) c.self.invariant at is (record {
+    IsRoomy-changed s.script.now s.world s.waits s.queues.items s.due s.due c.args.stream old
+    (record { closed = old.closed; reads = old.reads; writes = pop.new.self }) c.self.invariant at is
+    (record {
       reads = are.reads;
       writes = rw pop.ensures.rest (All-behind (IsWriting s.script.now) old.writes.items are.writes);
       reads_room = are.reads_room;
@@ -28,5 +30,9 @@ returns c =
     let old = c.in-Some.queues.now in
     let pop = c.pop_front in
     let change = λ (q : StreamQueues). record q { writes = drop 1 q.writes } in
-    let changed = queues-changed s.script.now s.queues.items c.args.stream old (record { closed = old.closed; reads = old.reads; writes = pop.new.self }) change c.in-Some.ensures.item.3.0 c.in-Some.ensures.value (rw (pop.ensures.rest, ← drop-map (asked (asked_writing s.script.now)) 1 old.writes.items)) in
+    let changed =
+    queues-changed s.script.now s.queues.items c.args.stream old
+    (record { closed = old.closed; reads = old.reads; writes = pop.new.self }) change c.in-Some.ensures.item.3.0
+    c.in-Some.ensures.value
+    (rw (pop.ensures.rest, ← drop-map (asked (asked_writing s.script.now)) 1 old.writes.items)) in
     rw (← c.self.view_is, changed)

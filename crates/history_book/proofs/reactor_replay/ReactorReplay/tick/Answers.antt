@@ -10,4 +10,5 @@ pub invariant_of-self : goal.invariant_of-self
 invariant_of-self c =
     let works = c.self.inside.works in
     let formed = rw c.script-script.ensures at c.scripts_are_well_formed.ensures in
-    rw c.tick.ensures (IsSettled-tick works.script works.told works.half c.args.now formed c.self.invariant (rw (← c.self.view_is) at c.requires))
+    rw c.tick.ensures (IsSettled-tick works.script works.told works.half c.args.now formed c.self.invariant
+    (rw (← c.self.view_is) at c.requires))

@@ -6,4 +6,5 @@ use Rattle.history_book.proofs.replay.Replay.is_first_request.Given as goal
 
 abbrev pub invariant-loop-n : goal.invariant-loop-n
 invariant-loop-n l =
-    (k : ℕ) → k < l.n → is_untaken l.self.state k ≡ true → is_back_before l.called (call_at l.self.state.context k) ≡ false
+    (k : ℕ) → k < l.n → is_untaken l.self.state k ≡ true →
+    is_back_before l.called (call_at l.self.state.context k) ≡ false

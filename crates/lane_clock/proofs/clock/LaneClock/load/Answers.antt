@@ -14,4 +14,5 @@ pub returns-clause-keeps : goal.returns-clause-keeps
 returns-clause-keeps c =
     let mine = subst (λ (s : SeatView). Owns s s.number) c.seat.view_is c.seat.invariant.mine in
     keeps_step c.args.seat.now _ (Load c.of_word.result) mine
-    (shown_step _ _ c.seat.inside.seat.me.0 _ _ (Load c.of_word.result) _ c.load.ensures.0 (ap (λ m. m.0) c.load.ensures.2) (λ i. Load (sym c.of_word.ensures.found i)) c.seat.view_is)
+    (shown_step _ _ c.seat.inside.seat.me.0 _ _ (Load c.of_word.result) _ c.load.ensures.0
+    (ap (λ m. m.0) c.load.ensures.2) (λ i. Load (sym c.of_word.ensures.found i)) c.seat.view_is)

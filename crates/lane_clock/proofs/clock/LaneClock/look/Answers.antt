@@ -10,24 +10,45 @@ use Rattle.lane_clock.proofs.clock.LaneClock.look.Goals as goal
 pub load-requires : goal.load-requires
 load-requires c =
     let same = ap (λ s. s.clock) c.seat.view_is ∙ (c.requires.clock ∙ sym c.self.view_is) in
-    let key : c.self.inside.table.shared.key ≡ c.args.self.now.plan = c.self.invariant.key ∙ ap (λ k. k.plan) c.self.view_is in
-    let cell : c.args.place < slice_index c.self.inside.table.shared.key.cells c.args.lane = subst (λ (p : Layout). c.args.place < slice_index p.cells c.args.lane) (sym key) c.requires.cell in
-    let is : c.cell_word-word.result ≡ cell_word c.self.inside.table.shared.key.cells c.args.lane c.args.place = c.cell_word-word.ensures ∙ ap (λ (p : Layout). cell_word p.cells c.args.lane c.args.place) (sym c.self.invariant.key) in
-    let room : slot c.self.inside.table.shared.key.cells c.args.lane c.args.place < total c.self.inside.table.shared.key.cells = slot_within _ _ _ cell in
-    let long : length c.self.inside.table.shared.key.cells ≡ length c.self.inside.plan.cells = ap (λ (p : Layout). length p.cells) c.self.invariant.key in
-    let all : total c.self.inside.table.shared.key.cells ≡ total c.self.inside.plan.cells = ap (λ (p : Layout). total p.cells) c.self.invariant.key in
+    let key : c.self.inside.table.shared.key ≡ c.args.self.now.plan =
+    c.self.invariant.key ∙ ap (λ k. k.plan) c.self.view_is in
+    let cell : c.args.place < slice_index c.self.inside.table.shared.key.cells c.args.lane =
+    subst (λ (p : Layout). c.args.place < slice_index p.cells c.args.lane) (sym key) c.requires.cell in
+    let is : c.cell_word-word.result ≡ cell_word c.self.inside.table.shared.key.cells c.args.lane c.args.place =
+    c.cell_word-word.ensures
+    ∙ ap (λ (p : Layout). cell_word p.cells c.args.lane c.args.place) (sym c.self.invariant.key) in
+    let room : slot c.self.inside.table.shared.key.cells c.args.lane c.args.place
+    < total c.self.inside.table.shared.key.cells =
+    slot_within _ _ _ cell in
+    let long : length c.self.inside.table.shared.key.cells ≡ length c.self.inside.plan.cells =
+    ap (λ (p : Layout). length p.cells) c.self.invariant.key in
+    let all : total c.self.inside.table.shared.key.cells ≡ total c.self.inside.plan.cells =
+    ap (λ (p : Layout). total p.cells) c.self.invariant.key in
     let words = c.self.invariant.words in
-    let plan = ap (λ k. k.plan) same ∙ sym c.self.invariant.key in
-    (ap (λ k. k.table) same, omega (arith, words), may_look _ _ _ _ c.seat.invariant.mine c.args.lane c.args.place c.cell_word-word.result cell is plan)
+    let plan = ap (λ k. k.plan) same ∙ sym c.self.invariant.key in (
+      ap (λ k. k.table) same,
+      omega (arith, words),
+      may_look _ _ _ _ c.seat.invariant.mine c.args.lane c.args.place c.cell_word-word.result cell is plan,
+    )
 
 pub returns : goal.returns
 returns c =
     let same = ap (λ s. s.clock) c.seat.view_is ∙ (c.requires.clock ∙ sym c.self.view_is) in
-    let key : c.self.inside.table.shared.key ≡ c.args.self.now.plan = c.self.invariant.key ∙ ap (λ k. k.plan) c.self.view_is in
-    let cell : c.args.place < slice_index c.self.inside.table.shared.key.cells c.args.lane = subst (λ (p : Layout). c.args.place < slice_index p.cells c.args.lane) (sym key) c.requires.cell in
-    let is : c.cell_word-word.result ≡ cell_word c.self.inside.table.shared.key.cells c.args.lane c.args.place = c.cell_word-word.ensures ∙ ap (λ (p : Layout). cell_word p.cells c.args.lane c.args.place) (sym c.self.invariant.key) in
+    let key : c.self.inside.table.shared.key ≡ c.args.self.now.plan =
+    c.self.invariant.key ∙ ap (λ k. k.plan) c.self.view_is in
+    let cell : c.args.place < slice_index c.self.inside.table.shared.key.cells c.args.lane =
+    subst (λ (p : Layout). c.args.place < slice_index p.cells c.args.lane) (sym key) c.requires.cell in
+    let is : c.cell_word-word.result ≡ cell_word c.self.inside.table.shared.key.cells c.args.lane c.args.place =
+    c.cell_word-word.ensures
+    ∙ ap (λ (p : Layout). cell_word p.cells c.args.lane c.args.place) (sym c.self.invariant.key) in
     let plan = ap (λ k. k.plan) same ∙ sym c.self.invariant.key in
     let found = cell_found _ _ c.args.lane c.args.place c.cell_word-word.result plan is cell in
     let mine = subst (λ (s : SeatView). Owns s s.number) c.seat.view_is c.seat.invariant.mine in
-    let step = shown_step _ _ c.seat.inside.seat.me.0 _ _ (Look c.args.lane c.args.place c.of_word.result) _ c.load.ensures.0 (ap (λ m. m.0) c.load.ensures.2) (λ i. Look (found.0 i) (found.1 i) (sym c.of_word.ensures i)) c.seat.view_is in
-    record { step = step; own = ap own step ∙ own_step c.args.seat.now (Look c.args.lane c.args.place c.of_word.result) mine; keeps = keeps_step c.args.seat.now _ (Look c.args.lane c.args.place c.of_word.result) mine step }
+    let step =
+    shown_step _ _ c.seat.inside.seat.me.0 _ _ (Look c.args.lane c.args.place c.of_word.result) _ c.load.ensures.0
+    (ap (λ m. m.0) c.load.ensures.2) (λ i. Look (found.0 i) (found.1 i) (sym c.of_word.ensures i)) c.seat.view_is in
+    record {
+      step = step;
+      own = ap own step ∙ own_step c.args.seat.now (Look c.args.lane c.args.place c.of_word.result) mine;
+      keeps = keeps_step c.args.seat.now _ (Look c.args.lane c.args.place c.of_word.result) mine step;
+    }

@@ -12,4 +12,5 @@ of_words-requires c =
     let guards : c.in_ok-plan.plan.guards ≡ c.args.guards = ap (λ p. p.guards) plan in
     let few : c.in_ok-plan.plan.seats ≤ 2 ^ 15 = omega (arith, c.requires.seats) in
     let small : c.in_ok-plan.plan.guards < 2 ^ 15 = omega (arith, c.requires.guards) in
-    subst (λ ws. HasOneHistory c.in_ok-plan.plan (opening ws [] (giver c.in_ok-plan.plan))) (sym words) (starts c.in_ok-plan.plan few small)
+    subst (λ ws. HasOneHistory c.in_ok-plan.plan (opening ws [] (giver c.in_ok-plan.plan))) (sym words)
+    (starts c.in_ok-plan.plan few small)

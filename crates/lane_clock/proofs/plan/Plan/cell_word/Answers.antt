@@ -8,10 +8,12 @@ use Rattle.lane_clock.proofs.plan.Plan.cell_word.Goals.{After-index}
 
 -- the sum is the word of the cell in the rows, and it fits
 sum_is_word : (c : After-index) →
-    (1 + c.len.result + c.index.result.now.start + c.args.place ≡ cell_word (cells_in c.self.inside.rows.items) c.args.lane c.args.place)
+    (1 + c.len.result + c.index.result.now.start + c.args.place
+    ≡ cell_word (cells_in c.self.inside.rows.items) c.args.lane c.args.place)
     × (1 + c.len.result + c.index.result.now.start + c.args.place < 2 ^ 64)
 sum_is_word c =
-    let inside = subst (λ (p : Layout). c.args.place < slice_index p.cells c.args.lane) (sym c.self.view_is) c.requires in
+    let inside =
+    subst (λ (p : Layout). c.args.place < slice_index p.cells c.args.lane) (sym c.self.view_is) c.requires in
     let rows = c.self.inside.rows.items in
     let w = row_word rows c.self.inside.words c.args.lane c.args.place c.index.result.now c.self.invariant inside in
     let start = ap (λ (r : Row). r.start) c.index.ensures in
@@ -27,4 +29,5 @@ overflow_add-result-3 c = let word = sum_is_word (goal.at.overflow_add-result-3 
 
 pub returns : goal.returns
 returns c =
-    (sum_is_word (goal.at.returns c).After-index).0 ∙ ap (λ (p : Layout). cell_word p.cells c.args.lane c.args.place) c.self.view_is
+    (sum_is_word (goal.at.returns c).After-index).0
+    ∙ ap (λ (p : Layout). cell_word p.cells c.args.lane c.args.place) c.self.view_is

@@ -9,8 +9,15 @@ pub loop-count-preserved : goal.loop-count-preserved
 loop-count-preserved c =
     let items = c.in_ok-push.ensures.items in
     let inv = c.loop-count.invariant in
-    let added : c.in_ok-start.start ≡ total (cells_in c.loop-count.rows.items) + get_or c.args.cells.now c.loop-count.count-index 0 = search rules in record {
-      cells = ap cells_in items ∙ (cells_push _ _ ∙ (ap (λ cs. cs ++ get_or c.args.cells.now c.loop-count.count-index 0 ∷ []) inv.cells ∙ sym (take_more c.args.cells.now c.loop-count.count-index 0 c.loop-count-test.true)));
+    let added : c.in_ok-start.start
+    ≡ total (cells_in c.loop-count.rows.items) + get_or c.args.cells.now c.loop-count.count-index 0 =
+    search rules in
+    record {
+      cells =
+          ap cells_in items
+          ∙ (cells_push _ _
+          ∙ (ap (λ cs. cs ++ get_or c.args.cells.now c.loop-count.count-index 0 ∷ []) inv.cells
+          ∙ sym (take_more c.args.cells.now c.loop-count.count-index 0 c.loop-count-test.true)));
       starts = subst Starts (sym items) (starts_push _ _ inv.starts inv.start);
       start = added ∙ sym (ap (λ rows. total (cells_in rows)) items ∙ (ap total (cells_push _ _) ∙ total_push _ _));
     }

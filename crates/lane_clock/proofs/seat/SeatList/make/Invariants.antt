@@ -8,7 +8,8 @@ invariant-loop-left l = record {
   within : l.left ≤ l.seats;
   table : l.giver.table_id ≡ l.table.shared.table_id;
   giver : l.giver.me ≡ (giver_at l.table.shared.key l.left, []);
-  list : reverse l.list.items ≡ new_seats record { table = l.table.shared.table_id; plan = l.table.shared.key } l.left (l.seats - l.left);
+  list : reverse l.list.items
+      ≡ new_seats record { table = l.table.shared.table_id; plan = l.table.shared.key } l.left (l.seats - l.left);
 }
 
 abbrev pub decreases-loop-left : goal.decreases-loop-left

@@ -10,5 +10,7 @@ call_once-requires g c =
 
 pub returns : goal.returns
 returns g c =
-    let ran = answer-AnswersMarks c.args.self.marked (Execute c.args.call) c.call_once.result (omega arith, omega arith, omega arith) c.call_once.ensures in
+    let ran =
+    answer-AnswersMarks c.args.self.marked (Execute c.args.call) c.call_once.result
+    (omega arith, omega arith, omega arith) c.call_once.ensures in
     record { mark = ap (λ r. r.mark) ran; class = ap (λ r. r.class) ran; begun = ap (λ r. r.begun) ran }

@@ -10,15 +10,23 @@ use Rattle.proactor_core.proofs.proactor.Proactor.cancel_reached.Goals as goal
 pub returns-in-Wait-clause-turning : goal.returns-in-Wait-clause-turning
 returns-in-Wait-clause-turning g c =
     let turning = rw (← c.self.view_is) at c.requires.turning in
-    let base : ProactorView g.row.X.Denot = record { script = c.self.inside.script.now; tables = c.self.inside.tables; streams = c.self.inside.streams; reactor = c.self.inside.reactor } in
+    let base : ProactorView g.row.X.Denot = record {
+      script = c.self.inside.script.now;
+      tables = c.self.inside.tables;
+      streams = c.self.inside.streams;
+      reactor = c.self.inside.reactor;
+    } in
     let s : TableState = base.tables in
     let room = cancel-room base.script s base.streams (is_wait_for c.args.op) turning.room in
-    rw c.cancel_wait.ensures (tables-turning g.X.Reactor.state g.X.Reactor.told base (wait_cancelled c.args.op s) refl room turning)
+    rw c.cancel_wait.ensures
+    (tables-turning g.X.Reactor.state g.X.Reactor.told base (wait_cancelled c.args.op s) refl room turning)
 
 pub cancel_on-requires-clause-known : goal.cancel_on-requires-clause-known
 cancel_on-requires-clause-known g c =
     let it = c.act.result.now in
-    let declared = read-known c.self.inside.script.now c.in-ReadSome.stream it (c.acts_fit.ensures c.args.op it c.act.ensures) (ap stream_read c.in-ReadSome.is) in
+    let declared =
+    read-known c.self.inside.script.now c.in-ReadSome.stream it (c.acts_fit.ensures c.args.op it c.act.ensures)
+    (ap stream_read c.in-ReadSome.is) in
     let fit = c.requires.turning.room.fit.streams in
     let same = ap (λ (v : ProactorView g.row.X.Denot). v.script.world.streams) c.self.view_is in
     omega (arith, declared, fit, same)
@@ -26,7 +34,9 @@ cancel_on-requires-clause-known g c =
 pub cancel_on-requires-in-ReadAll-clause-known : goal.cancel_on-requires-in-ReadAll-clause-known
 cancel_on-requires-in-ReadAll-clause-known g c =
     let it = c.act.result.now in
-    let declared = read-known c.self.inside.script.now c.in-ReadAll.stream it (c.acts_fit.ensures c.args.op it c.act.ensures) (ap stream_read c.in-ReadAll.is) in
+    let declared =
+    read-known c.self.inside.script.now c.in-ReadAll.stream it (c.acts_fit.ensures c.args.op it c.act.ensures)
+    (ap stream_read c.in-ReadAll.is) in
     let fit = c.requires.turning.room.fit.streams in
     let same = ap (λ (v : ProactorView g.row.X.Denot). v.script.world.streams) c.self.view_is in
     omega (arith, declared, fit, same)
@@ -34,7 +44,9 @@ cancel_on-requires-in-ReadAll-clause-known g c =
 pub cancel_on-requires-in-Until-clause-known : goal.cancel_on-requires-in-Until-clause-known
 cancel_on-requires-in-Until-clause-known g c =
     let it = c.act.result.now in
-    let declared = read-known c.self.inside.script.now c.in-Until.stream it (c.acts_fit.ensures c.args.op it c.act.ensures) (ap stream_read c.in-Until.is) in
+    let declared =
+    read-known c.self.inside.script.now c.in-Until.stream it (c.acts_fit.ensures c.args.op it c.act.ensures)
+    (ap stream_read c.in-Until.is) in
     let fit = c.requires.turning.room.fit.streams in
     let same = ap (λ (v : ProactorView g.row.X.Denot). v.script.world.streams) c.self.view_is in
     omega (arith, declared, fit, same)
@@ -42,7 +54,9 @@ cancel_on-requires-in-Until-clause-known g c =
 pub cancel_on-requires-in-WriteSome-clause-known : goal.cancel_on-requires-in-WriteSome-clause-known
 cancel_on-requires-in-WriteSome-clause-known g c =
     let it = c.act.result.now in
-    let declared = write-known c.self.inside.script.now c.in-WriteSome.stream it (c.acts_fit.ensures c.args.op it c.act.ensures) (ap stream_written c.in-WriteSome.is) in
+    let declared =
+    write-known c.self.inside.script.now c.in-WriteSome.stream it (c.acts_fit.ensures c.args.op it c.act.ensures)
+    (ap stream_written c.in-WriteSome.is) in
     let fit = c.requires.turning.room.fit.streams in
     let same = ap (λ (v : ProactorView g.row.X.Denot). v.script.world.streams) c.self.view_is in
     omega (arith, declared, fit, same)
@@ -50,7 +64,9 @@ cancel_on-requires-in-WriteSome-clause-known g c =
 pub cancel_on-requires-in-WriteAll-clause-known : goal.cancel_on-requires-in-WriteAll-clause-known
 cancel_on-requires-in-WriteAll-clause-known g c =
     let it = c.act.result.now in
-    let declared = write-known c.self.inside.script.now c.in-WriteAll.stream it (c.acts_fit.ensures c.args.op it c.act.ensures) (ap stream_written c.in-WriteAll.is) in
+    let declared =
+    write-known c.self.inside.script.now c.in-WriteAll.stream it (c.acts_fit.ensures c.args.op it c.act.ensures)
+    (ap stream_written c.in-WriteAll.is) in
     let fit = c.requires.turning.room.fit.streams in
     let same = ap (λ (v : ProactorView g.row.X.Denot). v.script.world.streams) c.self.view_is in
     omega (arith, declared, fit, same)

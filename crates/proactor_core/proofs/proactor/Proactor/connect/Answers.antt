@@ -15,8 +15,14 @@ connect-requires g c = λ slot is.
 pub returns-clause-turning : goal.returns-clause-turning
 returns-clause-turning g c =
     let may = rw (← c.self.view_is) at c.requires.may in
-    let base : ProactorView g.row.X.Denot = record { script = c.self.inside.script.now; tables = c.self.inside.tables; streams = c.self.inside.streams; reactor = c.self.inside.reactor } in
-    rw c.connect.ensures (connect-turning g.X.Reactor.state g.X.Reactor.told base c.slot_of.result c.args.op c.reached_by.result (c.args.act.now, may.is_act, c.reached_by.ensures) may.turning)
+    let base : ProactorView g.row.X.Denot = record {
+      script = c.self.inside.script.now;
+      tables = c.self.inside.tables;
+      streams = c.self.inside.streams;
+      reactor = c.self.inside.reactor;
+    } in
+    rw c.connect.ensures (connect-turning g.X.Reactor.state g.X.Reactor.told base c.slot_of.result c.args.op
+    c.reached_by.result (c.args.act.now, may.is_act, c.reached_by.ensures) may.turning)
 
 pub returns-clause-taken : goal.returns-clause-taken
 returns-clause-taken g c =
@@ -25,5 +31,11 @@ returns-clause-taken g c =
 pub returns-clause-follows : goal.returns-clause-follows
 returns-clause-follows g c = λ half at.
     let here = rw (← c.self.view_is) at at in
-    let base : ProactorView g.row.X.Denot = record { script = c.self.inside.script.now; tables = c.self.inside.tables; streams = c.self.inside.streams; reactor = c.self.inside.reactor } in
-    rw (c.connect.ensures, ← c.slot_of.ensures) (connect-step g.X.Reactor.told base half c.slot_of.result c.args.op c.reached_by.result here)
+    let base : ProactorView g.row.X.Denot = record {
+      script = c.self.inside.script.now;
+      tables = c.self.inside.tables;
+      streams = c.self.inside.streams;
+      reactor = c.self.inside.reactor;
+    } in
+    rw (c.connect.ensures, ← c.slot_of.ensures)
+    (connect-step g.X.Reactor.told base half c.slot_of.result c.args.op c.reached_by.result here)

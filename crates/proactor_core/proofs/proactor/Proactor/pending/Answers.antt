@@ -31,6 +31,11 @@ overflow_add-result-2 g c =
 pub returns-clause-half : goal.returns-clause-half
 returns-clause-half g c = λ half is.
     let here = rw (← c.self.view_is) at is in
-    let base : ProactorView g.row.X.Denot = record { script = c.self.inside.script.now; tables = c.self.inside.tables; streams = c.self.inside.streams; reactor = c.self.inside.reactor } in
+    let base : ProactorView g.row.X.Denot = record {
+      script = c.self.inside.script.now;
+      tables = c.self.inside.tables;
+      streams = c.self.inside.streams;
+      reactor = c.self.inside.reactor;
+    } in
     let same = pending-alike g.X.Reactor.told base half here in
     omega (arith, same, c.waits.ensures, c.pending.ensures, c.count_due.ensures)

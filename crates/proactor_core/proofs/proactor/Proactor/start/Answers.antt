@@ -9,8 +9,11 @@ pub returns-in-Ok-set_up-clause-sound : goal.returns-in-Ok-set_up-clause-sound
 returns-in-Ok-set_up-clause-sound g c =
     let parts = c.in-Ok.parts in
     let ready = c.in-Ok-set_up.ensures.ready ∙ ap state_ready c.world.ensures in
-    let told_ready = c.in-Ok-set_up.ensures.told_ready ∙ ap (λ w. option_map (λ _. outside_ready w) (g.X.Reactor.told c.args.reactor)) c.world.ensures in
-    sound-first c.args.script.now parts.0 parts.1 c.in-Ok.ensures g.X.Reactor.state g.X.Reactor.told c.args.reactor c.set_up.new.self ready told_ready c.scripts_are_well_formed.ensures
+    let told_ready =
+    c.in-Ok-set_up.ensures.told_ready
+    ∙ ap (λ w. option_map (λ _. outside_ready w) (g.X.Reactor.told c.args.reactor)) c.world.ensures in
+    sound-first c.args.script.now parts.0 parts.1 c.in-Ok.ensures g.X.Reactor.state g.X.Reactor.told c.args.reactor
+    c.set_up.new.self ready told_ready c.scripts_are_well_formed.ensures
 
 pub returns-in-Ok-set_up-clause-taken : goal.returns-in-Ok-set_up-clause-taken
 returns-in-Ok-set_up-clause-taken g c = ap (λ (h : ReactorHalf). h.taken) (c.in-Ok.ensures.half true)
@@ -25,5 +28,8 @@ pub returns-in-Ok-set_up-clause-follows : goal.returns-in-Ok-set_up-clause-follo
 returns-in-Ok-set_up-clause-follows g c =
     let parts = c.in-Ok.parts in
     let ready = c.in-Ok-set_up.ensures.ready ∙ ap state_ready c.world.ensures in
-    let told_ready = c.in-Ok-set_up.ensures.told_ready ∙ ap (λ w. option_map (λ _. outside_ready w) (g.X.Reactor.told c.args.reactor)) c.world.ensures in
-    follows-first c.args.script.now parts.0 parts.1 c.in-Ok.ensures g.X.Reactor.state g.X.Reactor.told c.args.reactor c.set_up.new.self ready told_ready
+    let told_ready =
+    c.in-Ok-set_up.ensures.told_ready
+    ∙ ap (λ w. option_map (λ _. outside_ready w) (g.X.Reactor.told c.args.reactor)) c.world.ensures in
+    follows-first c.args.script.now parts.0 parts.1 c.in-Ok.ensures g.X.Reactor.state g.X.Reactor.told c.args.reactor
+    c.set_up.new.self ready told_ready

@@ -12,20 +12,35 @@ use Rattle.proactor_core.proofs.proactor.Proactor.take_expiry.Goals as goal
 pub returns-clause-turning : goal.returns-clause-turning
 returns-clause-turning g c =
     let may = rw (← c.self.view_is) at c.requires.may in
-    let base : ProactorView g.row.X.Denot = record { script = c.self.inside.script.now; tables = c.self.inside.tables; streams = c.self.inside.streams; reactor = c.self.inside.reactor } in
+    let base : ProactorView g.row.X.Denot = record {
+      script = c.self.inside.script.now;
+      tables = c.self.inside.tables;
+      streams = c.self.inside.streams;
+      reactor = c.self.inside.reactor;
+    } in
     let s : TableState = base.tables in
     let after : TableState = timer_set c.args.timer c.args.expiry s in
     let un : IsUntaken c.args.a after = record { within = may.untaken.within; untaken = may.untaken.untaken } in
     let within = rw (← c.self.view_is) at c.requires.within in
-    let room = expiry-room base.script s base.streams c.args.a c.args.timer c.args.expiry within may.turning.room may.untaken in
-    rw (c.take.ensures, c.set_timer.ensures) (tables-turning g.X.Reactor.state g.X.Reactor.told base (act_taken c.args.a after) refl room may.turning)
+    let room =
+    expiry-room base.script s base.streams c.args.a c.args.timer c.args.expiry within may.turning.room may.untaken in
+    rw (c.take.ensures, c.set_timer.ensures)
+    (tables-turning g.X.Reactor.state g.X.Reactor.told base (act_taken c.args.a after) refl room may.turning)
 
 pub returns-clause-follows : goal.returns-clause-follows
 returns-clause-follows g c = λ half at.
     let here = rw (← c.self.view_is) at at in
-    let base : ProactorView g.row.X.Denot = record { script = c.self.inside.script.now; tables = c.self.inside.tables; streams = c.self.inside.streams; reactor = c.self.inside.reactor } in
+    let base : ProactorView g.row.X.Denot = record {
+      script = c.self.inside.script.now;
+      tables = c.self.inside.tables;
+      streams = c.self.inside.streams;
+      reactor = c.self.inside.reactor;
+    } in
     let s : TableState = base.tables in
     let after : TableState = timer_set c.args.timer c.args.expiry s in
     let all = with_works s base.streams half in
-    let step = (follows base.script s all).expiry c.args.timer c.args.expiry ∙ ap (λ (h : ReactorHalf). expiry_set c.args.timer c.args.expiry h) here.works in
-    rw (c.take.ensures, c.set_timer.ensures) (taken-step g.X.Reactor.told base after half (expiry_set c.args.timer c.args.expiry half) c.args.a refl step here)
+    let step =
+    (follows base.script s all).expiry c.args.timer c.args.expiry
+    ∙ ap (λ (h : ReactorHalf). expiry_set c.args.timer c.args.expiry h) here.works in
+    rw (c.take.ensures, c.set_timer.ensures)
+    (taken-step g.X.Reactor.told base after half (expiry_set c.args.timer c.args.expiry half) c.args.a refl step here)

@@ -7,7 +7,8 @@ pub returns-clause-half : goal.returns-clause-half
 returns-clause-half g c = λ half is.
     let within = rw (← c.self.view_is) at c.requires in
     let here = rw (← c.self.view_is) at is in
-    c.was_taken.ensures ∙ get_or_default c.self.inside.tables.taken c.args.a true false within ∙ ap (λ (all : List Bool). get_or all c.args.a false) (sym (taken-alike g.X.Reactor.told _ half here))
+    c.was_taken.ensures ∙ get_or_default c.self.inside.tables.taken c.args.a true false within
+    ∙ ap (λ (all : List Bool). get_or all c.args.a false) (sym (taken-alike g.X.Reactor.told _ half here))
 
 pub returns-clause-all : goal.returns-clause-all
 returns-clause-all g c = λ half is.

@@ -9,9 +9,17 @@ invariant_of-self c =
     let held = c.self.inside.held in
     let new : PendingOp = record { op = c.args.op; accepted = c.args.accepted; machine = c.args.machine } in
     let holds = rw (← c.self.view_is) at c.requires.holds in
-    let fresh : IsNewRead held.room held.room (progress_of c.args.machine) = record { fresh = c.requires.fresh; reads = c.requires.reads; under_way = c.requires.under_way; fits = holds; holds = holds } in
+    let fresh : IsNewRead held.room held.room (progress_of c.args.machine) = record {
+      fresh = c.requires.fresh;
+      reads = c.requires.reads;
+      under_way = c.requires.under_way;
+      fits = holds;
+      holds = holds;
+    } in
     record {
-      are_reads = rw c.push_back_reserved.ensures.items (reads-pushed held.room held c.self.inside.reads.items new fresh c.self.invariant.are_reads);
+      are_reads =
+          rw c.push_back_reserved.ensures.items
+          (reads-pushed held.room held c.self.inside.reads.items new fresh c.self.invariant.are_reads);
       are_writes = c.self.invariant.are_writes;
       no_reads = λ shut. absurd (cc);
       no_writes = c.self.invariant.no_writes;

@@ -24,13 +24,17 @@ serve_writes-requires-clause-room g c =
     let spare = ap (λ (d : Due). d.spare) gives.due in
     let reads = c.self.inside.reads.items in
     let writes = c.self.inside.writes.items in
-    let count = gives-count may_give_read (map pending_read reads) (map pending_read c.serve_reads.new.queue.items) gives.completed gives.in_order in
+    let count =
+    gives-count may_give_read (map pending_read reads) (map pending_read c.serve_reads.new.queue.items) gives.completed
+    gives.in_order in
     let room = rw (← c.self.view_is) at c.requires.spare in
     omega (arith, spare, count, room, length-map reads pending_read, length-map writes pending_write)
 
 pub returns-clause-told : goal.returns-clause-told
 returns-clause-told g c =
-    changes-on (g.X.Reactor.told c.args.reactor.now) (g.X.Reactor.told c.serve_reads.new.reactor) (g.X.Reactor.told c.serve_writes.new.reactor) c.args.stream c.in_ok-serve_reads.ensures.told c.in_ok-serve_writes.ensures.told
+    changes-on (g.X.Reactor.told c.args.reactor.now) (g.X.Reactor.told c.serve_reads.new.reactor)
+    (g.X.Reactor.told c.serve_writes.new.reactor) c.args.stream c.in_ok-serve_reads.ensures.told
+    c.in_ok-serve_writes.ensures.told
 
 pub returns-clause-served : goal.returns-clause-served
 returns-clause-served g c =
@@ -47,8 +51,24 @@ returns-clause-served g c =
     let later_reads = map pending_read c.serve_reads.new.queue.items in
     let writes = map pending_write c.self.inside.writes.items in
     let later_writes = map pending_write c.serve_writes.new.queue.items in
-    let before : StreamView = record { held = held; room = c.self.inside.held.room; closed = c.self.inside.closed; reads = reads; writes = writes; reads_room = deque_capacity c.self.inside.reads; writes_room = deque_capacity c.self.inside.writes } in
-    let after : StreamView = record { held = kept; room = c.serve_reads.new.held.room; closed = c.self.inside.closed; reads = later_reads; writes = later_writes; reads_room = deque_capacity c.serve_reads.new.queue; writes_room = deque_capacity c.serve_writes.new.queue } in
+    let before : StreamView = record {
+      held = held;
+      room = c.self.inside.held.room;
+      closed = c.self.inside.closed;
+      reads = reads;
+      writes = writes;
+      reads_room = deque_capacity c.self.inside.reads;
+      writes_room = deque_capacity c.self.inside.writes;
+    } in
+    let after : StreamView = record {
+      held = kept;
+      room = c.serve_reads.new.held.room;
+      closed = c.self.inside.closed;
+      reads = later_reads;
+      writes = later_writes;
+      reads_room = deque_capacity c.serve_reads.new.queue;
+      writes_room = deque_capacity c.serve_writes.new.queue;
+    } in
     let there = whole_told held first number in
     let between = whole_told kept told number in
     let over = whole_told kept left number in
@@ -56,4 +76,5 @@ returns-clause-served g c =
     let Q = IsServedBy writing_side writes later_writes between over now new in
     let R = IsStreamServed before after there over old new in
     let joined : P → Q → R = λ p q. stream-served before after there between over old now new refl p q in
-    rw (← c.self.view_is) (join-told first told number P Q R c.in_ok-serve_reads.ensures.told joined c.in_ok-serve_reads.ensures.served (c.in_ok-serve_writes.ensures.served kept))
+    rw (← c.self.view_is) (join-told first told number P Q R c.in_ok-serve_reads.ensures.told joined
+    c.in_ok-serve_reads.ensures.served (c.in_ok-serve_writes.ensures.served kept))

@@ -37,16 +37,27 @@ loop-stream-preserved g c =
     let last = (g.X.Reactor.state c.args.reactor.now).last in
     let ended = ap (λ (s : ReactorState). s.last) before.keeps in
     let over = λ (h : IsTrue last). subst IsTrue (sym ended) h in
-    let step : IsServedAt last number old new told left due later = record { others = once.others; changes = once.told; gives = once.gives; served = once.served; reads_after_last = λ h. once.reads_after_last (over h); writes_after_last = λ h. once.writes_after_last (over h) } in
+    let step : IsServedAt last number old new told left due later = record {
+      others = once.others;
+      changes = once.told;
+      gives = once.gives;
+      served = once.served;
+      reads_after_last = λ h. once.reads_after_last (over h);
+      writes_after_last = λ h. once.writes_after_last (over h);
+    } in
     record {
       ends = before.ends;
       count = count-served last number old new told left due later step ∙ before.count;
       keeps = once.keeps ∙ before.keeps;
       faults = once.counts ∙ before.faults;
       telling = once.tells ∙ before.telling;
-      servable = servable-served last number old new (g.X.Reactor.state c.loop-stream.reactor) (g.X.Reactor.state c.serve.new.reactor) told left due later once.keeps before.servable step;
+      servable =
+          servable-served last number old new (g.X.Reactor.state c.loop-stream.reactor)
+          (g.X.Reactor.state c.serve.new.reactor) told left due later once.keeps before.servable step;
       spare = spare-served last number old new told left due later within before.spare step;
-      under_way = served-each (λ view. AreUnderWay (queues_in view)) last number old new told left due later within step once.under_way before.under_way;
+      under_way =
+          served-each (λ view. AreUnderWay (queues_in view)) last number old new told left due later within step
+          once.under_way before.under_way;
       served = one_served before.served step;
     }
 
@@ -58,6 +69,8 @@ serve-requires g c =
     let within : number < length old = omega (arith, c.loop-stream-test.true, before.ends, before.count) in
     record {
       known = within;
-      servable = λ opened. servable-at old (g.X.Reactor.state c.loop-stream.reactor) (g.X.Reactor.told c.loop-stream.reactor) number within before.servable opened;
+      servable = λ opened.
+          servable-at old (g.X.Reactor.state c.loop-stream.reactor) (g.X.Reactor.told c.loop-stream.reactor) number
+          within before.servable opened;
       spare = omega (arith, pending-at old number within, before.spare);
     }

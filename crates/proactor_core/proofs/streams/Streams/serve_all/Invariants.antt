@@ -14,5 +14,6 @@ invariant-loop-stream g l = record {
   servable : AreServable l.self (g.X.Reactor.state l.reactor) (g.X.Reactor.told l.reactor);
   spare : pending_in_all l.self ≤ l.due.spare;
   under_way : (n : ℕ) → n < l.stream → AreUnderWay (queues_in (stream_in l.self n));
-  served : AreServedBelow (g.X.Reactor.state l.initial.reactor).last l.stream l.initial.self l.self (g.X.Reactor.told l.initial.reactor) (g.X.Reactor.told l.reactor) l.initial.due l.due;
+  served : AreServedBelow (g.X.Reactor.state l.initial.reactor).last l.stream l.initial.self l.self
+      (g.X.Reactor.told l.initial.reactor) (g.X.Reactor.told l.reactor) l.initial.due l.due;
 }

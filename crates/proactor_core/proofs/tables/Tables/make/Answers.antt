@@ -18,7 +18,11 @@ returns-clause-half c = λ told.
       failed = false;
       due = c.in_ok-due.due;
     } in
-    starts c.args.script.now told made (c.in_ok-taken.ensures ∙ ap (λ n. replicate n false) c.acts-acts.ensures.count) refl refl c.in_ok-waits.ensures.expiries c.in_ok-waits.ensures.waits (c.in_ok-slots.ensures ∙ ap (λ n. replicate n None) c.slots.ensures) (c.in_ok-guards.ensures ∙ ap (λ n. replicate n true) c.guards.ensures) refl refl (ap (λ (d : Due). d.coming) c.in_ok-due.ensures)
+    starts c.args.script.now told made (c.in_ok-taken.ensures ∙ ap (λ n. replicate n false) c.acts-acts.ensures.count)
+    refl refl c.in_ok-waits.ensures.expiries c.in_ok-waits.ensures.waits
+    (c.in_ok-slots.ensures ∙ ap (λ n. replicate n None) c.slots.ensures)
+    (c.in_ok-guards.ensures ∙ ap (λ n. replicate n true) c.guards.ensures) refl refl
+    (ap (λ (d : Due). d.coming) c.in_ok-due.ensures)
 
 pub returns-clause-room : goal.returns-clause-room
 returns-clause-room c =
@@ -34,4 +38,6 @@ returns-clause-room c =
       due = c.in_ok-due.due;
     } in
     let waits = c.in_ok-waits.ensures in
-    room-first c.args.script.now made (c.in_ok-taken.ensures ∙ ap (λ n. replicate n false) c.acts-acts.ensures.count) refl waits.waits waits.accepted waits.acts waits.expiries waits.rooms (ap (λ (d : Due). d.spare) c.in_ok-due.ensures ∙ c.acts-acts.ensures.count)
+    room-first c.args.script.now made (c.in_ok-taken.ensures ∙ ap (λ n. replicate n false) c.acts-acts.ensures.count)
+    refl waits.waits waits.accepted waits.acts waits.expiries waits.rooms
+    (ap (λ (d : Due). d.spare) c.in_ok-due.ensures ∙ c.acts-acts.ensures.count)

@@ -6,4 +6,6 @@ use Rattle.proactor_core.proofs.waits.Waits.cancel_timer.Goals as goal
 
 pub returns-clause-waits : goal.returns-clause-waits
 returns-clause-waits c =
-    c.in_default.ensures.unchanged ∙ drain-waits (is_wait_of c.args.timer) (aborts (is_wait_of c.args.timer)) c.args.self.now c.args.due.now c.loop-op.self c.loop-op.due c.loop-op.invariant c.in_default.ensures.none
+    c.in_default.ensures.unchanged
+    ∙ drain-waits (is_wait_of c.args.timer) (aborts (is_wait_of c.args.timer)) c.args.self.now c.args.due.now
+    c.loop-op.self c.loop-op.due c.loop-op.invariant c.in_default.ensures.none

@@ -6,7 +6,8 @@ use Rattle.proactor_core.specs.Waits.{IsAccepted, Waiting}
 use Rattle.proactor_core.proofs.WaitLemmas.{All-from_waits}
 use Rattle.proactor_core.proofs.waits.Waits.put_expiry.Goals as goal
 
-put-each : (expiries timers : List ℕ) (accepted timer expiry : ℕ) (e : Entry) → get_or timers e.op 0 ≢ timer → IsAccepted expiries timers accepted e → IsAccepted (set expiries timer expiry) timers accepted e
+put-each : (expiries timers : List ℕ) (accepted timer expiry : ℕ) (e : Entry) → get_or timers e.op 0 ≢ timer →
+    IsAccepted expiries timers accepted e → IsAccepted (set expiries timer expiry) timers accepted e
 put-each expiries timers accepted timer expiry e other is = record {
   serial = is.serial;
   op = is.op;
@@ -17,11 +18,15 @@ put-each expiries timers accepted timer expiry e other is = record {
 pub invariant_of-self : goal.invariant_of-self
 invariant_of-self c =
     let P : Waiting → Type 0 = λ w. All (λ wait. wait.timer ≢ c.args.timer) w.waits in
-    let others = All-from_waits c.self.inside.timer_of.items (λ wait. wait.timer ≢ c.args.timer) c.self.inside.queue.waits (subst P (sym c.self.view_is) c.requires.none) in
+    let others =
+    All-from_waits c.self.inside.timer_of.items (λ wait. wait.timer ≢ c.args.timer) c.self.inside.queue.waits
+    (subst P (sym c.self.view_is) c.requires.none) in
     let is = c.self.invariant in
     record {
       in_order = is.in_order;
-      each = λ k d b. put-each c.self.inside.expiries.items c.self.inside.timer_of.items c.self.inside.accepted c.args.timer c.args.expiry (get_or c.self.inside.queue.waits k d) (others k d b) (is.each k d b);
+      each = λ k d b.
+          put-each c.self.inside.expiries.items c.self.inside.timer_of.items c.self.inside.accepted c.args.timer
+          c.args.expiry (get_or c.self.inside.queue.waits k d) (others k d b) (is.each k d b);
       once = is.once;
       count = is.count;
       room = is.room;

@@ -13,5 +13,8 @@ of-another timer wait passes = λ same. grind (arith, nat_tests)
 pub put_expiry-requires-clause-none : goal.put_expiry-requires-clause-none
 put_expiry-requires-clause-none c =
     let P : List Wait → Type 0 = All (λ wait. not (is_wait_of c.args.timer wait) ≡ true) in
-    let passes = subst P (sym (ap (λ (w : Waiting). w.waits) c.cancel_timer.ensures.waits)) (filter_passes (λ wait. not (is_wait_of c.args.timer wait)) c.args.self.now.waits) in
-    All-weaker (λ wait. not (is_wait_of c.args.timer wait) ≡ true) (λ wait. wait.timer ≢ c.args.timer) (of-another c.args.timer) c.cancel_timer.new.self.waits passes
+    let passes =
+    subst P (sym (ap (λ (w : Waiting). w.waits) c.cancel_timer.ensures.waits))
+    (filter_passes (λ wait. not (is_wait_of c.args.timer wait)) c.args.self.now.waits) in
+    All-weaker (λ wait. not (is_wait_of c.args.timer wait) ≡ true) (λ wait. wait.timer ≢ c.args.timer)
+    (of-another c.args.timer) c.cancel_timer.new.self.waits passes

@@ -18,7 +18,10 @@ is-time : (c : In-Time) → c.advance-point.new.self.time ≡ c.in-Time.field-0
 is-time c = rw c.in-Time.is at c.advance-point.ensures.time
 
 -- the vector holds the pipes that the lines were performed on
-are-pipes : (c : After-perform_due) → take c.self.inside.pipes.len (c.perform_due.new.pipes ++ drop (length c.perform_due.new.pipes) c.self.inside.pipes.items) ≡ c.perform_due.new.pipes
+are-pipes : (c : After-perform_due) →
+    take c.self.inside.pipes.len
+    (c.perform_due.new.pipes ++ drop (length c.perform_due.new.pipes) c.self.inside.pipes.items)
+    ≡ c.perform_due.new.pipes
 are-pipes c =
     let pipes = c.self.inside.pipes in
     let long = rw c.as_mut_slice.ensures.value at c.perform_due.auto.pipes in
@@ -36,7 +39,8 @@ perform_due-requires-clause-room c =
     let s = c.self.inside in
     let to = c.advance-point in
     let time = (goal.at.perform_due-requires-clause-room c).In-Time in
-    rw c.as_mut_slice.ensures.value (HasRoom-due s.last s.closed.items s.schedule to.new.self c.in-Time.field-0 s.pipes.items c.self.invariant (forward time) (is-time time) to.ensures.lines)
+    rw c.as_mut_slice.ensures.value (HasRoom-due s.last s.closed.items s.schedule to.new.self c.in-Time.field-0
+    s.pipes.items c.self.invariant (forward time) (is-time time) to.ensures.lines)
 
 pub invariant_of-self : goal.invariant_of-self
 invariant_of-self c =
@@ -46,14 +50,17 @@ invariant_of-self c =
     let long = rw c.as_mut_slice.ensures.value at c.perform_due.auto.pipes in
     let uses = rw c.as_mut_slice.ensures.value at c.perform_due.ensures.room in
     let marks = rw c.as_mut_slice.ensures.value at c.perform_due.ensures.marked in
-    rw (are-pipes at.After-perform_due) (IsPlaying-moved s.last s.closed.items s.schedule to.new.self c.in-Time.field-0 s.pipes.items c.perform_due.new.pipes c.self.invariant (forward at.In-Time) (is-time at.In-Time) to.ensures.lines uses long marks)
+    rw (are-pipes at.After-perform_due) (IsPlaying-moved s.last s.closed.items s.schedule to.new.self c.in-Time.field-0
+    s.pipes.items c.perform_due.new.pipes c.self.invariant (forward at.In-Time) (is-time at.In-Time)
+    to.ensures.lines uses long marks)
 
 pub returns-in-Time-clause-state : goal.returns-in-Time-clause-state
 returns-in-Time-clause-state c =
     let s = c.self.inside in
     let to = c.advance-point in
     let ahead = rw (← c.self.view_is) at c.requires in
-    rw (← c.self.view_is) (state_at-moved s.up s.last s.closed.items c.args.limit c.in-Time.field-0 s.schedule to.new.self to.result ahead c.in-Time.is to.ensures.answer to.ensures.time to.ensures.lines)
+    rw (← c.self.view_is) (state_at-moved s.up s.last s.closed.items c.args.limit c.in-Time.field-0 s.schedule
+    to.new.self to.result ahead c.in-Time.is to.ensures.answer to.ensures.time to.ensures.lines)
 
 pub returns-in-Time-clause-outside : goal.returns-in-Time-clause-outside
 returns-in-Time-clause-outside c =
@@ -61,4 +68,6 @@ returns-in-Time-clause-outside c =
     let to = c.advance-point in
     let at = goal.at.returns-in-Time-clause-outside c in
     let streams = rw c.as_mut_slice.ensures.value at c.perform_due.ensures.streams in
-    rw (are-pipes at.After-perform_due, c.in-Time.is, ← c.self.view_is) (outside-moved s.schedule to.new.self c.in-Time.field-0 s.pipes.items c.perform_due.new.pipes (forward at.In-Time) (is-time at.In-Time) to.ensures.lines streams)
+    rw (are-pipes at.After-perform_due, c.in-Time.is, ← c.self.view_is) (outside-moved s.schedule to.new.self
+    c.in-Time.field-0 s.pipes.items c.perform_due.new.pipes (forward at.In-Time) (is-time at.In-Time)
+    to.ensures.lines streams)

@@ -7,4 +7,6 @@ pub returns-clause-outside : goal.returns-clause-outside
 returns-clause-outside c =
     let s = c.self.inside in
     let known = rw (← c.self.view_is) at c.requires in
-    rw (← c.self.view_is) (outside-changed (closed_stream) s.schedule s.pipes.items c.args.stream c.index_mut-pipe.result.now c.close.new.self (omega (arith, c.self.invariant.counted)) (rw (← c.index_mut-pipe.ensures.value) c.close.ensures.stream))
+    rw (← c.self.view_is) (outside-changed (closed_stream) s.schedule s.pipes.items c.args.stream
+    c.index_mut-pipe.result.now c.close.new.self (omega (arith, c.self.invariant.counted))
+    (rw (← c.index_mut-pipe.ensures.value) c.close.ensures.stream))

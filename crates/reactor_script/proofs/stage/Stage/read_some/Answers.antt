@@ -11,10 +11,13 @@ returns-clause-after_last c = λ last.
     let known = rw (← c.self.view_is) at c.requires.known in
     let marked = c.self.invariant.marked (rw (← c.self.view_is) at last) in
     let here = marked c.args.stream c.index_mut-pipe.result.now (omega (arith, c.self.invariant.counted)) in
-    rw c.read.ensures.answer (read-marked (length c.args.buf.now) c.index_mut-pipe.result.now (rw c.index_mut-pipe.ensures.value here))
+    rw c.read.ensures.answer
+    (read-marked (length c.args.buf.now) c.index_mut-pipe.result.now (rw c.index_mut-pipe.ensures.value here))
 
 pub returns-clause-outside : goal.returns-clause-outside
 returns-clause-outside c =
     let s = c.self.inside in
     let known = rw (← c.self.view_is) at c.requires.known in
-    rw (← c.self.view_is) (outside-changed (after_reading (moved_count c.read.result)) s.schedule s.pipes.items c.args.stream c.index_mut-pipe.result.now c.read.new.self (omega (arith, c.self.invariant.counted)) (rw (← c.index_mut-pipe.ensures.value) c.read.ensures.stream))
+    rw (← c.self.view_is) (outside-changed (after_reading (moved_count c.read.result)) s.schedule s.pipes.items
+    c.args.stream c.index_mut-pipe.result.now c.read.new.self (omega (arith, c.self.invariant.counted))
+    (rw (← c.index_mut-pipe.ensures.value) c.read.ensures.stream))

@@ -8,7 +8,9 @@ perform_due-requires-clause-within c =
     let world = c.args.world.now in
     let schedule = c.in_ok-schedule in
     let lines = schedule.ensures.lines ∙ c.as_slice-lines.ensures in
-    let all = within-first schedule.schedule.time world.streams world.lines c.in_ok-pipes.pipes.items c.requires c.in_ok-pipes.ensures.streams in
+    let all =
+    within-first schedule.schedule.time world.streams world.lines c.in_ok-pipes.pipes.items c.requires
+    c.in_ok-pipes.ensures.streams in
     rw (lines, c.as_mut_slice.ensures.value) all
 
 pub perform_due-requires-clause-room : goal.perform_due-requires-clause-room
@@ -27,4 +29,6 @@ invariant_of-result c =
     let long = rw c.as_mut_slice.ensures.value at c.perform_due.auto.pipes in
     let whole = written pipes.len pipes.items c.perform_due.new.pipes (omega (arith, pipes.ok.0)) long in
     let uses = rw c.as_mut_slice.ensures.value at c.perform_due.ensures.room in
-    rw whole (IsPlaying-first c.in_ok-closed.closed.items schedule.schedule world.streams pipes.items c.perform_due.new.pipes c.in_ok-closed.ensures schedule.ensures.time (rw lines c.requires) c.in_ok-pipes.ensures.streams room uses long)
+    rw whole (IsPlaying-first c.in_ok-closed.closed.items schedule.schedule world.streams pipes.items
+    c.perform_due.new.pipes c.in_ok-closed.ensures schedule.ensures.time (rw lines c.requires)
+    c.in_ok-pipes.ensures.streams room uses long)

@@ -17,4 +17,6 @@ pub returns-clause-outside : goal.returns-clause-outside
 returns-clause-outside c =
     let s = c.self.inside in
     let known = rw (← c.self.view_is) at c.requires.known in
-    rw (← c.self.view_is) (outside-changed (after_writing (Some_of c.args.bytes.now) 0 (moved_count c.write.result)) s.schedule s.pipes.items c.args.stream c.index_mut-pipe.result.now c.write.new.self (omega (arith, c.self.invariant.counted)) (rw (← c.index_mut-pipe.ensures.value) c.write.ensures.stream))
+    rw (← c.self.view_is) (outside-changed (after_writing (Some_of c.args.bytes.now) 0 (moved_count c.write.result))
+    s.schedule s.pipes.items c.args.stream c.index_mut-pipe.result.now c.write.new.self
+    (omega (arith, c.self.invariant.counted)) (rw (← c.index_mut-pipe.ensures.value) c.write.ensures.stream))

@@ -9,33 +9,62 @@ use Rattle.session_script.proofs.Bodies.{body_keeps, entry_takes, fails_at_brace
 use Rattle.session_script.proofs.reader.body.+bodies.Goals as goal
 
 pub acts-each_act-smaller : goal.acts-each_act-smaller
-acts-each_act-smaller t c = falls (goes_on (codes "}")) (entry c.args.header.now (body c.args.header.now (c.args.levels - 1)) c.args.parent) (λ _. refl) (λ es. entry_takes c.args.header.now _ c.args.parent es (body_keeps c.args.header.now (c.args.levels - 1))) (entries_of c.each_act.entries.items) (entries_of c.entry.new.entries.items) (tokens_at c.each_act.cursor) (tokens_at c.entry.new.cursor) c.in_ok-entry.ensures
+acts-each_act-smaller t c =
+    falls (goes_on (codes "}")) (entry c.args.header.now (body c.args.header.now (c.args.levels - 1)) c.args.parent)
+    (λ _. refl)
+    (λ es. entry_takes c.args.header.now _ c.args.parent es (body_keeps c.args.header.now (c.args.levels - 1)))
+    (entries_of c.each_act.entries.items) (entries_of c.entry.new.entries.items) (tokens_at c.each_act.cursor)
+    (tokens_at c.entry.new.cursor) c.in_ok-entry.ensures
 
 pub acts-each_act-preserved : goal.acts-each_act-preserved
-acts-each_act-preserved t c = goes_on_to (goes_on (codes "}")) (entry c.args.header.now (body c.args.header.now (c.args.levels - 1)) c.args.parent) (λ _. refl) (λ es. entry_takes c.args.header.now _ c.args.parent es (body_keeps c.args.header.now (c.args.levels - 1))) (entries_of c.each_act.entries.items) (entries_of c.entry.new.entries.items) (tokens_at c.each_act.cursor) (tokens_at c.entry.new.cursor) _ (sym c.each_act-test.ensures) c.in_ok-entry.ensures c.each_act.invariant
+acts-each_act-preserved t c =
+    goes_on_to (goes_on (codes "}"))
+    (entry c.args.header.now (body c.args.header.now (c.args.levels - 1)) c.args.parent) (λ _. refl)
+    (λ es. entry_takes c.args.header.now _ c.args.parent es (body_keeps c.args.header.now (c.args.levels - 1)))
+    (entries_of c.each_act.entries.items) (entries_of c.entry.new.entries.items) (tokens_at c.each_act.cursor)
+    (tokens_at c.entry.new.cursor) _ (sym c.each_act-test.ensures) c.in_ok-entry.ensures c.each_act.invariant
 
 pub acts-returns-in_err-entry : goal.acts-returns-in_err-entry
 acts-returns-in_err-entry t c =
     let p = err_from_is_err_and c.from_residual.result c.from_residual.ensures.1 in
-    rw (p.1, p.2) (breaks (goes_on (codes "}")) (entry c.args.header.now (body c.args.header.now (c.args.levels - 1)) c.args.parent) (λ _. refl) (λ es. entry_takes c.args.header.now _ c.args.parent es (body_keeps c.args.header.now (c.args.levels - 1))) c.in_err-entry.field-0.0 (entries_of c.each_act.entries.items) (tokens_at c.each_act.cursor) _ (sym c.each_act-test.ensures) c.in_err-entry.ensures c.each_act.invariant)
+    rw (p.1, p.2) (breaks (goes_on (codes "}"))
+    (entry c.args.header.now (body c.args.header.now (c.args.levels - 1)) c.args.parent) (λ _. refl)
+    (λ es. entry_takes c.args.header.now _ c.args.parent es (body_keeps c.args.header.now (c.args.levels - 1)))
+    c.in_err-entry.field-0.0 (entries_of c.each_act.entries.items) (tokens_at c.each_act.cursor) _
+    (sym c.each_act-test.ensures) c.in_err-entry.ensures c.each_act.invariant)
 
 pub acts-returns : goal.acts-returns
-acts-returns t c = is_over (goes_on (codes "}")) (entry c.args.header.now (body c.args.header.now (c.args.levels - 1)) c.args.parent) (λ _. refl) (λ es. entry_takes c.args.header.now _ c.args.parent es (body_keeps c.args.header.now (c.args.levels - 1))) (entries_of c.each_act.entries.items) (tokens_at c.each_act.cursor) _ (sym c.each_act-test.ensures) c.each_act.invariant
+acts-returns t c =
+    is_over (goes_on (codes "}")) (entry c.args.header.now (body c.args.header.now (c.args.levels - 1)) c.args.parent)
+    (λ _. refl)
+    (λ es. entry_takes c.args.header.now _ c.args.parent es (body_keeps c.args.header.now (c.args.levels - 1)))
+    (entries_of c.each_act.entries.items) (tokens_at c.each_act.cursor) _ (sym c.each_act-test.ensures)
+    c.each_act.invariant
 
 pub body-returns-in_err-another : goal.body-returns-in_err-another
 body-returns-in_err-another t c =
     let p = err_from_is_err_and c.from_residual.result c.from_residual.ensures.1 in
-    rw (p.1, p.2) (fails_at_brace c.args.header.now c.args.levels c.args.parent (entries_of c.args.entries.now.items) (tokens_at c.args.cursor.now) c.in_err-another.field-0.0 c.in_err-another.ensures.value)
+    rw (p.1, p.2) (fails_at_brace c.args.header.now c.args.levels c.args.parent (entries_of c.args.entries.now.items)
+    (tokens_at c.args.cursor.now) c.in_err-another.field-0.0 c.in_err-another.ensures.value)
 
 pub body-returns-in_err-acts : goal.body-returns-in_err-acts
 body-returns-in_err-acts t c =
     let p = err_from_is_err_and c.from_residual-in_err-acts.result c.from_residual-in_err-acts.ensures.1 in
-    rw (p.1, p.2) (fails_in_acts c.args.header.now c.args.levels c.args.parent (entries_of c.args.entries.now.items) (tokens_at c.args.cursor.now) _ (tokens_at c.another.new.cursor) c.in_ok-another.ensures.value c.in_err-acts.field-0.0 c.in_err-acts.ensures)
+    rw (p.1, p.2) (fails_in_acts c.args.header.now c.args.levels c.args.parent (entries_of c.args.entries.now.items)
+    (tokens_at c.args.cursor.now) _ (tokens_at c.another.new.cursor) c.in_ok-another.ensures.value
+    c.in_err-acts.field-0.0 c.in_err-acts.ensures)
 
 pub body-returns-in_err-word : goal.body-returns-in_err-word
 body-returns-in_err-word t c =
     let p = err_from_is_err_and c.from_residual-in_err-word.result c.from_residual-in_err-word.ensures.1 in
-    rw (p.1, p.2) (fails_at_end c.args.header.now c.args.levels c.args.parent (entries_of c.args.entries.now.items) (tokens_at c.args.cursor.now) _ (tokens_at c.another.new.cursor) c.in_ok-another.ensures.value (entries_of c.acts.new.entries.items) (tokens_at c.acts.new.cursor) c.in_ok-acts.ensures c.in_err-word.field-0.0 c.in_err-word.ensures)
+    rw (p.1, p.2) (fails_at_end c.args.header.now c.args.levels c.args.parent (entries_of c.args.entries.now.items)
+    (tokens_at c.args.cursor.now) _ (tokens_at c.another.new.cursor) c.in_ok-another.ensures.value
+    (entries_of c.acts.new.entries.items) (tokens_at c.acts.new.cursor) c.in_ok-acts.ensures c.in_err-word.field-0.0
+    c.in_err-word.ensures)
 
 pub body-returns : goal.body-returns
-body-returns t c = body_is c.args.header.now c.args.levels c.args.parent (entries_of c.args.entries.now.items) (tokens_at c.args.cursor.now) _ (tokens_at c.another.new.cursor) c.in_ok-another.ensures.value (entries_of c.acts.new.entries.items) (tokens_at c.acts.new.cursor) c.in_ok-acts.ensures _ (tokens_at c.word.new.cursor) c.in_ok-word.ensures
+body-returns t c =
+    body_is c.args.header.now c.args.levels c.args.parent (entries_of c.args.entries.now.items)
+    (tokens_at c.args.cursor.now) _ (tokens_at c.another.new.cursor) c.in_ok-another.ensures.value
+    (entries_of c.acts.new.entries.items) (tokens_at c.acts.new.cursor) c.in_ok-acts.ensures _
+    (tokens_at c.word.new.cursor) c.in_ok-word.ensures

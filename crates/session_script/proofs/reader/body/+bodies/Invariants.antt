@@ -22,7 +22,11 @@ abbrev pub decreases-branch : goal.decreases-branch
 decreases-branch l = 5 * l.levels
 
 abbrev pub invariant-acts-each_act : goal.invariant-acts-each_act
-invariant-acts-each_act l = repeated (goes_on (codes "}")) (entry l.header (body l.header (l.levels - 1)) l.parent) (entries_of l.entries.items) (tokens_at l.cursor) ≡ repeated (goes_on (codes "}")) (entry l.header (body l.header (l.levels - 1)) l.parent) (entries_of l.fn.entries.items) (tokens_at l.fn.cursor)
+invariant-acts-each_act l =
+    repeated (goes_on (codes "}")) (entry l.header (body l.header (l.levels - 1)) l.parent) (entries_of l.entries.items)
+    (tokens_at l.cursor)
+    ≡ repeated (goes_on (codes "}")) (entry l.header (body l.header (l.levels - 1)) l.parent)
+    (entries_of l.fn.entries.items) (tokens_at l.fn.cursor)
 
 abbrev pub decreases-acts-each_act : goal.decreases-acts-each_act
 decreases-acts-each_act l = token_count (tokens_at l.cursor)

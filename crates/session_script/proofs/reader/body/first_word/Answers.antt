@@ -8,4 +8,5 @@ pub returns-clause-room : goal.returns-clause-room
 returns-clause-room c =
     let small : c.args.header.now.limits.acts < 2 ^ 32 = omega arith in
     judged_holds (λ _. c.args.count < 2 ^ 32) _ c.judged.result c.judged.ensures.passed
-    (ok_more (λ _. nat_le c.args.header.now.limits.acts c.args.count ≡ false) (λ _. c.args.count < 2 ^ 32) c.act_word.result (λ _ free. grind (arith, nat_tests)) c.act_word.ensures.room)
+    (ok_more (λ _. nat_le c.args.header.now.limits.acts c.args.count ≡ false) (λ _. c.args.count < 2 ^ 32)
+    c.act_word.result (λ _ free. grind (arith, nat_tests)) c.act_word.ensures.room)

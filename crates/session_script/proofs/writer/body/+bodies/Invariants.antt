@@ -19,4 +19,6 @@ abbrev pub decreases-entries : goal.decreases-entries
 decreases-entries l = 5 * l.levels + 4
 
 abbrev pub invariant-entries-each_act : goal.invariant-entries-each_act
-invariant-entries-each_act l = written l.out.items (flat_map (entry_words (body_words l.levels l.script) l.script) (drop l.a-index l.acts)) ≡ written l.fn.out.items (flat_map (entry_words (body_words l.levels l.script) l.script) l.acts)
+invariant-entries-each_act l =
+    written l.out.items (flat_map (entry_words (body_words l.levels l.script) l.script) (drop l.a-index l.acts))
+    ≡ written l.fn.out.items (flat_map (entry_words (body_words l.levels l.script) l.script) l.acts)

@@ -4,4 +4,5 @@ use Rattle.strand_core.proofs.MovingLemmas.{TakenTo}
 use Rattle.strand_core.proofs.hands.Hands.of_operations.Given as goal
 
 abbrev pub invariant-loop-a : goal.invariant-loop-a
-invariant-loop-a g l = TakenTo (is_op_of l.fn.script l.fn.lane) l.first l.end l.a (handlers_in l.fn.rack) (handlers_in l.rack) (handlers_in l.held)
+invariant-loop-a g l =
+    TakenTo (is_op_of l.fn.script l.fn.lane) l.first l.end l.a (handlers_in l.fn.rack) (handlers_in l.rack) (handlers_in l.held)

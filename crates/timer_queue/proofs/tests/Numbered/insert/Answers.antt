@@ -7,9 +7,14 @@ use Rattle.timer_queue.proofs.tests.Numbered.insert.Goals as goal
 
 pub invariant_of-self : goal.invariant_of-self
 invariant_of-self g c = record {
-  kept = subst (All (λ (wait : Entry). (wait.serial < c.args.self.now.next + 1) × (wait.op + wait.serial ≡ 12))) (sym c.insert_reserved.ensures.waits)
-      (All-put (λ (wait : Entry). (wait.serial < c.args.self.now.next + 1) × (wait.op + wait.serial ≡ 12)) _ c.args.self.now.queue.waits (omega arith, let few = c.args.self.now.few in omega (arith, few))
-      (All-weaker (λ (wait : Entry). (wait.serial < c.args.self.now.next) × (wait.op + wait.serial ≡ 12)) (λ (wait : Entry). (wait.serial < c.args.self.now.next + 1) × (wait.op + wait.serial ≡ 12)) (λ wait h. (omega (arith, h.0), h.1)) c.args.self.now.queue.waits c.args.self.now.kept));
+  kept =
+      subst (All (λ (wait : Entry). (wait.serial < c.args.self.now.next + 1) × (wait.op + wait.serial ≡ 12)))
+      (sym c.insert_reserved.ensures.waits)
+      (All-put (λ (wait : Entry). (wait.serial < c.args.self.now.next + 1) × (wait.op + wait.serial ≡ 12)) _
+      c.args.self.now.queue.waits (omega arith, let few = c.args.self.now.few in omega (arith, few))
+      (All-weaker (λ (wait : Entry). (wait.serial < c.args.self.now.next) × (wait.op + wait.serial ≡ 12))
+      (λ (wait : Entry). (wait.serial < c.args.self.now.next + 1) × (wait.op + wait.serial ≡ 12))
+      (λ wait h. (omega (arith, h.0), h.1)) c.args.self.now.queue.waits c.args.self.now.kept));
   room = let room = c.args.self.now.room in omega (arith, room);
   few = omega arith;
 }

@@ -6,7 +6,8 @@ use Rattle.trace_check.proofs.reading.number.number_of_32.Goals as goal
 pub returns-in_err-value : goal.returns-in_err-value
 returns-in_err-value c =
     let none : number (2 ^ 64) c.args.bytes.now ≡ None = search rules in
-    let narrow : number (2 ^ 32) c.args.bytes.now ≡ None = number_wide_none (2 ^ 32) c.args.bytes.now none (omega arith) in
+    let narrow : number (2 ^ 32) c.args.bytes.now ≡ None =
+    number_wide_none (2 ^ 32) c.args.bytes.now none (omega arith) in
     search rules
 
 pub returns-then-value : goal.returns-then-value

@@ -13,7 +13,12 @@ returns-in_default c = sym (not_text c.args.bytes.now c.in_default.ensures.cases
 pub returns-in-Ok-parse : goal.returns-in-Ok-parse
 returns-in-Ok-parse c =
     let plain : is_plain c.args.bytes.now ≡ true = search rules in
-    sym (parsed c.args.bytes.now c.parse.result c.in-Ok-parse.value plain (subst (λ bytes. ParsesUnsigned 64 10 bytes c.parse.result) c.in-Ok.ensures.cases.0 c.parse.ensures.value.0) c.in-Ok-parse.is)
+    sym (parsed c.args.bytes.now c.parse.result c.in-Ok-parse.value plain
+    (subst (λ bytes. ParsesUnsigned 64 10 bytes c.parse.result) c.in-Ok.ensures.cases.0 c.parse.ensures.value.0)
+    c.in-Ok-parse.is)
 
 pub returns-in-Err : goal.returns-in-Err
-returns-in-Err c = sym (not_parsed c.args.bytes.now c.parse.result c.in-Err.field-0 (subst (λ bytes. ParsesUnsigned 64 10 bytes c.parse.result) c.in-Ok.ensures.cases.0 c.parse.ensures.value.0) c.in-Err.is)
+returns-in-Err c =
+    sym (not_parsed c.args.bytes.now c.parse.result c.in-Err.field-0
+    (subst (λ bytes. ParsesUnsigned 64 10 bytes c.parse.result) c.in-Ok.ensures.cases.0 c.parse.ensures.value.0)
+    c.in-Err.is)

@@ -5,7 +5,8 @@ use Rattle.trace_check.proofs.reading.split.split_once.Goals as goal
 use Rattle.trace_check.proofs.reading.split.split_once.Goals.{then-loop-before-test+else-bytes-before, else-loop-before-test}
 
 pub returns-then-before-bytes : goal.returns-then-before-bytes
-returns-then-before-bytes c = split_nowhere c.args.separator c.args.bytes.now (λ k below. c.loop-before.invariant.other k (omega arith))
+returns-then-before-bytes c =
+    split_nowhere c.args.separator c.args.bytes.now (λ k below. c.loop-before.invariant.other k (omega arith))
 
 pub returns-else-before-bytes : goal.returns-else-before-bytes
 returns-else-before-bytes c =

@@ -7,8 +7,10 @@ use Rattle.turn_table.proofs.table.TurnTable.make.Goals as goal
 
 pub new-requires : goal.new-requires
 new-requires g c = let values = c.into_vec.ensures in
-    opens g.T.Home.home_of (record { lanes = length c.as_slice.result.now; seats = c.args.seats }) c.as_slice-2.result.now c.lay_out-places.result.items c.into_vec.result.items
-    (c.as_slice-2.ensures.value ∙ c.in-Ok.ensures.words) c.lay_out-places.ensures (ap length (values ∙ sym c.as_slice.ensures)) (subst (AreAtHome g.T.Home.home_of) (sym values) c.requires.home)
+    opens g.T.Home.home_of (record { lanes = length c.as_slice.result.now; seats = c.args.seats })
+    c.as_slice-2.result.now c.lay_out-places.result.items c.into_vec.result.items
+    (c.as_slice-2.ensures.value ∙ c.in-Ok.ensures.words) c.lay_out-places.ensures
+    (ap length (values ∙ sym c.as_slice.ensures)) (subst (AreAtHome g.T.Home.home_of) (sym values) c.requires.home)
 
 pub invariant_of-first : goal.invariant_of-first
 invariant_of-first g c = record {
@@ -20,4 +22,7 @@ invariant_of-first g c = record {
 }
 
 pub returns-clause-refused : goal.returns-clause-refused
-returns-clause-refused g c = c.pick_up.ensures c.into_vec.result.items (subst (AreLaid c.into_vec.result.items) (sym c.in-Err-new.ensures.err) c.lay_out-places.ensures) ∙ c.into_vec.ensures
+returns-clause-refused g c =
+    c.pick_up.ensures c.into_vec.result.items
+    (subst (AreLaid c.into_vec.result.items) (sym c.in-Err-new.ensures.err) c.lay_out-places.ensures)
+    ∙ c.into_vec.ensures

@@ -15,7 +15,8 @@ record IsKept (waits : Waiting) (next : ℕ) : Type 0 where
   pub acts : waits.acts ≡ ROOM
   pub counted : waits.accepted ≡ next
 
-kept-without : (found : Option Wait) (waits : Waiting) (next : ℕ) → IsKept waits next → IsKept (without_one found waits) next
+kept-without : (found : Option Wait) (waits : Waiting) (next : ℕ) → IsKept waits next →
+    IsKept (without_one found waits) next
 kept-without None waits next is = is
 kept-without (Some wait) waits next is = record {
   kept = All-filter _ (λ wait. FIRST < wait.op + next) waits.waits is.kept;
