@@ -114,6 +114,7 @@ module _ {H X : Type 0} (script : ScriptModel) (told : Bool) (run drop : ℕ →
           faulted = did.faults ∙ keeps.faulted;
           stopped = λ failed. absurd (cc (works, failed));
           least = keeps.least;
+          stood = keeps.stood;
           rose = keeps.rose;
         };
       }

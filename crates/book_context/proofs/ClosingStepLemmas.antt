@@ -49,6 +49,7 @@ reactor_same state told faults telling named r t view keeps script half fault st
   faulted = fault ∙ keeps.faulted;
   stopped = stopped;
   least = keeps.least;
+  stood = keeps.stood;
   rose = keeps.rose;
 }
 

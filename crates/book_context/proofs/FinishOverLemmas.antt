@@ -72,7 +72,13 @@ module _ {X : Type 0} {state : X → ReactorState} {tells_of : X → Option Outs
         let failed : view.tables.failed ≡ true = sym reactor.faulted ∙ sym kept ∙ shown in
         subst (λ x. Rose named (faults x)) (sym same) (reactor.rose failed)
 
-    -- and where it shows none the reactor has sent what the history has
+    -- and where it shows none the count stands
+    pub stood_at_end : after ≡ view.reactor → (Contains events event.Fault → ⊥) → faults after ≡ named
+    stood_at_end same none =
+        let shown = no_fault t.events (subst (λ es. Contains es event.Fault → ⊥) is none) in
+        ap faults same ∙ reactor.stood (sym reactor.faulted ∙ sym kept ∙ shown)
+
+    -- and the reactor has sent what the history has
     pub sent_at_end :
         ((half : ReactorHalf) → IsSound state tells_of view → Follows tells_of view half →
         StandsAt (state after) (tells_of after) half) →

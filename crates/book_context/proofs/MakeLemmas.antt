@@ -132,6 +132,7 @@ module _ {H X : Type 0} (script : ScriptModel) (told : Bool) (run drop : ℕ →
     faulted = working ∙ sym started.working;
     stopped = λ failed. absurd (let works = started.working in cc (works, failed));
     least = let same = started.counted in omega (arith, same);
+    stood = λ _. started.counted;
     rose = λ failed. absurd (let works = started.working in cc (works, failed));
   }
 

@@ -56,6 +56,7 @@ reactor_request state told faults telling named oldest old new view same keeps =
       faulted = there.faulted;
       stopped = there.stopped;
       least = there.least;
+      stood = there.stood;
       rose = there.rose;
     }
 

@@ -167,6 +167,7 @@ module _ {X : Type 0} (state : X → ReactorState) (told : X → Option Outside)
             ∙ sym failed;
         stopped = λ _. broken.stopped;
         least = let least = keeps.least in omega (arith, least, later);
+        stood = λ works. absurd (cc (failed, works));
         rose = λ _. rose_since named (faults view.reactor) (faults next.reactor) keeps.least later rose;
       }
 
@@ -194,6 +195,7 @@ module _ {X : Type 0} (state : X → ReactorState) (told : X → Option Outside)
         faulted = did.faults ∙ begun.faults ∙ keeps.faulted ∙ going_works going ∙ sym turned.telling.working;
         stopped = λ failed. absurd (let works = turned.telling.working in cc (failed, works));
         least = let least = keeps.least in omega (arith, least, same);
+        stood = λ _. same ∙ keeps.stood (going_works going);
         rose = λ failed. absurd (let works = turned.telling.working in cc (failed, works));
       }
 
@@ -232,6 +234,7 @@ module _ {X : Type 0} (state : X → ReactorState) (told : X → Option Outside)
       faulted = broken.faulted ∙ sym failed;
       stopped = λ _. broken.stopped;
       least = let least = keeps.least in omega (arith, least, later);
+      stood = λ works. absurd (cc (failed, works));
       rose = λ _. rose_since named (faults view.reactor) (faults next.reactor) keeps.least later rose;
     }
 

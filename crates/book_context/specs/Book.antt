@@ -86,8 +86,8 @@ pub record IsTurned {X : Type 0} (state : X → ReactorState) (told : X → Opti
   pub none_due : half.due ≡ []
   pub drained : IsDrained half
 
--- a proactor between its turns; the reactor's count of faults is at least the one that is named,
--- and above it where it has failed
+-- a proactor between its turns; the reactor's count of faults is the one that is named, and above it
+-- where it has failed
 pub record KeepsReactor {X : Type 0} (state : X → ReactorState) (told : X → Option Outside)
     (faults : X → ℕ) (tells_bytes : Bool) (named : ℕ) (r : Recording) (view : ProactorView X)
     : Type 0 where
@@ -99,6 +99,7 @@ pub record KeepsReactor {X : Type 0} (state : X → ReactorState) (told : X → 
   pub faulted : has_fault r.events ≡ view.tables.failed
   pub stopped : view.tables.failed ≡ true → r.stopped ≡ true
   pub least : named ≤ faults view.reactor
+  pub stood : view.tables.failed ≡ false → faults view.reactor ≡ named
   pub rose : view.tables.failed ≡ true → Rose named (faults view.reactor)
 
 -- what a book keeps while its lock is free

@@ -157,6 +157,7 @@ impl<'a, X: Reactor, H: CompletionHandler, N: Session> BookContext<'a, X, H, N> 
         ensures unstopped { N.outside ≡ false → Contains result.0.events (event.Stop None) → ⊥ }
         ensures faults { N.faults ≤ X.faults result.1 }
         ensures rose { Contains result.0.events event.Fault → Rose N.faults (X.faults result.1) }
+        ensures stood { (Contains result.0.events event.Fault → ⊥) → X.faults result.1 ≡ N.faults }
         ensures set_up { result.0.events ≡ event.Fault ∷ [] → ⊥ }
         ensures up { IsTrue (X.state result.1).up }
         ensures now { (X.state result.1).now

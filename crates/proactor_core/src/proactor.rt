@@ -255,8 +255,6 @@ impl<'a, X: Reactor> Proactor<'a, X> {
         ensures taken { result ≡ slice_index_or self.now.tables.taken a true }
         ensures half { (half : ReactorHalf) → Follows X.told self.now half →
             result ≡ was_taken half a }
-        ensures all { (half : ReactorHalf) → Follows X.told self.now half →
-            half.taken ≡ self.now.tables.taken }
     {
         self.tables.was_taken(a)
     }

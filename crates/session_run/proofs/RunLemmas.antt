@@ -36,6 +36,7 @@ pub record Finished (script : ScriptModel) (told : Bool) (run drop : ℕ → ℕ
   pub marked : HasMarks run drop events
   pub unstopped : Contains events (event.Stop None) → ⊥
   pub rose : ShowsFault events → Rose before after
+  pub stood : ShowsNoFault events → after ≡ before
   pub set_up : events ≡ event.Fault ∷ [] → ⊥
   pub up : IsTrue state.up
   pub now : state.now ≡ (state_of script told events).reactor.now
@@ -72,6 +73,7 @@ run_by_names marks script told run drop before after events state first outside 
       spent = spent;
       unstopped = f.unstopped;
       faults = f.rose;
+      stood = f.stood;
       set_up = (λ alone. absurd (f.set_up alone), λ down. cc (down, f.up));
       now = λ up. subst (λ told. state.now ≡ (state_of script told events).reactor.now) told_is f.now;
       sent = λ quiet. subst (λ told. MatchOption (option_map sent_outside outside) ⊤

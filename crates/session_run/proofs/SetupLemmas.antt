@@ -41,6 +41,7 @@ broken_run marks script reactor old new spent down rose =
       spent = spent;
       unstopped = not_stopped;
       faults = λ shown. rose;
+      stood = λ quiet. absurd (quiet (0, omega arith, refl));
       set_up = (λ alone. down, λ same. refl);
       now = λ up. absurd (cc (up, down));
       sent = λ quiet. absurd (quiet (0, omega arith, refl));

@@ -1,5 +1,5 @@
 -- What each status says of a session.
-use Rattle.std.specs.Prelude.{◌≡◌, ◌⊎◌, ◌≤◌, ℕ, List, Some, ⊤}
+use Rattle.std.specs.Prelude.{◌≡◌, ◌⊎◌, ℕ, List, Some, ⊤}
 use Rattle.asio_types.specs.Faults.{Rose}
 use Rattle.asio_types.specs.declared.event.Event.{Event}
 use Rattle.session_script.specs.Script.{ScriptModel}
@@ -125,10 +125,9 @@ LeavesReactor status.WriteFault = ⊥
 LeavesReactor status.ReactorFault = ⊥
 LeavesReactor status.NoMemory = ⊥
 
--- The reactor's count of faults rises with status 5, doesn't fall with status 0, and may have risen
--- with status 4, whose history tells it. Every other status leaves it.
+-- The reactor's count of faults rises with status 5, and may have risen with status 4, whose history
+-- tells it. Every other status leaves it.
 abbrev pub CountsReactor : Status → ℕ → ℕ → Type 0
-CountsReactor status.Done before after = before ≤ after
 CountsReactor status.WriteFault before after = ⊤
 CountsReactor status.ReactorFault before after = Rose before after
 CountsReactor other before after = after ≡ before

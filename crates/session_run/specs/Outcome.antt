@@ -1,5 +1,5 @@
 -- How the work on a script ended.
-use Rattle.std.specs.Prelude.{◌≡◌, ◌≤◌, ℕ, List, ⊤}
+use Rattle.std.specs.Prelude.{◌≡◌, ℕ, List, ⊤}
 use Rattle.asio_types.specs.Faults.{Rose}
 use Rattle.asio_types.specs.declared.event.Event.{Event}
 use Rattle.session_script.specs.Script.{ScriptModel}
@@ -55,9 +55,9 @@ CountsWriting outcome.WriteFault before after = Rose before after
 CountsWriting other before after = after ≡ before
 
 -- the reactor's count of faults rises where it failed, may have risen where writing failed, and
--- else doesn't fall
+-- stands else
 abbrev pub CountsRunning : Outcome → ℕ → ℕ → Type 0
-CountsRunning outcome.Done before after = before ≤ after
+CountsRunning outcome.Done before after = after ≡ before
 CountsRunning outcome.WriteFault before after = ⊤
 CountsRunning outcome.ReactorFault before after = Rose before after
 CountsRunning outcome.NoMemory before after = after ≡ before

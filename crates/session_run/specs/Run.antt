@@ -39,8 +39,9 @@ pub record IsRunOf {H : Type 0} (marks : H → Marks) (script : ScriptModel) (re
   pub spent : AllTaken old new
   -- nobody stopped the context from outside
   pub unstopped : Contains events (event.Stop None) → ⊥
-  -- a fault stands only where the reactor failed
+  -- a fault stands exactly where the reactor failed
   pub faults : ShowsFault events → Rose reactor.sent.faults_before reactor.sent.faults_after
+  pub stood : ShowsNoFault events → reactor.sent.faults_after ≡ reactor.sent.faults_before
   -- a fault stands alone exactly where the reactor couldn't be set up
   pub set_up : (events ≡ event.Fault ∷ []) ↔ (reactor.up ≡ false)
   -- else the reactor's time is that of the last state

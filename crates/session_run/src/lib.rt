@@ -1,7 +1,8 @@
 //! Whole sessions: a script is read from a source, run on one io_context over the caller's reactor,
 //! with the caller's handlers and as many threads as each round says, and its history is written to
-//! a sink; or the script is upgraded, and the text of its upgrade is written. Each status is
-//! answered exactly with its cause. The program stands on it.
+//! a sink; or a script is made from two numbers, run so, and the summary of its history is written;
+//! or a script is upgraded, and the text of its upgrade is written. Each status is answered exactly
+//! with its cause. The program stands on it.
 #![tactic(auto)]
 
 mod broken;

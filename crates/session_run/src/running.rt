@@ -1,4 +1,4 @@
-ghost use Rattle.std.specs.Prelude.{◌≡◌, ◌≤◌, false, is_some, length, IfErr, IfOk, OnErr};
+ghost use Rattle.std.specs.Prelude.{◌≡◌, false, is_some, length, IfErr, IfOk, OnErr};
 ghost use Rattle.op_handlers.specs.Rack.{IsWholeRack, handlers_in};
 ghost use Rattle.session_script.specs.Limits.{most_acts};
 ghost use Rattle.session_run.specs.Form.{IsRunning};
@@ -43,8 +43,8 @@ fn run_named<
     requires count { length (handlers_in rack.old) ≡ most_acts }
     ensures ran { IfOk result (λ ran. IsRunOf H.marks script.now
         (seen_reactor X.state X.told X.faults reactor ran.1) rack.old rack.new ran.0.events) }
-    ensures later { IfOk result
-        (λ ran. ShowsNoFault ran.0.events → X.faults reactor ≤ X.faults ran.1) }
+    ensures stood { IfOk result
+        (λ ran. ShowsNoFault ran.0.events → X.faults ran.1 ≡ X.faults reactor) }
     ensures kept { OnErr result (handlers_in rack.new ≡ handlers_in rack.old) }
     ensures counts { IfErr result (λ back. X.faults back ≡ X.faults reactor) }
 {

@@ -38,6 +38,7 @@ returns-clause-ran g c =
       marked = c.finish-ran.ensures.marked;
       unstopped = c.finish-ran.ensures.unstopped c.requires.inside;
       rose = c.finish-ran.ensures.rose;
+      stood = c.finish-ran.ensures.stood;
       set_up = c.finish-ran.ensures.set_up;
       up = c.finish-ran.ensures.up;
       now = c.finish-ran.ensures.now;

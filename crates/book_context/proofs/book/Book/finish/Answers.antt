@@ -2,7 +2,7 @@ use Rattle.std.proofs.Common.{◌∙◌, ap, sym, subst}
 use Rattle.book_context.specs.Book.{BookView, has_outside_stop}
 use Rattle.book_context.specs.BookSteps.{IsBookOver}
 use Rattle.book_context.proofs.FinishLemmas.{no_stop}
-use Rattle.book_context.proofs.FinishOverLemmas.{begin_ending, over_legal, rose_at_end, sent_at_end}
+use Rattle.book_context.proofs.FinishOverLemmas.{begin_ending, over_legal, rose_at_end, sent_at_end, stood_at_end}
 use Rattle.book_context.proofs.book.Book.finish.Goals as goal
 
 pub discard_unspent-left-requires : goal.discard_unspent-left-requires
@@ -30,6 +30,12 @@ returns-clause-rose g c =
     rose_at_end c.self.invariant.history c.self.invariant.reactor c.discard_unspent-left.new.record c.into_history.result.events
     (ap (λ h. h.events) c.into_history.ensures) c.discard_unspent-left.ensures.faults c.into_reactor.result
     c.into_reactor.ensures.reactor
+
+pub returns-clause-stood : goal.returns-clause-stood
+returns-clause-stood g c =
+    stood_at_end c.self.invariant.history c.self.invariant.reactor c.discard_unspent-left.new.record
+    c.into_history.result.events (ap (λ h. h.events) c.into_history.ensures) c.discard_unspent-left.ensures.faults
+    c.into_reactor.result c.into_reactor.ensures.reactor
 
 pub returns-clause-sent : goal.returns-clause-sent
 returns-clause-sent g c =

@@ -9,8 +9,3 @@ returns-clause-half g c = λ half is.
     let here = rw (← c.self.view_is) at is in
     c.was_taken.ensures ∙ get_or_default c.self.inside.tables.taken c.args.a true false within
     ∙ ap (λ (all : List Bool). get_or all c.args.a false) (sym (taken-alike g.X.Reactor.told _ half here))
-
-pub returns-clause-all : goal.returns-clause-all
-returns-clause-all g c = λ half is.
-    let here = rw (← c.self.view_is) at is in
-    rw (← c.self.view_is) (taken-alike g.X.Reactor.told _ half here)
