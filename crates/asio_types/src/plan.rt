@@ -1,4 +1,4 @@
-ghost use Rattle.std.specs.Prelude.{◌≡◌, ◌≤◌, ℕ, List, Contains, IsTrue, ◌↔◌, IfOk, if◌then◌else◌};
+ghost use Rattle.std.specs.Prelude.{◌≡◌, ◌≤◌, Contains, IsTrue, ◌↔◌, IfOk};
 ghost use Rattle.asio_types.specs.Faults.{Rose, next_call, one_more};
 
 use crate::failure::NoMemory;

@@ -1,4 +1,4 @@
-ghost use Rattle.std.specs.Prelude.{◌≡◌, ℕ, ◌<◌, ◌≤◌, ◌↔◌, [], length, take, min, Some, IfOk, IsErr, OnErr};
+ghost use Rattle.std.specs.Prelude.{◌≡◌, ◌<◌, ◌≤◌, ◌↔◌, [], length, take, min, Some, IfOk, IsErr, OnErr};
 ghost use Rattle.asio_types.specs.Faults.{CountsFaults, one_more};
 ghost use Rattle.asio_types.specs.Sink.{Extends, holding_more};
 

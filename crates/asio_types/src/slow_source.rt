@@ -1,4 +1,4 @@
-ghost use Rattle.std.specs.Prelude.{◌≡◌, ℕ, ◌<◌, ◌≤◌, length, drop, Some, min, IsOk, IfOk};
+ghost use Rattle.std.specs.Prelude.{◌≡◌, ◌<◌, ◌≤◌, length, drop, Some, min, IsOk, IfOk};
 ghost use Rattle.asio_types.specs.Source.{GivesNext, LosesFirst};
 
 use crate::failure::{Failed, NoMemory};

@@ -1,4 +1,4 @@
-ghost use Rattle.std.specs.Prelude.{◌≡◌, ℕ, ◌<◌, ◌≤◌, [], length, take, IsOk, IfOk};
+ghost use Rattle.std.specs.Prelude.{◌≡◌, ◌<◌, ◌≤◌, [], length, take, IsOk, IfOk};
 ghost use Rattle.asio_types.specs.Sink.{Extends, held_or_lost, told_unless_lost};
 
 use crate::failure::{Failed, NoMemory};

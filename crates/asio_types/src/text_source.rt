@@ -1,4 +1,4 @@
-ghost use Rattle.std.specs.Prelude.{◌≡◌, ℕ, ◌<◌, ◌≤◌, ◌↔◌, length, drop, min, Some, Contains, IfOk, IsErr, OnErr};
+ghost use Rattle.std.specs.Prelude.{◌≡◌, ◌<◌, ◌≤◌, ◌↔◌, length, drop, min, Some, Contains, IfOk, IsErr, OnErr};
 ghost use Rattle.asio_types.specs.Faults.{CountsFaults, next_call, plan_called, plan_failed};
 ghost use Rattle.asio_types.specs.Source.{GivesNext, LosesFirst, KeepsLeft};
 

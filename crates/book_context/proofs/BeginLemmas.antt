@@ -1,17 +1,18 @@
 -- How a turn of the reactor begins, and how it breaks off.
-use Rattle.std.proofs.Common.{◌≡◌, ◌≢◌, ℕ, Bool, true, false, List, [], ◌∷◌, ◌++◌, refl, sym, ap, subst, ◌∙◌}
+use Rattle.std.proofs.Common.{◌≡◌, ◌≢◌, ℕ, Bool, false, [], ◌∷◌, refl, ap, ◌∙◌}
 use Rattle.std.proofs.lemmas.List.Folds.{list_any-append}
 use Rattle.asio_types.specs.declared.event.Event.{Event}
 use Rattle.asio_types.specs.declared.event.Event.TheVariants as event
 use Rattle.asio_types.specs.declared.outside.Point.{Point}
 use Rattle.asio_types.specs.declared.outside.Point.TheVariants as point
 use Rattle.session_script.specs.Script.{ScriptModel}
+use Rattle.history_book.specs.FromOutside.{has_outside_stop, is_outside_stop}
 use Rattle.history_book.specs.Legal.{after_event}
 use Rattle.history_book.specs.Requests.{reactor_after_take}
 use Rattle.history_book.specs.State.{ReactorHalf, State}
 use Rattle.history_book.specs.Time.{next_time}
 use Rattle.proactor_core.specs.Proactor.{after_point}
-use Rattle.book_context.specs.Book.{KeepsHistory, has_outside_stop, is_outside_stop}
+use Rattle.book_context.specs.Book.{KeepsHistory}
 use Rattle.book_context.specs.BookSteps.{BeginsTurn, passed}
 use Rattle.book_context.specs.InTurn.{HasBegun}
 use Rattle.book_context.specs.Oldest.{with_request}

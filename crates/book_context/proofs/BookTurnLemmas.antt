@@ -1,20 +1,19 @@
 -- What a turn makes of a book, and what it answers.
-use Rattle.std.proofs.Common.{◌≡◌, ℕ, Bool, true, false, not, List, ◌++◌, Option, inl, inr, refl, sym, ap, subst, ◌∙◌}
+use Rattle.std.proofs.Common.{◌≡◌, ℕ, Bool, true, false, not, Option, inr, refl, sym, ap, subst, ◌∙◌}
 use Rattle.std.specs.Prelude.{◌||◌}
-use Rattle.std.specs.Option.{option_map}
 use Rattle.op_handlers.specs.Marks.{Marks}
 use Rattle.session_script.specs.Script.{ScriptModel, is_op}
 use Rattle.history_book.specs.Rounds.{RoundIsOpen}
 use Rattle.history_book.specs.State.{ReactorHalf}
 use Rattle.reactor_trait.specs.Reactor.{Outside, ReactorState}
 use Rattle.proactor_core.specs.Proactor.{ProactorView}
-use Rattle.strand_core.specs.Hands.{Held, held_at}
+use Rattle.strand_core.specs.Hands.{Held}
 use Rattle.book_context.specs.declared.answer.BookTurn.{BookTurn}
 use Rattle.book_context.specs.declared.answer.BookTurn.TheVariants as turn
 use Rattle.book_context.specs.Book.{BookView, HoldsUnspent, IsBook, ReactorKeepsTime, IsTurned, KeepsHistory, KeepsReactor, unless_spent}
 use Rattle.book_context.specs.BookSteps.{TurnAnswers, IsGoing, IsIdleRound, is_round_open}
 use Rattle.book_context.specs.InTurn.{HasExecutedNext, HasTakenNext, SpendsNone, TurnsReactor, Waits}
-use Rattle.book_context.specs.Recorded.{is_spent_at, recorded_half, recorded_state}
+use Rattle.book_context.specs.Recorded.{is_spent_at, recorded_state}
 use Rattle.book_context.specs.Recording.{Recording}
 use Rattle.book_context.specs.Steps.{IsRoundOpen, OpenRoundsAreKnown}
 use Rattle.book_context.proofs.OpenRoundLemmas.{closed_round, now_going}

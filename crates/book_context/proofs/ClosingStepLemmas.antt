@@ -1,6 +1,6 @@
 -- What closings, restarts and stops from outside make of what a book keeps.
-use Rattle.std.proofs.Common.{◌≡◌, ℕ, Bool, true, false, not, List, [], ◌∷◌, ◌++◌, Option, Some, None, refl, sym, ap, subst, ◌∙◌, arith}
-use Rattle.std.specs.Prelude.{◌||◌, ◌&&◌, slice_get}
+use Rattle.std.proofs.Common.{◌≡◌, ℕ, Bool, true, false, not, List, [], ◌∷◌, ◌++◌, Option, Some, None, refl, sym, ap, subst, ◌∙◌}
+use Rattle.std.specs.Prelude.{◌||◌, ◌&&◌}
 use Rattle.std.proofs.lemmas.List.Folds.{list_any-append}
 use Rattle.std.proofs.lemmas.Option.{slice_get_within}
 use Rattle.asio_types.specs.declared.event.Event.{Event}
@@ -8,13 +8,14 @@ use Rattle.asio_types.specs.declared.event.Event.TheVariants as event
 use Rattle.op_handlers.specs.Marks.{Marks}
 use Rattle.session_script.specs.Script.{ScriptModel, is_op}
 use Rattle.session_script.specs.declared.round.Round.{Round}
+use Rattle.history_book.specs.FromOutside.{has_fault, is_fault}
 use Rattle.history_book.specs.Legal.{reactor_after}
 use Rattle.history_book.specs.Rounds.{MayRestart, restarts}
 use Rattle.history_book.specs.State.{ReactorHalf, State}
 use Rattle.reactor_trait.specs.Reactor.{Outside, ReactorState}
 use Rattle.proactor_core.specs.Proactor.{ProactorView}
 use Rattle.strand_core.specs.Hands.{Held}
-use Rattle.book_context.specs.Book.{HoldsUnspent, IsBook, ReactorKeepsTime, IsTurned, KeepsHistory, KeepsReactor, has_fault, is_fault, unless_spent}
+use Rattle.book_context.specs.Book.{HoldsUnspent, IsBook, ReactorKeepsTime, IsTurned, KeepsHistory, KeepsReactor, unless_spent}
 use Rattle.book_context.specs.BookSteps.{IsClosing, IsGoing, is_round_open, open_round, wants_restart, wants_with}
 use Rattle.book_context.specs.InTurn.{SpendsNone}
 use Rattle.book_context.specs.Recorded.{IsRecorded, is_spent_at, recorded_half, recorded_state}

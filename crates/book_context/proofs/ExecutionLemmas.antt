@@ -1,28 +1,26 @@
 -- What the execution of the oldest ready operation makes of what a book keeps.
-use Rattle.std.proofs.Common.{◌≡◌, ◌⊎◌, ℕ, Bool, true, false, not, cond, List, [], ◌∷◌, ◌++◌, Option, Some, None, IsSome, inl, inr, length, refl, sym, ap, subst, ◌∙◌}
+use Rattle.std.proofs.Common.{◌≡◌, ℕ, Bool, true, false, not, cond, List, [], ◌∷◌, ◌++◌, Option, Some, None, IsSome, inl, refl, sym, ap, subst, ◌∙◌}
 use Rattle.std.specs.Prelude.{◌||◌}
 use Rattle.std.specs.Option.{option_map}
-use Rattle.std.specs.List.{list_any}
-use Rattle.std.proofs.lemmas.Bool.{cases_Bool}
 use Rattle.std.proofs.lemmas.List.Folds.{list_any-append}
 use Rattle.asio_types.specs.declared.code.Code.{Code}
 use Rattle.asio_types.specs.declared.code.Code.TheVariants as code
 use Rattle.asio_types.specs.declared.event.Event.{Event}
 use Rattle.asio_types.specs.declared.event.Event.TheVariants as event
 use Rattle.op_handlers.specs.Marks.{Marks}
-use Rattle.session_script.specs.Script.{ScriptModel, branch_of, is_op, stops}
+use Rattle.session_script.specs.Script.{ScriptModel, is_op, stops}
 use Rattle.session_script.specs.Lanes.{is_inline}
-use Rattle.history_book.specs.Marks.{HasMarks, ShowsMark}
+use Rattle.history_book.specs.FromOutside.{has_fault, has_outside_stop, is_outside_stop}
 use Rattle.strand_core.specs.declared.posted.Posted.{Posted}
 use Rattle.strand_core.specs.declared.posted.Posted.TheVariants as posted
 use Rattle.strand_core.specs.Answer.{CanExecute}
 use Rattle.strand_core.specs.Execution.{AnyMark, AreCalls, no_act, outside, inside, IsWholeExecution, events_of, execution_of}
-use Rattle.strand_core.specs.Hands.{HasRunMark, Held, begins, held_at, left_at}
-use Rattle.book_context.specs.Book.{HoldsUnspent, KeepsHistory, has_fault, has_outside_stop, is_fault, is_outside_stop, unless_spent}
+use Rattle.strand_core.specs.Hands.{Held, begins, held_at, left_at}
+use Rattle.book_context.specs.Book.{HoldsUnspent, KeepsHistory, unless_spent}
 use Rattle.book_context.specs.BookSteps.{HasGoneOn}
 use Rattle.book_context.specs.InTurn.{KeepsFaults}
 use Rattle.book_context.specs.Oldest.{with_ready}
-use Rattle.book_context.specs.Recorded.{IsRecorded, is_spent_at, recorded_half}
+use Rattle.book_context.specs.Recorded.{is_spent_at, recorded_half}
 use Rattle.book_context.specs.Recording.{HasRecorded, HasRoomForCalls, Recording, with_calls}
 use Rattle.book_context.specs.Steps.{ExecutionsAreRecorded, ExecutionIsRecorded, IsRoundOpen, MayExecute, OldestMayExecute}
 use Rattle.book_context.proofs.BookHistoryLemmas.{IsPlain, faults-plain, history-plain}

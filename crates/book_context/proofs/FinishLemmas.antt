@@ -13,7 +13,8 @@ use Rattle.session_script.specs.Lanes.{is_inline}
 use Rattle.session_script.specs.Script.{is_op}
 use Rattle.strand_core.specs.Hands.{Held, held_at}
 use Rattle.strand_core.proofs.HandLemmas.{taken_other}
-use Rattle.book_context.specs.Book.{has_fault, has_outside_stop, is_fault, is_outside_stop, unless_spent}
+use Rattle.history_book.specs.FromOutside.{has_fault, has_outside_stop, is_fault, is_outside_stop}
+use Rattle.book_context.specs.Book.{unless_spent}
 use Rattle.book_context.specs.DropSteps.{DropsGoOn, HasDropped, InlineAreSpent, SpentArePassed, UnspentAreCalled, is_unspent_at}
 use Rattle.book_context.specs.Finish.{IsEnding}
 use Rattle.book_context.specs.InTurn.{KeepsFaults}

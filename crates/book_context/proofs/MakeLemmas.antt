@@ -1,25 +1,25 @@
 -- What a book keeps from the calls of `open` on.
-use Rattle.std.proofs.Common.{◌≡◌, ℕ, ◌≤◌, Bool, true, false, not, List, [], ◌∷◌, ◌++◌, Option, Some, None, IsSome, refl, sym, ap, subst, ◌∙◌, arith}
-use Rattle.std.specs.Prelude.{◌||◌, All, IsTrue}
+use Rattle.std.proofs.Common.{◌≡◌, ℕ, Bool, true, false, not, List, Option, Some, None, IsSome, refl, sym, ap, subst, ◌∙◌, arith}
+use Rattle.std.specs.Prelude.{◌||◌, IsTrue}
 use Rattle.std.specs.Option.{option_map}
-use Rattle.std.specs.List.{list_any}
 use Rattle.std.proofs.lemmas.List.Folds.{list_any_none}
 use Rattle.asio_types.specs.declared.event.Event.{Event}
 use Rattle.asio_types.specs.declared.event.Event.TheVariants as event
 use Rattle.asio_types.specs.declared.outside.SetupFault.{SetupFault}
 use Rattle.asio_types.specs.declared.outside.SetupFault.TheVariants as setup_fault
 use Rattle.op_handlers.specs.Marks.{Marks}
-use Rattle.session_script.specs.Script.{ScriptModel, is_op, opening_of}
+use Rattle.session_script.specs.Script.{ScriptModel, is_op}
 use Rattle.session_script.specs.WellFormed.{IsWellFormed}
+use Rattle.history_book.specs.FromOutside.{has_fault, has_outside_stop, is_fault, is_outside_stop}
 use Rattle.history_book.specs.State.{ReactorHalf, first_reactor}
 use Rattle.reactor_trait.specs.Reactor.{Outside, ReactorState}
-use Rattle.proactor_core.specs.Proactor.{Follows, SetupIsRefused, ProactorView, tells}
+use Rattle.proactor_core.specs.Proactor.{SetupIsRefused, ProactorView, tells}
 use Rattle.strand_core.specs.Execution.{events_of}
-use Rattle.strand_core.specs.Hands.{Held, held_at, taken_at}
+use Rattle.strand_core.specs.Hands.{Held, taken_at}
 use Rattle.book_context.specs.Begun.{HoldsAll, IsStarted}
-use Rattle.book_context.specs.Book.{HoldsUnspent, IsBook, ReactorKeepsTime, IsTurned, KeepsHistory, KeepsReactor, has_fault, has_outside_stop, is_fault, is_outside_stop, unless_spent}
+use Rattle.book_context.specs.Book.{HoldsUnspent, IsBook, IsTurned, KeepsHistory, KeepsReactor, unless_spent}
 use Rattle.book_context.specs.Left.{most_history}
-use Rattle.book_context.specs.Recorded.{IsRecorded, is_spent_at, recorded_half}
+use Rattle.book_context.specs.Recorded.{recorded_half}
 use Rattle.book_context.specs.Recording.{HasCalledOpening, Recording, new_recording, with_calls}
 use Rattle.book_context.specs.Shown.{CallsShowTheirEvents, OpeningsShowNoMarks, is_of_call}
 use Rattle.book_context.specs.Steps as steps

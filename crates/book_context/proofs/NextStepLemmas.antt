@@ -1,5 +1,5 @@
 -- The oldest entry of a list that was taken off it.
-use Rattle.std.proofs.Common.{◌≡◌, ℕ, Bool, false, true, List, [], ◌∷◌, ◌++◌, Option, sym, ap, subst, ◌∙◌}
+use Rattle.std.proofs.Common.{◌≡◌, ℕ, Bool, [], ◌∷◌, ◌++◌, Option, sym, ap, subst, ◌∙◌}
 use Rattle.asio_types.specs.declared.code.Code.{Code}
 use Rattle.asio_types.specs.declared.event.Event.TheVariants as event
 use Rattle.reactor_trait.specs.Reactor.{Outside, ReactorState}
@@ -7,9 +7,10 @@ use Rattle.proactor_core.specs.Proactor.{ProactorView}
 use Rattle.op_handlers.specs.Marks.{Marks}
 use Rattle.session_script.specs.Script.{ScriptModel}
 use Rattle.strand_core.specs.Hands.{Held}
+use Rattle.history_book.specs.FromOutside.{has_fault}
 use Rattle.book_context.specs.declared.answer.BookTurn.{BookTurn}
 use Rattle.book_context.specs.declared.answer.BookTurn.TheVariants as turn
-use Rattle.book_context.specs.Book.{HoldsUnspent, ReactorKeepsTime, IsTurned, KeepsHistory, KeepsReactor, has_fault}
+use Rattle.book_context.specs.Book.{HoldsUnspent, KeepsHistory, KeepsReactor}
 use Rattle.book_context.specs.BookSteps.{HasGoneOn}
 use Rattle.book_context.specs.InTurn.{HasExecutedNext, HasTakenNext, KeepsFaults, SpendsNone, TurnsReactor}
 use Rattle.book_context.specs.Oldest.{with_ready, with_request}

@@ -1,15 +1,13 @@
 -- Whether a round is open, and what a context at rest has to do in it.
-use Rattle.std.proofs.Common.{◌≡◌, ◌⊎◌, ℕ, ◌+◌, ◌<◌, ◌≤◌, ◌^◌, Bool, true, false, not, List, [], ◌∷◌, Option, Some, None, inl, inr, zero, suc, length, refl, sym, ap, subst, ◌∙◌, arith}
-use Rattle.std.specs.Prelude.{◌||◌, ◌&&◌, count_by, slice_get}
+use Rattle.std.proofs.Common.{◌≡◌, ℕ, ◌+◌, ◌<◌, ◌≤◌, ◌^◌, Bool, true, false, not, List, [], ◌∷◌, Option, Some, None, zero, suc, length, refl, sym, ap, subst, ◌∙◌, arith}
+use Rattle.std.specs.Prelude.{◌||◌, count_by, slice_get}
 use Rattle.std.proofs.lemmas.Grind.{common_steps}
 use Rattle.std.proofs.lemmas.Option.{slice_get_within}
-use Rattle.asio_types.specs.declared.code.Code.{Code}
 use Rattle.session_script.specs.Limits.{limits_of}
 use Rattle.session_script.specs.Script.{ScriptModel}
 use Rattle.session_script.specs.WellFormed.{IsWellFormed}
 use Rattle.session_script.specs.declared.round.Round.{Round}
 use Rattle.history_book.specs.Rounds.{AllQuiet, RoundIsOpen, is_held, outstanding_work, restarts, runs, this_round}
-use Rattle.history_book.specs.State.{ReactorHalf, State}
 use Rattle.history_book.specs.Time.{pending_count}
 use Rattle.book_context.specs.BookSteps.{IsGoing, IsIdleRound, is_round_open, is_open_with, open_round}
 use Rattle.book_context.specs.Next.{NothingLeftIsQuiet}

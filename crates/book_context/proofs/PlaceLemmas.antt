@@ -6,7 +6,7 @@ use Rattle.asio_types.specs.Faults.{most_faults}
 use Rattle.session_script.specs.Script.{Entry, Place, ScriptModel, numbers_in, parent_of, same_place}
 use Rattle.session_script.specs.WellFormed.{HasParent, IsWellFormed}
 use Rattle.session_script.proofs.OrderLemmas.{same_place-true}
-use Rattle.session_script.proofs.Places.{acts_allowed}
+use Rattle.session_script.proofs.PlacesLemmas.{acts_allowed}
 use Rattle.session_script.proofs.PlacingLemmas.{has_parent}
 use Rattle.book_context.proofs.StateLemmas.{IsBehind, acts_in}
 

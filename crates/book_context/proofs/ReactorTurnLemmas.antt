@@ -1,5 +1,5 @@
 -- What a turn of the reactor makes of what a book keeps.
-use Rattle.std.proofs.Common.{◌≡◌, ◌≢◌, ◌⊎◌, ℕ, ◌+◌, ◌<◌, ◌≤◌, Bool, true, false, List, [], ◌∷◌, ◌++◌, Option, Some, None, inl, inr, zero, suc, length, refl, sym, ap, subst, ◌∙◌, arith}
+use Rattle.std.proofs.Common.{◌≡◌, ◌≢◌, ℕ, ◌+◌, ◌<◌, ◌≤◌, Bool, true, false, List, [], ◌∷◌, ◌++◌, Option, Some, None, inl, inr, zero, suc, length, refl, sym, ap, subst, ◌∙◌, arith}
 use Rattle.std.specs.Prelude.{IfSome, IsTrue, ◌||◌, replicate, slice_index_or, sum_by}
 use Rattle.std.proofs.lemmas.Bool.{cases_Bool, cases_lt}
 use Rattle.std.proofs.lemmas.List.{append_assoc}
@@ -7,12 +7,12 @@ use Rattle.std.proofs.lemmas.List.Elements.{All-cons, All-nil}
 use Rattle.std.proofs.lemmas.List.Folds.{list_any-append}
 use Rattle.std.proofs.lemmas.List.Sums.{sum_by-cons}
 use Rattle.asio_types.specs.Faults.{Rose, most_faults}
-use Rattle.asio_types.specs.declared.event.Event.{Event}
 use Rattle.asio_types.specs.declared.event.Event.TheVariants as event
 use Rattle.asio_types.specs.declared.outside.Point.{Point}
 use Rattle.asio_types.specs.declared.outside.Point.TheVariants as point
 use Rattle.session_script.specs.declared.act.Act.{Act}
 use Rattle.session_script.specs.Script.{ScriptModel, act_of}
+use Rattle.history_book.specs.FromOutside.{has_fault, is_fault}
 use Rattle.history_book.specs.Legal.{state_of}
 use Rattle.history_book.specs.Performing.{performed, performed_by}
 use Rattle.history_book.specs.Requests.{reactor_after_take}
@@ -21,7 +21,7 @@ use Rattle.history_book.specs.Time.{next_time, pending_count}
 use Rattle.reactor_trait.specs.Reactor.{Outside, ReactorState, state_at}
 use Rattle.proactor_core.specs.Proactor.{Follows, IsSound, ProactorView, after_point, moved_state, tells}
 use Rattle.proactor_core.specs.Room.{IsUntaken}
-use Rattle.book_context.specs.Book.{ReactorKeepsTime, IsTurned, KeepsReactor, has_fault, is_fault}
+use Rattle.book_context.specs.Book.{ReactorKeepsTime, IsTurned, KeepsReactor}
 use Rattle.book_context.specs.BookSteps.{BeginsTurn, HasFaulted}
 use Rattle.book_context.specs.InTurn.{HasBegun, HasBroken, HasBrokenOff, HasOnlyTold, HasWholeTurn, IsInTurn, moved_half}
 use Rattle.book_context.specs.Oldest.{with_request}

@@ -8,7 +8,7 @@ use Rattle.asio_types.specs.declared.event.Event.{Event}
 use Rattle.session_script.specs.Limits.{limits_of}
 use Rattle.session_script.specs.Script.{ScriptModel}
 use Rattle.session_script.specs.WellFormed.{IsWellFormed}
-use Rattle.session_script.proofs.Places.{acts_allowed}
+use Rattle.session_script.proofs.PlacesLemmas.{acts_allowed}
 use Rattle.history_book.specs.Legal.{MayHappen, after_event}
 use Rattle.history_book.specs.Rounds.{RoundIsOpen, restarts}
 use Rattle.history_book.specs.State.{State, call_at, phase_at}

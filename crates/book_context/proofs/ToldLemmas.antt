@@ -1,26 +1,24 @@
 -- A completion is told, and a turn that is told whole.
-use Rattle.std.proofs.Common.{◌≡◌, ◌≢◌, ℕ, ◌+◌, ◌-◌, ◌<◌, ◌≤◌, Bool, true, false, List, [], ◌∷◌, ◌++◌, Option, Some, None, IsSome, length, refl, sym, ap, subst, ◌∙◌, arith}
+use Rattle.std.proofs.Common.{◌≡◌, ℕ, Bool, [], ◌∷◌, ◌++◌, Option, Some, None, refl, sym, ap, subst, ◌∙◌}
 use Rattle.std.specs.Prelude.{IsTrue}
 use Rattle.std.proofs.lemmas.List.{append-nil, append_assoc}
 use Rattle.std.proofs.lemmas.List.Elements.{All-append, All-cons, All-nil}
 use Rattle.asio_types.specs.declared.code.Code.{Code}
 use Rattle.asio_types.specs.declared.event.Event.TheVariants as event
-use Rattle.session_script.specs.Script.{ScriptModel, act_of}
-use Rattle.history_book.specs.Legal.{after_event}
-use Rattle.history_book.specs.Requests.{MayTell, reactor_after_done, slot_in}
+use Rattle.session_script.specs.Script.{ScriptModel}
+use Rattle.history_book.specs.Requests.{MayTell, reactor_after_done}
 use Rattle.history_book.specs.Rounds.{IsDrained}
 use Rattle.history_book.specs.State.{ReactorHalf, State}
 use Rattle.reactor_trait.specs.Reactor.{Outside, ReactorState}
 use Rattle.proactor_core.specs.Proactor.{Follows, IsSound, ProactorView, tells}
 use Rattle.proactor_core.specs.Tables.{TableState, slot_left}
-use Rattle.book_context.specs.Book.{ReactorKeepsTime, IsTelling, IsTurned, KeepsHistory}
+use Rattle.book_context.specs.Book.{IsTelling, IsTurned, KeepsHistory}
 use Rattle.book_context.specs.BookSteps.{IsDone}
 use Rattle.book_context.specs.InTurn.{HasOnlyTold, IsInTurn}
-use Rattle.book_context.specs.Recorded.{is_spent_at, recorded_half, recorded_state}
+use Rattle.book_context.specs.Recorded.{recorded_half}
 use Rattle.book_context.specs.Recording.{Recording, with_done}
-use Rattle.book_context.specs.Steps.{EventIsRecorded}
 use Rattle.book_context.specs.TurnSteps as steps
-use Rattle.book_context.proofs.BookHistoryLemmas.{IsPlain, faults-plain, history-plain}
+use Rattle.book_context.proofs.BookHistoryLemmas.{faults-plain, history-plain}
 use Rattle.book_context.proofs.ClockLemmas.{time-done}
 
 pub still_works : (slot : Option ℕ) (op : ℕ) (s : TableState) → (slot_left slot op s).failed ≡ s.failed

@@ -1,12 +1,11 @@
 -- A context under one lock: what it keeps between its calls.
-use Rattle.std.specs.Prelude.{◌≡◌, ◌≤◌, ℕ, Bool, true, false, IsTrue, List, [], ◌∷◌, Option, Some, None, not, ◌||◌}
-use Rattle.std.specs.List.{list_any}
+use Rattle.std.specs.Prelude.{◌≡◌, ◌≤◌, ℕ, Bool, true, false, IsTrue, [], ◌∷◌, Option, Some, None, not, ◌||◌}
 use Rattle.std.specs.Option.{option_map}
 use Rattle.asio_types.specs.Faults.{Rose}
-use Rattle.asio_types.specs.declared.event.Event.{Event}
 use Rattle.asio_types.specs.declared.event.Event.TheVariants as event
 use Rattle.op_handlers.specs.Marks.{Marks}
 use Rattle.session_script.specs.Script.{ScriptModel, is_op}
+use Rattle.history_book.specs.FromOutside.{has_fault, has_outside_stop}
 use Rattle.history_book.specs.Marks.{HasMarks}
 use Rattle.history_book.specs.Rounds.{IsDrained}
 use Rattle.history_book.specs.State.{ReactorHalf}
@@ -20,22 +19,6 @@ use Rattle.book_context.specs.Recording.{Recording}
 pub record BookView (X : Type 0) : Type 0 where
   pub recording : Recording
   pub reactor : X
-
-abbrev pub is_outside_stop : Event → Bool
-is_outside_stop (event.Stop None) = true
-is_outside_stop _ = false
-
--- somebody outside stopped the context in this history
-abbrev pub has_outside_stop : List Event → Bool
-has_outside_stop events = list_any is_outside_stop events
-
-abbrev pub is_fault : Event → Bool
-is_fault event.Fault = true
-is_fault _ = false
-
--- the reactor has failed in this history
-abbrev pub has_fault : List Event → Bool
-has_fault events = list_any is_fault events
 
 -- the history is of the session that is named, and shows the marks that are named
 pub record KeepsHistory (script : ScriptModel) (told : Bool) (run drop : ℕ → ℕ) (outside : Bool)

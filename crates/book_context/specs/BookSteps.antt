@@ -8,6 +8,7 @@ use Rattle.asio_types.specs.declared.outside.Point.{Point}
 use Rattle.asio_types.specs.declared.outside.Point.TheVariants as point
 use Rattle.session_script.specs.Script.{ScriptModel}
 use Rattle.session_script.specs.declared.round.Round.{Round}
+use Rattle.history_book.specs.FromOutside.{has_fault}
 use Rattle.history_book.specs.Legal.{MayHappen}
 use Rattle.history_book.specs.Rounds.{AllQuiet, RoundIsOpen, outstanding_work, runs, this_round}
 use Rattle.history_book.specs.State.{State}
@@ -16,7 +17,7 @@ use Rattle.strand_core.specs.Execution.{IsWholeExecution, events_of}
 use Rattle.strand_core.specs.declared.posted.Posted.{Posted}
 use Rattle.book_context.specs.declared.answer.BookTurn.{BookTurn}
 use Rattle.book_context.specs.declared.answer.BookTurn.TheVariants as turn
-use Rattle.book_context.specs.Book.{BookView, has_fault}
+use Rattle.book_context.specs.Book.{BookView}
 use Rattle.book_context.specs.Recorded.{recorded_state}
 use Rattle.book_context.specs.Recording.{Recording}
 

@@ -2,9 +2,10 @@
 use Rattle.std.specs.Prelude.{◌≡◌, ◌≤◌, ℕ, Bool, false, [], ◌∷◌}
 use Rattle.asio_types.specs.declared.event.Event.TheVariants as event
 use Rattle.op_handlers.specs.Marks.{Marks}
+use Rattle.history_book.specs.FromOutside.{has_outside_stop}
 use Rattle.history_book.specs.Marks.{HasMarks}
 use Rattle.strand_core.specs.Hands.{Held, held_at}
-use Rattle.book_context.specs.Book.{HoldsUnspent, has_outside_stop}
+use Rattle.book_context.specs.Book.{HoldsUnspent}
 use Rattle.book_context.specs.DropSteps.{IsDropping}
 use Rattle.book_context.specs.Recorded.{IsRecorded}
 use Rattle.book_context.specs.Recording.{Recording}

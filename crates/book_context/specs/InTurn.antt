@@ -6,6 +6,7 @@ use Rattle.asio_types.specs.declared.event.Event.TheVariants as event
 use Rattle.asio_types.specs.declared.outside.Point.{Point}
 use Rattle.op_handlers.specs.Marks.{Marks}
 use Rattle.session_script.specs.Script.{ScriptModel}
+use Rattle.history_book.specs.FromOutside.{has_fault}
 use Rattle.history_book.specs.Rounds.{outstanding_work}
 use Rattle.history_book.specs.State.{ReactorHalf}
 use Rattle.reactor_trait.specs.Reactor.{Outside, ReactorState}
@@ -13,7 +14,7 @@ use Rattle.proactor_core.specs.Proactor.{ProactorView, after_point}
 use Rattle.strand_core.specs.Hands.{Held}
 use Rattle.book_context.specs.declared.answer.BookTurn.{BookTurn}
 use Rattle.book_context.specs.declared.answer.BookTurn.TheVariants as turn
-use Rattle.book_context.specs.Book.{HoldsUnspent, ReactorKeepsTime, IsTelling, IsTurned, KeepsHistory, KeepsReactor, has_fault}
+use Rattle.book_context.specs.Book.{HoldsUnspent, ReactorKeepsTime, IsTelling, KeepsHistory, KeepsReactor}
 use Rattle.book_context.specs.BookSteps.{BeginsTurn, HasFaulted, HasGoneOn, IsDone, IsIdleRound, IsTurnOf}
 use Rattle.book_context.specs.Recorded.{is_spent_at, recorded_half, recorded_state}
 use Rattle.book_context.specs.Recording.{Recording}

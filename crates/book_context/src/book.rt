@@ -1,4 +1,4 @@
-ghost use Rattle.std.specs.Prelude.{◌≡◌, ◌↔◌, ◌≤◌, ℕ, IsTrue, IfErr, OnErr, OnOk, Some, false, true, length};
+ghost use Rattle.std.specs.Prelude.{◌≡◌, ◌↔◌, ℕ, IsTrue, IfErr, OnErr, OnOk, Some, false, true, length};
 ghost use Rattle.std.specs.Option.{option_map};
 ghost use Rattle.session_script.specs.Script.{is_op};
 ghost use Rattle.op_handlers.specs.Rack.{handler_at, handlers_in};

@@ -1,4 +1,4 @@
-ghost use Rattle.std.specs.Prelude.{◌≡◌, length};
+ghost use Rattle.std.specs.Prelude.{◌≡◌};
 ghost use Rattle.history_book.specs.Rounds.{runs};
 ghost use Rattle.book_context.specs.BookSteps.{are_closed, is_round_open, open_round, wants_restart};
 

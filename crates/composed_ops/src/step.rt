@@ -1,4 +1,4 @@
-ghost use Rattle.std.specs.Prelude.{◌≡◌, ◌+◌, ◌-◌, ◌<◌, ◌≤◌, ⊤};
+ghost use Rattle.std.specs.Prelude.{◌≡◌, ◌+◌, ◌-◌, ◌<◌};
 ghost use Rattle.asio_types.specs.declared.outside.Moved.TheVariants as moved_to;
 ghost use Rattle.stream_rules.specs.Moving.{moved_count};
 ghost use Rattle.stream_rules.specs.Serving.{all_of, ended_by, some_of};

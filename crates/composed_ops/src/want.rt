@@ -1,4 +1,4 @@
-ghost use Rattle.std.specs.Prelude.{◌≡◌, ◌-◌, ◌<◌, None, length, take};
+ghost use Rattle.std.specs.Prelude.{◌≡◌, ◌-◌, None, length, take};
 ghost use Rattle.stream_rules.specs.Delimiter.{first_end};
 ghost use Rattle.stream_rules.specs.Serving.{Until, served_read};
 ghost use Rattle.composed_ops.specs.Progress.{before_latest};

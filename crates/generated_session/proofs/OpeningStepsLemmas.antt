@@ -7,6 +7,7 @@ use Rattle.asio_types.specs.Faults.{one_more}
 use Rattle.asio_types.specs.declared.event.Event.{Event}
 use Rattle.asio_types.specs.declared.event.Event.TheVariants as event
 use Rattle.session_script.specs.Script.{Entry, Place, is_stop, opening_of}
+use Rattle.history_book.specs.FromOutside.{is_fault, is_outside_stop}
 use Rattle.history_book.specs.Calls.{accepted, has_ended, is_made, limited, returned, with_progress}
 use Rattle.history_book.specs.Kinds.{is_act}
 use Rattle.history_book.specs.Legal.{MayHappen, after_event}
@@ -17,8 +18,6 @@ use Rattle.history_book.specs.declared.phase.CallPhase.{CallPhase}
 use Rattle.history_book.specs.declared.phase.CallPhase.TheVariants as call
 use Rattle.history_book.specs.declared.phase.Step.TheVariants as step
 use Rattle.generated_session.specs.Generator.{session_of}
-use Rattle.generated_session.specs.PlainSummary.{is_outside_stop}
-use Rattle.generated_session.specs.Summary.{is_fault}
 use Rattle.generated_session.proofs.CallEventsLemmas.{accepted_runs, made_not_back}
 use Rattle.generated_session.proofs.FitLemmas.{is_act-in, is_back, is_called, never_stops}
 use Rattle.generated_session.proofs.GatherLemmas.{one_if}

@@ -6,14 +6,15 @@ use Rattle.std.proofs.lemmas.List.Sums.{sum_by-cons}
 use Rattle.asio_types.specs.declared.event.Event.{Event}
 use Rattle.asio_types.specs.declared.event.Event.TheVariants as event
 use Rattle.session_script.specs.Script.{Entry, is_operation, opening_of}
+use Rattle.history_book.specs.FromOutside.{is_fault, is_outside_stop}
 use Rattle.history_book.specs.Calls.{has_ended}
 use Rattle.history_book.specs.Legal.{IsLegal}
 use Rattle.history_book.specs.Marks.{HasMarks, ShowsMark}
 use Rattle.history_book.specs.State.{first_reactor, first_state, fresh}
 use Rattle.history_book.specs.declared.phase.ActState.{ActState}
 use Rattle.generated_session.specs.Generator.{acts_from, generated, most_size, session_of}
-use Rattle.generated_session.specs.PlainSummary.{is_outside_stop, plain_aborted, plain_marks, plain_summary, plain_tally, plain_time}
-use Rattle.generated_session.specs.Summary.{Tally, is_abort, is_call, is_end, is_fault, lines_of, run_mark, summary_of, tally_of, text_of_line, time_from}
+use Rattle.generated_session.specs.PlainSummary.{plain_aborted, plain_marks, plain_summary, plain_tally, plain_time}
+use Rattle.generated_session.specs.Summary.{Tally, is_abort, is_call, is_end, lines_of, run_mark, summary_of, tally_of, text_of_line, time_from}
 use Rattle.generated_session.specs.declared.tally.Closing.TheVariants as closing
 use Rattle.generated_session.proofs.FitLemmas.{is_called, operates}
 use Rattle.generated_session.proofs.FutureLemmas.{aborts_plain, asked, lasts_plain, to_abort, to_last}

@@ -9,6 +9,7 @@ use Rattle.asio_types.specs.declared.event.Event.{Event}
 use Rattle.asio_types.specs.declared.event.Event.TheVariants as event
 use Rattle.session_script.specs.Lanes.{is_inline, lane_of}
 use Rattle.session_script.specs.Script.{Entry, Place, is_stop, parent_of}
+use Rattle.history_book.specs.FromOutside.{is_fault, is_outside_stop}
 use Rattle.history_book.specs.Calls.{IsNextOf, accepted, body_at, is_made, limited, progressed, returned, with_progress}
 use Rattle.history_book.specs.Executions.{MayBegin, MayEnd, begun}
 use Rattle.history_book.specs.Kinds.{is_act}
@@ -26,8 +27,6 @@ use Rattle.history_book.specs.declared.phase.Cause.{Cause}
 use Rattle.history_book.specs.declared.phase.Cause.TheVariants as cause
 use Rattle.history_book.specs.declared.phase.Step.TheVariants as step
 use Rattle.generated_session.specs.Generator.{one_run, session_of}
-use Rattle.generated_session.specs.PlainSummary.{is_outside_stop}
-use Rattle.generated_session.specs.Summary.{is_fault}
 use Rattle.generated_session.proofs.ActEventsLemmas.{begin_inside_step, begin_step, changed_phase, done_step, end_step, finished, phased}
 use Rattle.generated_session.proofs.CallEventsLemmas.{back_changes, back_size, back_states, back_step, call_step, call_turns, called_states, caller_of, made_by_test, made_not_back, opening_over, progress_ended, progress_fits, progress_made, progress_requests}
 use Rattle.generated_session.proofs.DoneLemmas.{due_requested, what_is_due}

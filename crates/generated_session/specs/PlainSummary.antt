@@ -1,16 +1,17 @@
 -- The summary of a session that a number makes, computed from its script alone.
-use Rattle.std.specs.Prelude.{◌≡◌, ◌≤◌, ℕ, ◌+◌, ◌==◌, nat_lt, max, Bool, true, false, ◌&&◌, List, [], ◌∷◌, None, length, count_by, if◌then◌else◌}
+use Rattle.std.specs.Prelude.{◌≡◌, ◌≤◌, ℕ, ◌+◌, ◌==◌, nat_lt, max, Bool, false, ◌&&◌, List, [], ◌∷◌, length, count_by, if◌then◌else◌}
 use Rattle.std.specs.List.{list_any, flat_map}
 use Rattle.asio_types.specs.declared.event.Event.{Event}
 use Rattle.asio_types.specs.declared.event.Event.TheVariants as event
 use Rattle.session_script.specs.declared.act.Act.{Act}
 use Rattle.session_script.specs.declared.act.Act.TheVariants as act
 use Rattle.session_script.specs.Script.{Entry, is_operation}
+use Rattle.history_book.specs.FromOutside.{has_fault, has_outside_stop}
 use Rattle.history_book.specs.Legal.{IsLegal}
 use Rattle.history_book.specs.Marks.{HasMarks}
 use Rattle.generated_session.specs.declared.tally.Closing.TheVariants as closing
 use Rattle.generated_session.specs.Generator.{acts_from, generated, most_size}
-use Rattle.generated_session.specs.Summary.{Tally, is_fault, lines_of, summary_of, text_of_line}
+use Rattle.generated_session.specs.Summary.{Tally, lines_of, summary_of, text_of_line}
 
 -- the act sets the expiry of this timer (Asio reference, steady_timer::expires_after)
 abbrev pub is_expiry_of : ℕ → Act → Bool
@@ -70,17 +71,12 @@ abbrev pub plain_summary : ℕ → ℕ → (ℕ → ℕ) → List ℕ
 plain_summary start size run =
     flat_map text_of_line (lines_of start size (plain_tally run (acts_from size 0 start)))
 
--- a stop of the context that is none of the script's acts
-abbrev pub is_outside_stop : Event → Bool
-is_outside_stop (event.Stop None) = true
-is_outside_stop _ = false
-
 -- The script alone tells the summary of each legal history in which the reactor doesn't fail and
 -- nothing else stops the context.
 abbrev pub SummariesArePlain : Type 0
 SummariesArePlain =
     (start size : ℕ) → size ≤ most_size → (told : Bool) (events : List Event) →
     IsLegal (generated start size) told events →
-    list_any is_fault events ≡ false → list_any is_outside_stop events ≡ false →
+    has_fault events ≡ false → has_outside_stop events ≡ false →
     (run drop : ℕ → ℕ) → HasMarks run drop events →
     summary_of start size events ≡ plain_summary start size run

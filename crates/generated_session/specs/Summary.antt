@@ -2,11 +2,12 @@
 -- operations were cancelled, the sum of the marks of the handlers that ran, the last time, and how
 -- it ended.
 use Rattle.std.specs.Prelude.{ℕ, ◌+◌, Bool, true, false, List, [], ◌∷◌, ◌++◌, codes, count_by, sum_by, if◌then◌else◌}
-use Rattle.std.specs.List.{list_any, flat_map}
+use Rattle.std.specs.List.{flat_map}
 use Rattle.std.specs.Fmt.{decimal}
 use Rattle.asio_types.specs.declared.code.Code.TheVariants as code
 use Rattle.asio_types.specs.declared.event.Event.{Event}
 use Rattle.asio_types.specs.declared.event.Event.TheVariants as event
+use Rattle.history_book.specs.FromOutside.{has_fault}
 use Rattle.history_book.specs.Trace.{space, line_end}
 use Rattle.generated_session.specs.declared.line.Line.{Line}
 use Rattle.generated_session.specs.declared.line.Line.TheVariants as line
@@ -32,10 +33,6 @@ is_drop _ = false
 abbrev pub is_abort : Event → Bool
 is_abort (event.Done o code.Aborted size) = true
 is_abort _ = false
-
-abbrev pub is_fault : Event → Bool
-is_fault event.Fault = true
-is_fault _ = false
 
 -- the mark that a handler returned when it ran
 abbrev pub run_mark : Event → ℕ
@@ -72,7 +69,7 @@ tally_of events = record {
   aborted = count_by is_abort events;
   marks = sum_by run_mark events;
   time = time_from 0 events;
-  fault = list_any is_fault events;
+  fault = has_fault events;
   closing = closing_from closing.Open events;
 }
 

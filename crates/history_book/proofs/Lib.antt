@@ -1,12 +1,12 @@
-pub mod Decimals
+pub mod DecimalsLemmas
 pub mod LaneLemmas
 pub mod LimitLemmas
 pub mod PerformingLemmas
-pub mod Pieces
+pub mod PiecesLemmas
 pub mod PlayedLemmas
 pub mod QueueRoomLemmas
 pub mod QueuesLemmas
-pub mod Reading
+pub mod ReadingLemmas
 pub mod RoomLemmas
 pub mod SettledLemmas
 pub mod SettlingLemmas

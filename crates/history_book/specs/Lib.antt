@@ -1,6 +1,7 @@
 pub mod Asking
 pub mod Calls
 pub mod Executions
+pub mod FromOutside
 pub mod History
 pub mod Kinds
 pub mod Legal

@@ -1,4 +1,4 @@
-ghost use Rattle.std.specs.Prelude.{◌≡◌, ◌<◌, ◌^◌, ℕ, length, Some};
+ghost use Rattle.std.specs.Prelude.{◌≡◌};
 ghost use Rattle.stream_rules.specs.Asked.{reading_of, writing_of, IsCountable};
 ghost use Rattle.history_book.specs.Asking.{IsReading, IsWriting, asked_reading, asked_writing};
 

@@ -1,8 +1,6 @@
-ghost use Rattle.std.specs.Prelude.{◌≡◌, ◌↔◌, ◌<◌, ℕ, Bool, List, length, IsTrue, IsSomeAnd};
-ghost use Rattle.asio_types.specs.Faults.{one_more};
-ghost use Rattle.session_script.specs.Script.{is_stop, same_class};
+ghost use Rattle.std.specs.Prelude.{◌≡◌, ◌↔◌, length, IsTrue, IsSomeAnd};
+ghost use Rattle.session_script.specs.Script.{same_class};
 ghost use Rattle.session_script.specs.Lanes.{is_inline};
-ghost use Rattle.history_book.specs.Kinds.{is_act};
 ghost use Rattle.history_book.specs.State.{phase_at};
 ghost use Rattle.history_book.specs.Calls.{IsNextOf, running_body, MayCall, MayStop, MayReturn, with_progress, stepped, progressed, accepted, after_call, is_made, stopping, after_stop, has_stopped, has_ended, is_call_done, returned, limited, limited_by_stop, after_return, is_open};
 

@@ -1,5 +1,5 @@
-ghost use Rattle.std.specs.Prelude.{◌≡◌, ℕ, length, IfOk};
-ghost use Rattle.history_book.specs.State.{act_at, call_at, phase_at, with_act, with_call, with_phase, counted, first_context};
+ghost use Rattle.std.specs.Prelude.{◌≡◌, IfOk};
+ghost use Rattle.history_book.specs.State.{act_at, with_act, with_call, with_phase, counted, first_context};
 
 use crate::phase::{ActPhase, ActState, Allowance, CallPhase, Progress};
 use crate::stopping::LaneAllowances;

@@ -1,5 +1,5 @@
-ghost use Rattle.std.specs.Prelude.{◌≡◌, ◌↔◌, ℕ, length, IsTrue};
-ghost use Rattle.history_book.specs.Executions.{LaneIsFree, IsReadyWith, MayBeginOutside, MayBeginInside, MayBegin, begun, after_begin, has_finished, MayEnd, after_end};
+ghost use Rattle.std.specs.Prelude.{◌≡◌, ◌↔◌, length, IsTrue};
+ghost use Rattle.history_book.specs.Executions.{LaneIsFree, IsReadyWith, MayBeginOutside, MayBeginInside, MayBegin, after_begin, MayEnd, after_end};
 ghost use Rattle.history_book.specs.Order.{IsFirstOfLane};
 ghost use Rattle.history_book.specs.Rounds.{is_running};
 

@@ -1,4 +1,4 @@
-ghost use Rattle.std.specs.Prelude.{◌≡◌, ℕ};
+ghost use Rattle.std.specs.Prelude.{◌≡◌};
 ghost use Rattle.history_book.specs.Order.{called_at, is_back_before, is_before, goes_before, is_request};
 
 use crate::phase::{ActPhase, ActState, CallPhase, Cause};

@@ -1,4 +1,4 @@
-ghost use Rattle.std.specs.Prelude.{◌≡◌, ◌+◌, ◌<◌, ◌≤◌, ◌^◌, ℕ, Option, Some, None, find, length, slice_index_or, slice_set};
+ghost use Rattle.std.specs.Prelude.{◌≡◌, ◌+◌, ◌<◌, ◌^◌, Some, None, find, length, slice_index_or, slice_set};
 ghost use Rattle.session_script.specs.Script.{act_of};
 ghost use Rattle.history_book.specs.Asking.{IsReading, IsWriting, asked_reading, asked_writing};
 ghost use Rattle.history_book.specs.Kinds.{filter_of, supported_by};

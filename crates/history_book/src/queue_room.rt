@@ -1,4 +1,4 @@
-ghost use Rattle.std.specs.Prelude.{◌≡◌, ◌+◌, ◌<◌, ◌^◌, ℕ, IfOk, length};
+ghost use Rattle.std.specs.Prelude.{◌≡◌, ◌<◌, ◌^◌, ℕ, IfOk, length};
 ghost use Rattle.std.specs.List.{slice_index_or};
 ghost use Rattle.history_book.specs.Kinds.{stream_of};
 ghost use Rattle.history_book.specs.QueueRoom.{ops_on, with_one_more};

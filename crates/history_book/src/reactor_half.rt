@@ -1,4 +1,4 @@
-ghost use Rattle.std.specs.Prelude.{◌≡◌, ◌≤◌, ℕ, All, IfOk, None, false, length, replicate, true};
+ghost use Rattle.std.specs.Prelude.{◌≡◌, IfOk, None, false, length, replicate, true};
 ghost use Rattle.history_book.specs.Queues.{AreNew, IsNew};
 ghost use Rattle.history_book.specs.State.{first_reactor};
 

@@ -1,4 +1,4 @@
-ghost use Rattle.std.specs.Prelude.{◌≡◌, ◌↔◌, ℕ, IsTrue};
+ghost use Rattle.std.specs.Prelude.{◌≡◌, ◌↔◌, IsTrue};
 ghost use Rattle.history_book.specs.Order.{is_untaken, IsFirstRequest};
 ghost use Rattle.history_book.specs.Requests.{IsGivenUntold, MayTell, MayTurn, MayTake, MayComplete, turn_begun, context_after_done};
 

@@ -1,4 +1,4 @@
-ghost use Rattle.std.specs.Prelude.{◌≡◌, ◌≢◌, ℕ, length, map, replicate, IfOk, IsTrue, ◌↔◌, Ok};
+ghost use Rattle.std.specs.Prelude.{◌≡◌, ◌≢◌, map, IfOk, IsTrue, ◌↔◌, Ok};
 ghost use Rattle.history_book.specs.State.{all_lanes, each_lane};
 ghost use Rattle.history_book.specs.Stopping.{allowance_of, with_allowance, less_one, at_most_one, after_stop_on};
 ghost use Rattle.history_book.specs.declared.phase.Allowance.TheVariants as allowance;

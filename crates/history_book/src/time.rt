@@ -1,4 +1,4 @@
-ghost use Rattle.std.specs.Prelude.{◌≡◌, ◌↔◌, ℕ, IsTrue};
+ghost use Rattle.std.specs.Prelude.{◌≡◌, ◌↔◌, IsTrue};
 ghost use Rattle.history_book.specs.Time.{IsIdle, MayTick, MayDrain, MayBreakOff, MayFault, context_after_fault};
 
 use crate::context::ContextReplay;

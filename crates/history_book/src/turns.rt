@@ -1,4 +1,4 @@
-ghost use Rattle.std.specs.Prelude.{◌≡◌, ◌+◌, ◌-◌, ◌*◌, ◌<◌, ◌≤◌, ◌^◌, ℕ, All, length};
+ghost use Rattle.std.specs.Prelude.{◌≡◌, ◌+◌, ◌*◌, ◌<◌, ◌^◌, length};
 ghost use Rattle.session_script.specs.Script.{act_of};
 ghost use Rattle.history_book.specs.Kinds.{slot_of};
 ghost use Rattle.history_book.specs.Performing.{performed, performed_by, with_taken};

@@ -1,5 +1,5 @@
 -- A seat may take in what another knows, and the other then knows nothing.
-use Rattle.std.proofs.Common.{◌≡◌, ◌≢◌, ◌⊎◌, inl, inr, ℕ, zero, suc, ◌+◌, ◌<◌, ◌≤◌, Bool, true, false, ◌||◌, ltb, lt-ltb, le-ltb, List, [], ◌∷◌, ◌++◌, map, length, set, slice_index, cond, if◌then◌else◌, sym, refl, ap, ◌∙◌, subst, ⊎_elim, arith}
+use Rattle.std.proofs.Common.{◌≡◌, ◌≢◌, ◌⊎◌, inl, inr, ℕ, zero, suc, ◌+◌, ◌≤◌, Bool, true, false, ◌||◌, ltb, lt-ltb, le-ltb, List, [], ◌∷◌, length, set, slice_index, if◌then◌else◌, sym, refl, ap, ◌∙◌, subst, ⊎_elim, arith}
 use Rattle.std.proofs.Math.ListN.{get_or-map}
 use Rattle.std.proofs.lemmas.List.{set-set, set_comm, length-append}
 use Rattle.std.proofs.lemmas.Bool.{false≢true}

@@ -1,6 +1,5 @@
-ghost use Rattle.std.specs.Prelude.{◌≡◌, ℕ, ◌<◌, [], length};
+ghost use Rattle.std.specs.Prelude.{◌≡◌, ◌<◌, [], length};
 ghost use Rattle.lane_clock.specs.Seats.{Keeps, Owns, own};
-ghost use denote.Param.Send.{IsSync};
 
 use crate::clock::LaneClock;
 use crate::found::{Change, Found};

@@ -1,3 +1,3 @@
-pub mod Spent
-pub mod Boxed
-pub mod Racked
+pub mod SpentLemmas
+pub mod BoxedLemmas
+pub mod RackedLemmas

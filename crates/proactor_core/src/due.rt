@@ -16,7 +16,7 @@ pub(crate) struct DueList {
 }
 
 impl Model for DueList {
-    ghost use Rattle.std.specs.Prelude.{◌-◌, ◌≤◌};
+    ghost use Rattle.std.specs.Prelude.{◌-◌};
     ghost use Rattle.std.specs.VecDeque.{deque_capacity, deque_len};
     ghost use Rattle.proactor_core.specs.Due.{Due};
 

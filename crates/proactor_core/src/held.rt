@@ -19,7 +19,7 @@ pub(crate) struct Held {
 }
 
 impl Model for Held {
-    ghost use Rattle.std.specs.Prelude.{◌*◌, ◌+◌, ◌≤◌, ◌^◌, ◌<◌, drop, vec_capacity, vec_len};
+    ghost use Rattle.std.specs.Prelude.{◌+◌, ◌≤◌, ◌^◌, ◌<◌, drop, vec_capacity, vec_len};
     ghost use Rattle.proactor_core.specs.Held.{HeldBytes};
 
     ghost Value = { HeldBytes };

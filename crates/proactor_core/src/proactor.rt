@@ -1,4 +1,4 @@
-ghost use Rattle.std.specs.Prelude.{◌≡◌, ◌≤◌, ◌<◌, ◌+◌, ◌∷◌, ◌^◌, ℕ, Option, Some, None, [], count_by, length, replicate, slice_index_or, slice_set, false, true, IfErr, IfNone, IfOk, IfSome, IsTrue, OnErr, OnOk, OnSome};
+ghost use Rattle.std.specs.Prelude.{◌≡◌, ◌≤◌, ◌<◌, ◌+◌, ◌∷◌, ◌^◌, Some, None, [], count_by, length, replicate, slice_index_or, slice_set, false, true, IfErr, IfNone, IfOk, IfSome, IsTrue, OnErr, OnOk};
 ghost use Rattle.asio_types.specs.Faults.{Rose};
 ghost use Rattle.session_script.specs.Script.{act_of};
 ghost use Rattle.history_book.specs.Order.{was_taken};

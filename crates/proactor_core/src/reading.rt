@@ -1,4 +1,4 @@
-ghost use Rattle.std.specs.Prelude.{◌≡◌, ◌≢◌, ◌<◌, ◌≤◌, ◌-◌, [], IfNone, IfOk, IfSome, IsSome, IsTrue, OnOk, length, take, true};
+ghost use Rattle.std.specs.Prelude.{◌≡◌, ◌≢◌, ◌<◌, ◌≤◌, ◌-◌, IfNone, IfOk, IfSome, IsSome, IsTrue, OnOk, length, take, true};
 ghost use Rattle.asio_types.specs.Faults.{CountsFaults};
 ghost use Rattle.std.specs.Option.{option_map};
 ghost use Rattle.stream_rules.specs.Moving.{moved_count, read_answer};

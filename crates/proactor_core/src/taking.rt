@@ -1,4 +1,4 @@
-ghost use Rattle.std.specs.Prelude.{◌≡◌, ◌<◌, ◌≤◌, ◌+◌, ◌^◌, Some, None, find, length, slice_index_or, slice_set, true};
+ghost use Rattle.std.specs.Prelude.{◌≡◌, ◌<◌, ◌≤◌, ◌+◌, Some, None, find, length, slice_index_or, slice_set, true};
 ghost use Rattle.history_book.specs.Kinds.{reading_of, slot_of, writing_of};
 ghost use Rattle.history_book.specs.Performing.{closed_at, connected, emitted, expiry_set, guard_released, is_wait_of, one_of_stream_cancelled, one_wait_cancelled, performed, read_accepted, wait_accepted, waits_cancelled, with_taken, write_accepted};
 ghost use Rattle.history_book.specs.State.{ReactorHalf};
@@ -6,7 +6,6 @@ ghost use Rattle.history_book.specs.Turns.{latest};
 ghost use Rattle.proactor_core.specs.Following.{chosen_cancelled};
 ghost use Rattle.proactor_core.specs.Proactor.{IsAt, IsTurning, MayConnect, MayPerform, TakesAct, IsSound, tells};
 ghost use Rattle.proactor_core.specs.Room.{IsUntaken};
-ghost use Rattle.session_script.specs.Script.{act_of};
 ghost use Rattle.session_script.specs.WellFormed.{IsWellFormed};
 ghost use Rattle.proactor_core.specs.Rooms.{waits_for};
 ghost use Rattle.proactor_core.specs.StreamRooms.{stream_read, stream_written};

@@ -1,6 +1,6 @@
-ghost use Rattle.std.specs.Prelude.{◌≡◌, ◌≤◌, ◌↔◌, ℕ, List, IfOk, IsTrue, MatchBool, take};
+ghost use Rattle.std.specs.Prelude.{◌≡◌, ◌≤◌, ◌↔◌, IfOk, IsTrue, MatchBool};
 ghost use Rattle.asio_types.specs.Faults.{plan_called, plan_failed};
-ghost use Rattle.reactor_script.specs.Plans.{calls_of, first_plan, first_plans, IsNamed};
+ghost use Rattle.reactor_script.specs.Plans.{first_plan, IsNamed};
 
 use crate::method::{FailAt, Method};
 use asio_types::{FailPlan, NoMemory};

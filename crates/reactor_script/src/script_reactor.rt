@@ -1,4 +1,4 @@
-ghost use Rattle.std.specs.Prelude.{◌≡◌, ◌≢◌, ◌↔◌, ◌<◌, ◌≤◌, ℕ, List, IfOk, IsErr, IsErrOf, IsTrue, OnErr, OnOk, Some, length, take};
+ghost use Rattle.std.specs.Prelude.{◌≡◌, ◌≢◌, ◌↔◌, ◌<◌, ◌≤◌, IfOk, IsErr, IsErrOf, IsTrue, OnErr, OnOk, Some, length, take};
 ghost use Rattle.std.specs.Option.{ForSome};
 ghost use Rattle.stream_rules.specs.World.{HasItsStreams, next_point, stream_at};
 ghost use Rattle.asio_types.specs.Faults.{CountsFaults};

@@ -1,4 +1,4 @@
-ghost use Rattle.std.specs.Prelude.{◌≡◌, ◌≢◌, ◌<◌, ℕ, List, IfOk, IsTrue, Some, length, take, false, replicate, slice_set};
+ghost use Rattle.std.specs.Prelude.{◌≡◌, ◌≢◌, ◌<◌, IfOk, IsTrue, length, take, false, replicate};
 ghost use Rattle.std.specs.Option.{ForSome};
 ghost use Rattle.stream_rules.specs.World.{HasItsStreams, next_point, stream_at};
 ghost use Rattle.stream_rules.specs.Moving.{moved_count, read_answer, write_answer};

@@ -1,6 +1,6 @@
 //! Worlds that are played step by step; what is seen at each step is written by hand.
 
-ghost use Rattle.std.specs.Prelude.{◌≡◌, ◌<◌, ◌↔◌, IsTrue, All, length};
+ghost use Rattle.std.specs.Prelude.{◌≡◌, ◌<◌, ◌↔◌, IsTrue};
 ghost use Rattle.stream_rules.specs.World.{HasItsStreams};
 ghost use Rattle.reactor_trait.specs.Reactor.{stream_count, IsOpen};
 

@@ -1,5 +1,4 @@
 ghost use Rattle.std.specs.Prelude.{◌≡◌, ◌≢◌, None, Ok, replicate, false, length, IfOk, IsTrue};
-ghost use Rattle.stream_rules.specs.World.{HasItsStreams};
 ghost use Rattle.reactor_trait.specs.Reactor.{idle_state, silence, IsMoveWithin};
 
 use crate::reactor::Reactor;

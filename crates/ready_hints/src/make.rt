@@ -1,4 +1,4 @@
-ghost use Rattle.std.specs.Prelude.{◌≡◌, ◌-◌, ◌<◌, ◌≤◌, [], ◌∷◌, length, vec_capacity, IfOk, replicate};
+ghost use Rattle.std.specs.Prelude.{◌≡◌, ◌-◌, ◌<◌, ◌≤◌, [], vec_capacity, IfOk};
 ghost use Rattle.ready_hints.specs.HintRule.{all_parts};
 ghost use Rattle.ready_hints.specs.Hints.{IsPassOf, first_pass, one_part, passes_of};
 

@@ -7,10 +7,11 @@ use Rattle.std.proofs.lemmas.Fmt.{decimal_injective}
 use Rattle.asio_types.specs.declared.event.Event.{Event}
 use Rattle.asio_types.specs.declared.event.Event.TheVariants as event
 use Rattle.op_handlers.specs.Marks.{Marks}
-use Rattle.generated_session.specs.PlainSummary.{SummariesArePlain, is_outside_stop, plain_summary}
-use Rattle.generated_session.specs.Summary.{is_fault, summary_of}
+use Rattle.generated_session.specs.PlainSummary.{SummariesArePlain, plain_summary}
+use Rattle.generated_session.specs.Summary.{summary_of}
 use Rattle.session_run.specs.Answer.{Does, Says}
 use Rattle.session_run.specs.Form.{IsForm, IsGen}
+use Rattle.history_book.specs.FromOutside.{is_fault, is_outside_stop}
 use Rattle.history_book.specs.Legal.{IsLegal}
 use Rattle.session_run.specs.Given.{Given, tells}
 use Rattle.session_run.specs.Origin.{HasOrigin}

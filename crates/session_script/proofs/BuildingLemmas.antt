@@ -16,7 +16,7 @@ use Rattle.session_script.specs.Acts.{bodies_of}
 use Rattle.session_script.specs.Text.{IsBodyText, in_braces, IsActsText, no_act, an_act, IsBodiesText, no_body, one_body, all_bodies, IsBranchText, spelled_out}
 use Rattle.session_script.specs.WellFormed.{HasParent, has_branch, IsNested, in_open, in_branch, IsWellFormed, header_of}
 use Rattle.session_script.specs.Writable.{StandsUnder, IsWritable}
-use Rattle.session_script.proofs.Gathering.{IsEarlier, below_later}
+use Rattle.session_script.proofs.GatheringLemmas.{IsEarlier, below_later}
 use Rattle.session_script.proofs.PlacingLemmas.{has_parent, act_fits}
 use Rattle.session_script.proofs.OrderLemmas.{same_or_above, First, first_from, same_place-true, same_place-false, is_further, further_is, first_only, second_only, third_only, under_later, branch_later}
 use Rattle.session_script.proofs.SayingLemmas.{HasText, header_is_small, act_has_text}

@@ -4,7 +4,7 @@ use Rattle.std.specs.List.{list_all}
 use Rattle.std.proofs.lemmas.Bool.Decides.{nat_tests}
 use Rattle.session_script.specs.Kinds.{is_hexadecimal, hexadecimal, decoded}
 use Rattle.session_script.specs.Spelling.{digit_of, encoded}
-use Rattle.session_script.proofs.Holding.{both}
+use Rattle.session_script.proofs.HoldingLemmas.{both}
 
 -- a digit is the one of its value
 digit_of-hexadecimal : (digit : ℕ) → is_hexadecimal digit ≡ true → digit_of (hexadecimal digit) ≡ digit

@@ -5,7 +5,7 @@ use Rattle.session_script.specs.Grammar.{IsScript, fault_of, first_fault}
 use Rattle.session_script.specs.Limits.{most_bytes}
 use Rattle.session_script.specs.Script.{ScriptModel}
 use Rattle.session_script.specs.declared.refusal.Refusal.{Refusal}
-use Rattle.session_script.proofs.ReadingBack.{spells}
+use Rattle.session_script.proofs.ReadingBackLemmas.{spells}
 
 -- a script is no longer than its limit
 pub script_size : (bytes : List ℕ) (script : ScriptModel) → IsScript bytes script → length bytes ≤ most_bytes

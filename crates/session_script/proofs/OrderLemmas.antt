@@ -8,7 +8,7 @@ use Rattle.asio_types.specs.declared.code.Class.TheVariants as class
 use Rattle.session_script.specs.Groups.{class_number}
 use Rattle.session_script.specs.Script.{Place, ScriptModel, same_class, same_place, parent_of}
 use Rattle.session_script.specs.Writable.{StandsUnder, IsInTextOrder}
-use Rattle.session_script.proofs.Gathering.{IsEarlier, same_place-self}
+use Rattle.session_script.proofs.GatheringLemmas.{IsEarlier, same_place-self}
 
 pub same_or_above : (a b : ℕ) → a ≤ b → (b ≡ a) ⊎ (a < b)
 same_or_above a b le = by_test (nat_lt a b) refl

@@ -9,8 +9,8 @@ use Rattle.session_script.specs.Grammar.{IsScript}
 use Rattle.session_script.specs.Spelling.{spelling_of}
 use Rattle.session_script.specs.WellFormed.{FitsAct, HasParent, IsWellFormed, header_of}
 use Rattle.session_script.specs.Outcome.{model_of}
-use Rattle.session_script.proofs.Places.{acts_allowed, length-entries}
-use Rattle.session_script.proofs.ReadingBack.{spells}
+use Rattle.session_script.proofs.PlacesLemmas.{acts_allowed, length-entries}
+use Rattle.session_script.proofs.ReadingBackLemmas.{spells}
 
 -- there are no more than either version allows
 acts_are_few : (script : ScriptModel) → IsScript (spelling_of script) script → length script.acts ≤ most_acts

@@ -19,7 +19,7 @@ use Rattle.session_script.specs.Spelling.{data_text, encoded}
 use Rattle.session_script.specs.Text.{Words, IsWord, IsN, IsDashOrN, IsDataText, IsCountText, IsPlugText, IsTail, IsWhatText, IsLineText, IsLinesText, pace_text, IsRestartText, IsRoundText, IsRoundsText, IsFieldsText, IsActText, act_text, IsDeclsText}
 use Rattle.session_script.specs.WellFormed.{FitsAct, FitsWhat, FitsLine, FitsRound, IsLane, IsPlug, IsWellFormed, header_of}
 use Rattle.session_script.specs.Writable.{AreBytes, HasFilter, HasFields, HasWords, IsFedBytes}
-use Rattle.session_script.proofs.Respelling.{Two, Three, Four, Five}
+use Rattle.session_script.proofs.RespellingLemmas.{Two, Three, Four, Five}
 use Rattle.session_script.proofs.WordLemmas.{decimal_is_numeral, decoded-encoded, data_text_is_data}
 
 -- there are words for it, before any others

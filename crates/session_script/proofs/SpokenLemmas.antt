@@ -19,10 +19,10 @@ use Rattle.session_script.specs.Text.{Words, IsDataText, IsPlugText, IsFieldsTex
 use Rattle.session_script.specs.WellFormed.{has_branch, IsNested, in_open, in_branch, IsWellFormed}
 use Rattle.session_script.specs.Spelling.{spelling_of}
 use Rattle.session_script.specs.Writable.{AreBytes, HasFilter, HasFields, HasWords, IsFedBytes, IsWritable}
-use Rattle.session_script.proofs.Holding.{both}
+use Rattle.session_script.proofs.HoldingLemmas.{both}
 use Rattle.session_script.proofs.DataLemmas.{hexadecimal-small}
-use Rattle.session_script.proofs.Numerals.{digits_are_hexadecimal}
-use Rattle.session_script.proofs.Appending.{Continues, continues_both, acts_append, bodies_append, branch_appends}
+use Rattle.session_script.proofs.NumeralsLemmas.{digits_are_hexadecimal}
+use Rattle.session_script.proofs.AppendingLemmas.{Continues, continues_both, acts_append, bodies_append, branch_appends}
 use Rattle.session_script.proofs.TextOrderLemmas.{below_or_from, entry_there, parent_there, one_longer, spelled_in_order}
 
 decoded_are_bytes : (digits : List ℕ) → list_all is_hexadecimal digits ≡ true →

@@ -10,9 +10,9 @@ use Rattle.session_script.specs.Script.{Entry, Place, ScriptModel, parent_of}
 use Rattle.session_script.specs.Text.{Words, IsBodyText, in_braces, IsActsText, no_act, an_act, IsBodiesText, no_body, one_body, all_bodies, IsBranchText, left_out, spelled_out}
 use Rattle.session_script.specs.WellFormed.{HasParent, IsWellFormed}
 use Rattle.session_script.specs.Writable.{StandsUnder, IsInTextOrder}
-use Rattle.session_script.proofs.Appending.{Continues, continues_both, continues_longer, acts_append, bodies_append, body_appends, branch_appends}
-use Rattle.session_script.proofs.Gathering.{IsEarlier, below_later}
-use Rattle.session_script.proofs.CanonicalBodies.{entry_at}
+use Rattle.session_script.proofs.AppendingLemmas.{Continues, continues_both, continues_longer, acts_append, bodies_append, body_appends, branch_appends}
+use Rattle.session_script.proofs.GatheringLemmas.{IsEarlier, below_later}
+use Rattle.session_script.proofs.CanonicalBodiesLemmas.{entry_at}
 use Rattle.session_script.proofs.PlacingLemmas.{has_parent}
 use Rattle.session_script.proofs.OrderLemmas.{same_or_above}
 

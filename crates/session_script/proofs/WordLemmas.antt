@@ -9,7 +9,7 @@ use Rattle.std.proofs.lemmas.List.Elements.{recursion_from_All}
 use Rattle.session_script.specs.Kinds.{is_digit, is_hexadecimal, hexadecimal, is_number, is_data, decimal_from, number, data_digits, decoded}
 use Rattle.session_script.specs.Spelling.{digit_of, encoded, data_text}
 use Rattle.session_script.specs.Writable.{AreBytes}
-use Rattle.session_script.proofs.Numerals.{decimal_model}
+use Rattle.session_script.proofs.NumeralsLemmas.{decimal_model}
 
 is_some : (size : ℕ) → 0 < size → not (size == 0) ≡ true
 is_some size some = grind (arith, nat_tests)

@@ -10,7 +10,7 @@ use Rattle.session_script.specs.Text.{Words, IsBodyText, IsScriptText}
 use Rattle.session_script.specs.WellFormed.{IsWellFormed, header_of}
 use Rattle.session_script.specs.Writable.{IsWritable}
 use Rattle.session_script.proofs.BuildingLemmas.{opening_has_text}
-use Rattle.session_script.proofs.ReadingBack.{canonical_is_read}
+use Rattle.session_script.proofs.ReadingBackLemmas.{canonical_is_read}
 use Rattle.session_script.proofs.SayingLemmas.{HasText, number_has_text, header_is_small, declarations_have_text, lines_have_text, rounds_have_text}
 
 same_either : (first : Bool) (n : ℕ) → cond first n n ≡ n

@@ -1,5 +1,4 @@
-ghost use Rattle.std.specs.Prelude.{◌≡◌, ℕ, ◌+◌, ◌*◌, ◌<◌, ◌≤◌, length, map, [], slice_index_or, IfOk};
-ghost use Rattle.session_script.specs.Script.{numbers_in};
+ghost use Rattle.std.specs.Prelude.{◌≡◌, ◌+◌, ◌*◌, ◌<◌, ◌≤◌, length, map, IfOk};
 ghost use Rattle.session_script.specs.Groups.{class_number, place_number};
 ghost use Rattle.session_script.specs.Outcome.{entries_of};
 ghost use Rattle.session_script.specs.Layout.{HoldsPlaces};

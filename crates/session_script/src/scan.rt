@@ -1,4 +1,4 @@
-ghost use Rattle.std.specs.Prelude.{◌≡◌, ◌+◌, ◌≤◌, ◌<◌, ◌^◌, ℕ, List, [], take, drop, length, slice_index, true, false};
+ghost use Rattle.std.specs.Prelude.{◌≡◌, ◌+◌, ◌≤◌, ◌<◌, ◌^◌, ℕ, [], take, drop, length, slice_index, true, false};
 ghost use Rattle.session_script.specs.Tokens.{is_printable, tokens_from, tokens_of, tokens_at};
 
 use crate::token::{Cursor, Position, Token};

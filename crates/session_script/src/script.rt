@@ -1,4 +1,4 @@
-ghost use Rattle.std.specs.Prelude.{◌≡◌, ◌<◌, ◌≤◌, length, true, Some, Ok, IfOk, IfErr};
+ghost use Rattle.std.specs.Prelude.{◌≡◌, ◌<◌, ◌≤◌, length, Some, Ok, IfOk, IfErr};
 ghost use Rattle.session_script.specs.Limits.{most_acts};
 ghost use Rattle.session_script.specs.Script.{act_of, opening_of, branch_of, parent_of, is_op, stops};
 ghost use Rattle.session_script.specs.Lanes.{lane_of, is_inline};

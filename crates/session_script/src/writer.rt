@@ -1,4 +1,4 @@
-ghost use Rattle.std.specs.Prelude.{◌≡◌, ◌≤◌, ◌++◌, ℕ, List, length, vec_len, OnOk, IfOk};
+ghost use Rattle.std.specs.Prelude.{◌≡◌, ◌≤◌, ℕ, List, length, vec_len, OnOk, IfOk};
 ghost use Rattle.session_script.specs.Grammar.{IsScript};
 ghost use Rattle.std.specs.List.{flat_map};
 ghost use Rattle.session_script.specs.Spelling.{written, count_words, declared_words, line_words, round_words, what_words, words_after_session, spelling_of};

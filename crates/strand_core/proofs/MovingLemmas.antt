@@ -10,7 +10,7 @@ use Rattle.asio_types.specs.declared.number.Lane.{Lane}
 use Rattle.session_script.specs.Script.{ScriptModel, parent_of}
 use Rattle.session_script.specs.WellFormed.{HasParent}
 use Rattle.strand_core.specs.Hands.{KeepsInline, behind, in_list, is_op_of, is_of_lane, left_at, or_else, same_lane, taken_at}
-use Rattle.strand_core.proofs.BehindLemmas.{free-behind, free_at, in_behind, length-behind, none_before, none_past, set-behind}
+use Rattle.strand_core.proofs.BehindLemmas.{free-behind, free_at, in_behind, length-behind, none_past, set-behind}
 use Rattle.strand_core.proofs.HandLemmas.{is_within, taken_other, taken_same}
 use Rattle.strand_core.proofs.LaneLemmas.{callee_of, lanes_apart, of_within}
 

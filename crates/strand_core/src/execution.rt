@@ -1,5 +1,4 @@
-ghost use Rattle.std.specs.Prelude.{◌≡◌, ◌<◌, length, false, None};
-ghost use Rattle.asio_types.specs.Code.{class_of_code};
+ghost use Rattle.std.specs.Prelude.{◌≡◌, ◌<◌, length, None};
 ghost use Rattle.session_script.specs.Lanes.{is_inline};
 ghost use Rattle.strand_core.specs.Answer.{CanExecute, HasRun, HasExecuted, IfMissing, IfWhole, TakesWhole};
 ghost use Rattle.strand_core.specs.Hands.{HasInlineOf, HasRunMark, held_at};

@@ -1,5 +1,4 @@
-ghost use Rattle.std.specs.Prelude.{◌≡◌, ◌<◌, ◌≤◌, ◌+◌, ◌++◌, ◌∷◌, [], false, length, slice_get, Some, None, IsSome, IfOk};
-ghost use Rattle.std.specs.List.{list_any};
+ghost use Rattle.std.specs.Prelude.{◌≡◌, ◌<◌, ◌≤◌, ◌+◌, ◌++◌, ◌∷◌, [], false, length, None, IsSome, IfOk};
 ghost use Rattle.strand_core.specs.Ready.{next_waiting, was_pushed};
 
 use asio_types::{Code, NoMemory, OpNo};

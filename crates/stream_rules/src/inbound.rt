@@ -1,7 +1,7 @@
-ghost use Rattle.std.specs.Prelude.{◌≡◌, ◌<◌, ◌≤◌, ◌-◌, ◌++◌, ℕ, List, [], Option, None, IfOk, is_some, if◌then◌else◌, length, take, drop};
+ghost use Rattle.std.specs.Prelude.{◌≡◌, ◌<◌, ◌≤◌, ◌-◌, ◌++◌, [], None, IfOk, is_some, if◌then◌else◌, length, take, drop};
 ghost use Rattle.std.specs.Option.{option_map};
 ghost use Rattle.stream_rules.specs.Stream.{first_mark};
-ghost use Rattle.stream_rules.specs.Moving.{moved_by, moved_count, read_answer};
+ghost use Rattle.stream_rules.specs.Moving.{moved_by, moved_count};
 ghost use Rattle.stream_rules.specs.Serving.{ended_by, read_code, some_of};
 
 use asio_types::{Moved, NoMemory, ReadMark};

@@ -1,4 +1,4 @@
-ghost use Rattle.std.specs.Prelude.{◌≡◌, ◌<◌, ◌≤◌, ◌+◌, ◌-◌, ◌++◌, ℕ, List, [], Option, None, IfOk, is_some, if◌then◌else◌, length, take};
+ghost use Rattle.std.specs.Prelude.{◌≡◌, ◌<◌, ◌≤◌, ◌+◌, ◌-◌, ◌++◌, [], None, IfOk, is_some, if◌then◌else◌, length, take};
 ghost use Rattle.std.specs.Option.{option_map};
 ghost use Rattle.stream_rules.specs.Stream.{first_mark};
 ghost use Rattle.stream_rules.specs.Moving.{moved_by, moved_count};

@@ -1,4 +1,4 @@
-ghost use Rattle.std.specs.Prelude.{◌≡◌, ◌<◌, ◌≤◌, ◌+◌, ◌^◌, ℕ, IfOk, IsNone, length, take};
+ghost use Rattle.std.specs.Prelude.{◌≡◌, ◌<◌, ◌≤◌, ◌+◌, ◌^◌, IfOk, IsNone, length, take};
 ghost use Rattle.stream_rules.specs.Stream.{closed_stream, marked_last, new_stream, performed};
 ghost use Rattle.stream_rules.specs.Asked.{reading_of, writing_of, IsCountable};
 ghost use Rattle.stream_rules.specs.Moving.{moved_count, read_answer, write_answer};

@@ -1,4 +1,4 @@
-ghost use Rattle.std.specs.Prelude.{◌≡◌, ◌<◌, ◌≤◌, ◌+◌, ◌^◌, ℕ, List, All, IfOk, IfSome, length, map, replicate, take, drop};
+ghost use Rattle.std.specs.Prelude.{◌≡◌, ◌<◌, All, IfOk, IfSome, length, map, replicate};
 ghost use Rattle.stream_rules.specs.Stream.{new_stream};
 ghost use Rattle.stream_rules.specs.World.{lines_at, perform_lines, streams_at_last};
 ghost use Rattle.stream_rules.specs.Pipes.{fed, fed_to, room_to, roomed, stream_of, HasRoom, IsMarked, KeepsRoom, UsesRoom};

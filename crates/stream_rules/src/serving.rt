@@ -1,4 +1,4 @@
-ghost use Rattle.std.specs.Prelude.{◌≡◌, ◌≤◌, ◌<◌, ◌+◌, ◌^◌, ℕ, Option, IfSome, IsNone, length};
+ghost use Rattle.std.specs.Prelude.{◌≡◌, ◌≤◌, ◌<◌, ◌+◌, ◌^◌, IfSome, IsNone, length};
 ghost use Rattle.std.specs.Option.{option_map};
 ghost use Rattle.stream_rules.specs.Asked.{reading_of, writing_of, IsCountable};
 ghost use Rattle.stream_rules.specs.Serving.{all_of, bytes_of, ended_by, read_code, served_read, served_write, some_of, until_found, write_code};

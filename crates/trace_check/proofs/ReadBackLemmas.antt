@@ -1,7 +1,7 @@
 -- A trace that is read back.
 use Rattle.std.proofs.Common.{◌≤◌, ◌<◌, ◌^◌, ℕ, Bool, List, [], ◌∷◌, length, refl, arith, ap, sym, ◌≡◌, ◌∙◌, length-append}
 use Rattle.asio_types.specs.declared.event.Event.{Event}
-use Rattle.history_book.proofs.Reading.{same_events}
+use Rattle.history_book.proofs.ReadingLemmas.{same_events}
 use Rattle.history_book.specs.Legal.{IsLegal}
 use Rattle.history_book.specs.Trace.{AreEvents, line_end, line_of, trace_of}
 use Rattle.session_script.specs.Script.{ScriptModel}

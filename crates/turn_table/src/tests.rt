@@ -1,4 +1,4 @@
-ghost use Rattle.std.specs.Prelude.{◌≡◌, ◌+◌, ◌*◌, ◌%◌, ◌<◌, [], ◌++◌, map, IfOk};
+ghost use Rattle.std.specs.Prelude.{◌≡◌, ◌+◌, ◌%◌, ◌<◌, [], ◌++◌, map, IfOk};
 ghost use Rattle.turn_table.specs.Numbers.{run_from};
 ghost use Rattle.turn_table.specs.Seated.{IsSeatOf, new_seat};
 

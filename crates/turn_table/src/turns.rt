@@ -1,6 +1,5 @@
 // Taking and giving turns, and what seats stand for.
 ghost use Rattle.std.specs.Prelude.{◌≡◌, ◌<◌, [], IfSome, IfNone, IsSome};
-ghost use Rattle.turn_table.specs.Numbers.{Has};
 ghost use Rattle.turn_table.specs.Seated.{IsSeatOf, StandsForAll, StandsForTwo, HasTurn};
 ghost use Rattle.turn_table.specs.Seated.{with_turn, with_miss, without_turn, with_numbers_of};
 ghost use Rattle.turn_table.specs.Seated.{without_greatest, greatest_alone};

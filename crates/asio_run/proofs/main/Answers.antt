@@ -1,8 +1,8 @@
 use Rattle.std.proofs.Common.{◌≡◌, ℕ, ◌+◌, ◌∙◌, ap, sym, refl, arith, length}
 use Rattle.op_handlers.specs.Handler.{marks_of}
 use Rattle.op_handlers.specs.Marks.{Marks}
-use Rattle.op_handlers.proofs.Boxed.{AnswersBy-boxed}
-use Rattle.op_handlers.proofs.Racked.{HaveMarks-push, All-HaveMarks}
+use Rattle.op_handlers.proofs.BoxedLemmas.{AnswersBy-boxed}
+use Rattle.op_handlers.proofs.RackedLemmas.{HaveMarks-push, All-HaveMarks}
 use Rattle.asio_run.proofs.main.OwnLists.{own-1, entry-1-1, at-1-1, same-1-1}
 use Rattle.asio_run.proofs.main.Goals as goal
 use Rattle.asio_run.proofs.main.Goals.{After-into_dyn_box}

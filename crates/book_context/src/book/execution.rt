@@ -1,4 +1,4 @@
-ghost use Rattle.std.specs.Prelude.{◌≡◌, ◌∷◌, [], false, true};
+ghost use Rattle.std.specs.Prelude.{◌≡◌, [], false, true};
 ghost use Rattle.book_context.specs.Book.{HoldsUnspent, KeepsHistory};
 ghost use Rattle.book_context.specs.BookSteps.{HasGoneOn};
 ghost use Rattle.book_context.specs.InTurn.{HasExecutedNext, KeepsFaults};

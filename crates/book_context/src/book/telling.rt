@@ -1,4 +1,4 @@
-ghost use Rattle.std.specs.Prelude.{◌≡◌, ◌<◌, IsTrue, true, false};
+ghost use Rattle.std.specs.Prelude.{◌≡◌, ◌<◌, true, false};
 ghost use Rattle.book_context.specs.Book.{IsTurned, KeepsHistory};
 ghost use Rattle.book_context.specs.InTurn.{HasOnlyTold, IsInTurn};
 ghost use Rattle.book_context.specs.Recorded.{recorded_half};

@@ -1,4 +1,4 @@
-ghost use Rattle.std.specs.Prelude.{◌≡◌, ◌≢◌, ◌+◌, ◌≤◌, ◌<◌, [], ◌∷◌, ◌++◌, length, true, false, replicate, slice_set, slice_index_or, IfOk, IfSome, IfNone};
+ghost use Rattle.std.specs.Prelude.{◌≡◌, ◌≢◌, ◌≤◌, ◌<◌, [], ◌∷◌, ◌++◌, length, true, false, replicate, slice_set, slice_index_or, IfOk, IfSome, IfNone};
 ghost use Rattle.book_context.specs.Listed.{Listed};
 
 use asio_types::{ActNo, Code, NoMemory, OpNo};

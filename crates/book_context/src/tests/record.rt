@@ -1,6 +1,5 @@
 //! What a record keeps of the calls of `open` and of an execution.
-ghost use Rattle.std.specs.Prelude.{◌≡◌, ◌≤◌, ℕ, false, true, length, IfOk, IsSome};
-ghost use Rattle.op_handlers.specs.Rack.{IsWholeRack, handlers_in};
+ghost use Rattle.std.specs.Prelude.{◌≡◌, ℕ, false, true, IsSome};
 ghost use Rattle.session_script.specs.Script.{is_op};
 ghost use Rattle.strand_core.specs.Hands.{held_at};
 ghost use Rattle.book_context.specs.Recorded.{IsRecorded};

@@ -1,4 +1,4 @@
-ghost use Rattle.std.specs.Prelude.{◌≡◌, ◌+◌, ◌<◌, ◌≤◌, All, length, slice_index_or};
+ghost use Rattle.std.specs.Prelude.{◌≡◌, ◌+◌, ◌<◌, All, length, slice_index_or};
 ghost use Rattle.proactor_core.specs.declared.tests.waits.TheConstants.{FIRST, ROOM};
 
 use crate::due::DueList;

@@ -2,7 +2,7 @@ ghost use Rattle.std.specs.Prelude.{◌<◌, ◌-◌, ◌^◌, nat_le, Some, OnO
 ghost use lib.Chars.{codes};
 ghost use Rattle.session_script.specs.Tokens.{tokens_at, goes_on};
 ghost use Rattle.session_script.specs.Productions.{one, repeated};
-ghost use Rattle.session_script.specs.Acts.{act_word, branch, branches, body, braced, entry};
+ghost use Rattle.session_script.specs.Acts.{act_word, branch, branches, body, entry};
 ghost use Rattle.session_script.specs.Outcome.{Gives, Leaves, entries_of};
 
 use crate::act::{Bodies, bodies_of};

@@ -1,6 +1,6 @@
-ghost use Rattle.std.specs.Prelude.{◌≡◌, ◌<◌, ◌-◌, ◌++◌, ◌∷◌, [], true, length, slice_index, EachIndex, OnOk};
+ghost use Rattle.std.specs.Prelude.{◌≡◌, ◌<◌, ◌-◌, true, length, slice_index, EachIndex, OnOk};
 ghost use Rattle.std.specs.List.{flat_map};
-ghost use Rattle.session_script.specs.Script.{act_of, is_op};
+ghost use Rattle.session_script.specs.Script.{is_op};
 ghost use Rattle.session_script.specs.declared.act.Bodies.TheVariants as bodies;
 ghost use Rattle.session_script.specs.Spelling.{written, body_words, entry_words, branch_words, bodies_words};
 

@@ -1,7 +1,7 @@
 use Rattle.std.proofs.Common.{◌∙◌, ap, refl, subst}
 use Rattle.std.specs.List.{flat_map}
 use Rattle.asio_types.specs.Sink.{ExtendsByPart}
-use Rattle.history_book.proofs.Pieces.{extends_by_part_at}
+use Rattle.history_book.proofs.PiecesLemmas.{extends_by_part_at}
 use Rattle.text_io.proofs.NoteLemmas.{on_any}
 use Rattle.generated_session.proofs.LineLemmas.{extends_by_piece}
 use Rattle.generated_session.specs.Summary.{lines_of, tally_of, text_of_line}

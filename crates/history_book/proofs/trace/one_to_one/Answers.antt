@@ -1,4 +1,4 @@
-use Rattle.history_book.proofs.Reading.{same_events}
+use Rattle.history_book.proofs.ReadingLemmas.{same_events}
 use Rattle.history_book.proofs.trace.one_to_one.Goals as goal
 
 pub returns : goal.returns

@@ -1,7 +1,7 @@
 use Rattle.std.proofs.Common.{Ok, Err, OnErr, ◌∙◌, subst}
 use Rattle.asio_types.specs.Sink.{ExtendsByPart}
 use Rattle.history_book.specs.Trace.{trace_of, line_of}
-use Rattle.history_book.proofs.Pieces.{extends_by_part_at}
+use Rattle.history_book.proofs.PiecesLemmas.{extends_by_part_at}
 use Rattle.history_book.proofs.trace.write_trace.Goals as goal
 
 pub returns-in_err-write_all-clause-part : goal.returns-in_err-write_all-clause-part

@@ -1,5 +1,5 @@
 use Rattle.std.proofs.Common.{refl}
-use Rattle.op_handlers.proofs.Boxed.{AnswersBy-boxed}
+use Rattle.op_handlers.proofs.BoxedLemmas.{AnswersBy-boxed}
 use Rattle.op_handlers.proofs.tests.a_discarded_handler_answers_its_drop_mark.OwnLists.{own-1, entry-1-1, at-1-1, same-1-1}
 use Rattle.op_handlers.proofs.tests.a_discarded_handler_answers_its_drop_mark.Goals as goal
 

@@ -1,5 +1,5 @@
 use Rattle.std.proofs.Common.{refl}
-use Rattle.op_handlers.proofs.Boxed.{AnswersBy-boxed}
+use Rattle.op_handlers.proofs.BoxedLemmas.{AnswersBy-boxed}
 use Rattle.op_handlers.proofs.tests.a_handler_is_given_its_own_call.OwnLists.{own-1, entry-1-1, at-1-1, same-1-1}
 use Rattle.op_handlers.proofs.tests.a_handler_is_given_its_own_call.Goals as goal
 

@@ -1,5 +1,5 @@
 use Rattle.std.proofs.Common.{◌^◌, arith}
-use Rattle.session_script.proofs.Numbers.{decimal_overflows}
+use Rattle.session_script.proofs.NumbersLemmas.{decimal_overflows}
 use Rattle.session_script.proofs.kind.decimal.Goals as goal
 
 pub returns-in-None : goal.returns-in-None

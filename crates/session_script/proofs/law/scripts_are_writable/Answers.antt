@@ -1,5 +1,5 @@
 use Rattle.session_script.specs.Spelling.{spelling_of}
-use Rattle.session_script.proofs.ReadingBack.{spells}
+use Rattle.session_script.proofs.ReadingBackLemmas.{spells}
 use Rattle.session_script.proofs.SpokenLemmas.{spelled_is_writable}
 use Rattle.session_script.proofs.law.scripts_are_writable.Goals as goal
 

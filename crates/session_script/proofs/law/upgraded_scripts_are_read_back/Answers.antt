@@ -1,4 +1,4 @@
-use Rattle.session_script.proofs.ReadingBack.{upgrade_is_read}
+use Rattle.session_script.proofs.ReadingBackLemmas.{upgrade_is_read}
 use Rattle.session_script.proofs.law.upgraded_scripts_are_read_back.Goals as goal
 
 pub returns : goal.returns

@@ -4,7 +4,7 @@ use Rattle.asio_types.specs.declared.failure.NoMemory.{NoMemory}
 use Rattle.session_script.specs.Groups.{place_number, numbers_with}
 use Rattle.session_script.specs.Layout.{HoldsPlaces}
 use Rattle.session_script.specs.Outcome.{entries_of}
-use Rattle.session_script.proofs.Places.{numbers_below, holds_places}
+use Rattle.session_script.proofs.PlacesLemmas.{numbers_below, holds_places}
 use Rattle.session_script.proofs.place.places.Goals as goal
 
 pub of-requires-clause-in_range : goal.of-requires-clause-in_range

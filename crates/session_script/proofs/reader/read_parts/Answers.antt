@@ -1,4 +1,4 @@
-use Rattle.session_script.proofs.Reading.{is_script, is_first}
+use Rattle.session_script.proofs.ReadingLemmas.{is_script, is_first}
 use Rattle.session_script.proofs.reader.read_parts.Goals as goal
 
 pub returns-clause-script : goal.returns-clause-script

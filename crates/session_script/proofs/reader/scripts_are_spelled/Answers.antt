@@ -1,4 +1,4 @@
-use Rattle.session_script.proofs.ReadingBack.{spells, spelled_is_script}
+use Rattle.session_script.proofs.ReadingBackLemmas.{spells, spelled_is_script}
 use Rattle.session_script.proofs.reader.scripts_are_spelled.Goals as goal
 
 pub returns : goal.returns

@@ -1,6 +1,6 @@
 use Rattle.std.proofs.Common.{◌≡◌, true, get_or, sym, ◌∙◌, arith, rules}
 use Rattle.session_script.specs.Tokens.{is_printable}
-use Rattle.session_script.proofs.Scanning.{run_one}
+use Rattle.session_script.proofs.ScanningLemmas.{run_one}
 use Rattle.session_script.proofs.scan.run_len.Goals as goal
 
 pub loop-count-preserved : goal.loop-count-preserved

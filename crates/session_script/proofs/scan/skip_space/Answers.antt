@@ -1,6 +1,6 @@
 use Rattle.std.proofs.Common.{◌≡◌, ◌+◌, false, get_or, [], drop, sym, ap, ◌∙◌, arith, rules}
 use Rattle.session_script.specs.Tokens.{is_printable, line_after, tokens_from}
-use Rattle.session_script.proofs.Scanning.{skip_one}
+use Rattle.session_script.proofs.ScanningLemmas.{skip_one}
 use Rattle.session_script.proofs.scan.skip_space.Goals as goal
 use Rattle.session_script.proofs.scan.skip_space.Goals.{then-bytes-skipped-eq10, else-bytes-skipped-eq10}
 

@@ -2,7 +2,7 @@ use Rattle.std.proofs.Common.{◌≡◌, ◌≤◌, length, get_or, sym, ap, ◌
 use Rattle.std.proofs.str.Laws.{order}
 use Rattle.std.proofs.lemmas.Bool.{false≢true}
 use Rattle.session_script.specs.Tokens.{is_printable, tokens_at}
-use Rattle.session_script.proofs.Scanning.{token_comes, end_comes}
+use Rattle.session_script.proofs.ScanningLemmas.{token_comes, end_comes}
 use Rattle.session_script.proofs.scan.tokens_after.Goals as goal
 
 pub returns-then-count-eq0 : goal.returns-then-count-eq0

@@ -1,5 +1,5 @@
 use Rattle.session_script.specs.Outcome.{model_of}
-use Rattle.session_script.proofs.ReadingBack.{written_is_read}
+use Rattle.session_script.proofs.ReadingBackLemmas.{written_is_read}
 use Rattle.session_script.proofs.script.read_script.Goals as goal
 
 pub make-requires : goal.make-requires

@@ -3,7 +3,7 @@ use Rattle.session_script.specs.Script.{ScriptModel}
 use Rattle.session_script.specs.Grammar.{IsScript}
 use Rattle.session_script.specs.Spelling.{spelling_of, upgraded}
 use Rattle.session_script.specs.Outcome.{model_of}
-use Rattle.session_script.proofs.ReadingBack.{upgrade_is_read}
+use Rattle.session_script.proofs.ReadingBackLemmas.{upgrade_is_read}
 use Rattle.session_script.proofs.script.upgrade.Goals as goal
 
 pub make-requires : goal.make-requires

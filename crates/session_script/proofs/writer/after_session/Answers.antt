@@ -9,7 +9,7 @@ use Rattle.session_script.specs.declared.limits.Limits.{Limits}
 use Rattle.session_script.specs.Script.{opening_of}
 use Rattle.session_script.specs.Limits.{limits_of}
 use Rattle.session_script.specs.Spelling.{written, words_after_session, declared_words, line_words, round_words, body_words}
-use Rattle.session_script.proofs.Writing.{are_acts, session_written}
+use Rattle.session_script.proofs.WrittenLemmas.{are_acts, session_written}
 use Rattle.session_script.proofs.writer.after_session.Goals as goal
 
 pub body-requires : goal.body-requires

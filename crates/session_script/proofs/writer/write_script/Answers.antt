@@ -1,7 +1,7 @@
 use Rattle.std.proofs.Common.{◌≡◌, length, sym, ap, subst, arith, rules}
 use Rattle.session_script.specs.Grammar.{IsScript}
 use Rattle.session_script.specs.Spelling.{spelling_of}
-use Rattle.session_script.proofs.ReadingBack.{written_is_read}
+use Rattle.session_script.proofs.ReadingBackLemmas.{written_is_read}
 use Rattle.session_script.proofs.writer.write_script.Goals as goal
 
 spelled : (c : goal.In_ok-after_session) → c.after_session.new.out.items ≡ spelling_of c.args.script.now

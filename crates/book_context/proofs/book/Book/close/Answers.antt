@@ -1,4 +1,4 @@
-use Rattle.std.proofs.Common.{◌≡◌, sym, subst}
+use Rattle.std.proofs.Common.{sym, subst}
 use Rattle.book_context.specs.Book.{IsBook}
 use Rattle.book_context.proofs.ClosingStepLemmas.{closed_book}
 use Rattle.book_context.proofs.book.Book.close.Goals as goal

@@ -1,4 +1,4 @@
-use Rattle.std.proofs.Common.{◌≡◌, ◌+◌, ◌<◌, ◌^◌, refl, sym, ap, arith}
+use Rattle.std.proofs.Common.{refl, sym, ap, arith}
 use Rattle.book_context.proofs.ClosingLemmas.{cannot_asked, cannot_ready, cannot_run, may_end, may_poll, may_stop}
 use Rattle.book_context.proofs.FollowsLemmas.{sound_guards}
 use Rattle.book_context.proofs.OpenRoundLemmas.{few_guards}

@@ -1,5 +1,6 @@
 use Rattle.std.proofs.Common.{◌∙◌, ap, sym, subst}
-use Rattle.book_context.specs.Book.{BookView, has_outside_stop}
+use Rattle.history_book.specs.FromOutside.{has_outside_stop}
+use Rattle.book_context.specs.Book.{BookView}
 use Rattle.book_context.specs.BookSteps.{IsBookOver}
 use Rattle.book_context.proofs.FinishLemmas.{no_stop}
 use Rattle.book_context.proofs.FinishOverLemmas.{begin_ending, over_legal, rose_at_end, sent_at_end, stood_at_end}

@@ -1,4 +1,4 @@
-use Rattle.std.proofs.Common.{◌≡◌, sym, subst}
+use Rattle.std.proofs.Common.{sym, subst}
 use Rattle.asio_types.specs.declared.event.Event.TheVariants as event
 use Rattle.std.specs.Prelude.{None}
 use Rattle.book_context.specs.Book.{IsBook}

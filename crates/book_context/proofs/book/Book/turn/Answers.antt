@@ -1,6 +1,5 @@
-use Rattle.std.proofs.Common.{◌≡◌, sym, ap, subst, ◌∙◌}
-use Rattle.book_context.specs.Book.{HoldsUnspent, IsBook, KeepsHistory, KeepsReactor}
-use Rattle.book_context.specs.BookSteps.{TurnAnswers}
+use Rattle.std.proofs.Common.{sym, ap, subst, ◌∙◌}
+use Rattle.book_context.specs.Book.{IsBook, KeepsHistory, KeepsReactor}
 use Rattle.book_context.specs.InTurn.{HasTakenNext, SpendsNone, Waits}
 use Rattle.book_context.specs.Steps.{IsRoundOpen}
 use Rattle.book_context.proofs.BookTurnLemmas.{closed_answer, executed_answer, executed_book, stopped_answer, taken_answer, turned_book, waited_answer}

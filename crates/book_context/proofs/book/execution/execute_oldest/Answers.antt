@@ -1,4 +1,4 @@
-use Rattle.std.proofs.Common.{◌≡◌, ◌∙◌, ap, sym}
+use Rattle.std.proofs.Common.{ap}
 use Rattle.book_context.proofs.ExecutionLemmas.{can_execute, executed_faults, executed_gone, executed_half, executed_hands, executed_history, has_room, may}
 use Rattle.book_context.specs.Steps.{MayExecute}
 use Rattle.book_context.specs.Oldest.{with_ready}

@@ -1,5 +1,4 @@
-use Rattle.std.proofs.Common.{◌≡◌, refl, sym, ap, subst, ◌∙◌}
-use Rattle.history_book.specs.State.{ReactorHalf}
+use Rattle.std.proofs.Common.{sym, ap, subst, ◌∙◌}
 use Rattle.history_book.specs.Time.{next_time}
 use Rattle.proactor_core.specs.Proactor.{Follows, after_point, tells}
 use Rattle.book_context.specs.Recorded.{recorded_half}

@@ -1,5 +1,5 @@
-use Rattle.std.proofs.Common.{◌≡◌, ◌∙◌, refl}
-use Rattle.book_context.proofs.ToldLemmas.{TellsOn, told-more, told-none}
+use Rattle.std.proofs.Common.{◌∙◌, refl}
+use Rattle.book_context.proofs.ToldLemmas.{told-more, told-none}
 use Rattle.book_context.proofs.book.telling.tell_all.Goals as goal
 
 pub loop-init : goal.loop-init

@@ -1,6 +1,3 @@
-use Rattle.std.specs.Prelude.{◌≡◌}
-use Rattle.book_context.specs.Book.{KeepsHistory}
-use Rattle.book_context.specs.InTurn.{HasOnlyTold, IsInTurn}
 use Rattle.book_context.proofs.ToldLemmas.{TellsOn}
 use Rattle.book_context.proofs.book.telling.tell_all.Given as goal
 

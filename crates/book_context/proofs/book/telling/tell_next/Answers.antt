@@ -1,6 +1,5 @@
-use Rattle.std.proofs.Common.{◌≡◌, ◌<◌, sym, ap, subst, ◌∙◌, arith}
-use Rattle.std.specs.Prelude.{Some}
-use Rattle.book_context.specs.Book.{IsTurned, KeepsHistory}
+use Rattle.std.proofs.Common.{sym, ap, subst, ◌∙◌, arith}
+use Rattle.book_context.specs.Book.{KeepsHistory}
 use Rattle.book_context.specs.InTurn.{HasOnlyTold, IsInTurn}
 use Rattle.book_context.specs.Recorded.{recorded_half}
 use Rattle.book_context.specs.TurnSteps as steps

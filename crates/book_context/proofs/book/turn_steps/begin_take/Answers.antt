@@ -1,4 +1,4 @@
-use Rattle.std.proofs.Common.{◌≡◌, refl, sym, subst}
+use Rattle.std.proofs.Common.{refl, sym, subst}
 use Rattle.history_book.specs.Requests.{reactor_after_take}
 use Rattle.book_context.specs.Book.{KeepsHistory}
 use Rattle.book_context.specs.InTurn.{HasBegun}

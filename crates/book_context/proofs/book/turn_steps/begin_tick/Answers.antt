@@ -1,4 +1,4 @@
-use Rattle.std.proofs.Common.{◌≡◌, ◌∙◌, ap, refl, sym, subst}
+use Rattle.std.proofs.Common.{◌∙◌, ap, sym, subst}
 use Rattle.book_context.specs.Book.{KeepsHistory}
 use Rattle.book_context.specs.BookSteps.{passed}
 use Rattle.book_context.specs.InTurn.{HasBegun}

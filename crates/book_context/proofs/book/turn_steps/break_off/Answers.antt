@@ -1,4 +1,4 @@
-use Rattle.std.proofs.Common.{◌≡◌, inl, inr, subst, sym}
+use Rattle.std.proofs.Common.{inl, inr, subst, sym}
 use Rattle.book_context.specs.InTurn.{HasBrokenOff}
 use Rattle.book_context.proofs.BookHistoryLemmas.{some_behind}
 use Rattle.book_context.proofs.ReactorTurnLemmas.{broken_off_none, broken_off_some, pending_some}

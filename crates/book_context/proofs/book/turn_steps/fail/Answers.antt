@@ -1,4 +1,4 @@
-use Rattle.std.proofs.Common.{◌≡◌, ap, refl, sym, subst, ◌∙◌}
+use Rattle.std.proofs.Common.{ap, refl, sym, subst}
 use Rattle.history_book.specs.State.{State}
 use Rattle.book_context.specs.Book.{KeepsHistory}
 use Rattle.book_context.specs.InTurn.{HasBroken}

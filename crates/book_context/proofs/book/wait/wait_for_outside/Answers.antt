@@ -1,10 +1,9 @@
-use Rattle.std.proofs.Common.{◌≡◌, ◌+◌, ◌≤◌, ◌<◌, ap, refl, sym, subst, ◌∙◌, arith}
-use Rattle.history_book.specs.Time.{pending_count}
+use Rattle.std.proofs.Common.{ap, arith}
 use Rattle.book_context.specs.Book.{IsTurned}
 use Rattle.book_context.specs.Recorded.{recorded_half}
 use Rattle.book_context.proofs.FollowsLemmas.{sound_guards}
-use Rattle.book_context.proofs.OpenRoundLemmas.{few_guards, idle_round, work_is}
-use Rattle.book_context.proofs.ReactorTurnLemmas.{can_turn, now_turned}
+use Rattle.book_context.proofs.OpenRoundLemmas.{few_guards}
+use Rattle.book_context.proofs.ReactorTurnLemmas.{now_turned}
 use Rattle.book_context.proofs.book.wait.wait_for_outside.Given as given
 use Rattle.book_context.proofs.book.wait.wait_for_outside.Goals as goal
 use Rattle.book_context.proofs.book.wait.wait_for_outside.Goals.{Start}

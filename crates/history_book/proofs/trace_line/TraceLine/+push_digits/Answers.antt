@@ -1,7 +1,7 @@
 use Rattle.std.proofs.Common.{◌+◌, ◌<◌, ◌++◌, ◌/◌, ◌%◌, ◌^◌, [], ◌∷◌, length, arith, sym, ap, ◌∙◌, append_assoc, length-append}
 use Rattle.std.specs.Fmt.{decimal}
 use Rattle.std.proofs.lemmas.Fmt.{decimal_digit, decimal_step}
-use Rattle.history_book.proofs.Decimals.{length-decimal_digit, length-decimal_step}
+use Rattle.history_book.proofs.DecimalsLemmas.{length-decimal_digit, length-decimal_step}
 use Rattle.history_book.proofs.trace_line.TraceLine.+push_digits.Goals as goal
 
 pub push_digits-requires : goal.push_digits-requires

@@ -1,7 +1,7 @@
 use Rattle.std.proofs.Common.{arith, ap}
 use Rattle.std.proofs.Math.Logic.{∥∥₁_elim, ∥∥₁_prop}
 use Rattle.op_handlers.specs.declared.call.Spend.TheVariants.{Execute}
-use Rattle.op_handlers.proofs.Spent.{answer-AnswersMarks}
+use Rattle.op_handlers.proofs.SpentLemmas.{answer-AnswersMarks}
 use Rattle.op_handlers.proofs.handler.Handler.call.Goals as goal
 
 pub call_once-requires : goal.call_once-requires

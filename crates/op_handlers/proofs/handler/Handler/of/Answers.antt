@@ -1,4 +1,4 @@
-use Rattle.op_handlers.proofs.Spent.{marks-AnswersMarks}
+use Rattle.op_handlers.proofs.SpentLemmas.{marks-AnswersMarks}
 use Rattle.op_handlers.proofs.handler.Handler.of.Goals as goal
 
 pub returns : goal.returns

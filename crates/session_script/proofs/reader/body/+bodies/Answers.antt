@@ -4,8 +4,8 @@ use lib.Chars.{codes}
 use Rattle.session_script.specs.Tokens.{tokens_at, goes_on}
 use Rattle.session_script.specs.Acts.{body, entry}
 use Rattle.session_script.specs.Outcome.{entries_of}
-use Rattle.session_script.proofs.Repeating.{goes_on as goes_on_to, is_over, breaks, falls}
-use Rattle.session_script.proofs.Bodies.{body_keeps, entry_takes, fails_at_brace, fails_in_acts, fails_at_end, body_is}
+use Rattle.session_script.proofs.RepeatingLemmas.{goes_on as goes_on_to, is_over, breaks, falls}
+use Rattle.session_script.proofs.BodiesLemmas.{body_keeps, entry_takes, fails_at_brace, fails_in_acts, fails_at_end, body_is}
 use Rattle.session_script.proofs.reader.body.+bodies.Goals as goal
 
 pub acts-each_act-smaller : goal.acts-each_act-smaller

@@ -1,7 +1,7 @@
 use Rattle.std.proofs.Common.{◌≡◌, ◌++◌, [], drop, sym, ap, ◌∙◌, arith, length-drop}
 use Rattle.std.proofs.lemmas.List.{append-nil}
 use Rattle.session_script.specs.Kinds.{decoded}
-use Rattle.session_script.proofs.Numbers.{decoded-short}
+use Rattle.session_script.proofs.NumbersLemmas.{decoded-short}
 use Rattle.session_script.proofs.reader.field.decoded.Goals as goal
 
 pub returns : goal.returns

@@ -2,8 +2,8 @@ use Rattle.std.proofs.Common.{sym}
 use Rattle.std.proofs.lemmas.Result.{err_from_is_err_and}
 use Rattle.session_script.specs.Tokens.{tokens_at}
 use Rattle.session_script.specs.Productions.{begins_round, next_round}
-use Rattle.session_script.proofs.Repeating.{goes_on, is_over, breaks, falls}
-use Rattle.session_script.proofs.Turns.{next_round_takes, no_round_at_end}
+use Rattle.session_script.proofs.RepeatingLemmas.{goes_on, is_over, breaks, falls}
+use Rattle.session_script.proofs.TurnsLemmas.{next_round_takes, no_round_at_end}
 use Rattle.session_script.proofs.reader.round.other_rounds.Goals as goal
 
 pub each_round-smaller : goal.each_round-smaller

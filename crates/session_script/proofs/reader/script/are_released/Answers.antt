@@ -1,6 +1,6 @@
 use Rattle.std.proofs.Common.{◌≡◌, true, false, sym, ◌∙◌, rules}
 use Rattle.session_script.specs.Outcome.{entries_of}
-use Rattle.session_script.proofs.Guards.{released_in, none_released, one_more_released, not_all_released}
+use Rattle.session_script.proofs.GuardsLemmas.{released_in, none_released, one_more_released, not_all_released}
 use Rattle.session_script.proofs.reader.script.are_released.Goals as goal
 
 pub loop-guard-init : goal.loop-guard-init

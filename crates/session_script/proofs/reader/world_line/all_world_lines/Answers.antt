@@ -3,8 +3,8 @@ use Rattle.std.proofs.lemmas.Result.{err_from_is_err_and}
 use lib.Chars.{codes}
 use Rattle.session_script.specs.Tokens.{tokens_at, begins}
 use Rattle.session_script.specs.Productions.{next_world_line}
-use Rattle.session_script.proofs.Repeating.{goes_on, is_over, breaks, falls}
-use Rattle.session_script.proofs.Turns.{next_line_takes}
+use Rattle.session_script.proofs.RepeatingLemmas.{goes_on, is_over, breaks, falls}
+use Rattle.session_script.proofs.TurnsLemmas.{next_line_takes}
 use Rattle.session_script.proofs.reader.world_line.all_world_lines.Goals as goal
 
 pub each_line-smaller : goal.each_line-smaller

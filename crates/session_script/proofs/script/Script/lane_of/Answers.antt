@@ -4,7 +4,7 @@ use Rattle.asio_types.specs.declared.number.Lane.TheVariants as lane
 use Rattle.session_script.specs.Script.{ScriptModel}
 use Rattle.session_script.specs.Lanes.{lanes_of}
 use Rattle.session_script.specs.Outcome.{model_of}
-use Rattle.session_script.proofs.Places.{length-lanes_after}
+use Rattle.session_script.proofs.PlacesLemmas.{length-lanes_after}
 use Rattle.session_script.proofs.script.Script.lane_of.Goals as goal
 
 pub index-requires : goal.index-requires

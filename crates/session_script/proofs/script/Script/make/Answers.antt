@@ -1,6 +1,6 @@
 use Rattle.std.proofs.Common.{rules, arith}
 use Rattle.session_script.specs.Outcome.{model_of}
-use Rattle.session_script.proofs.Places.{length-entries}
+use Rattle.session_script.proofs.PlacesLemmas.{length-entries}
 use Rattle.session_script.proofs.PlacingLemmas.{entries_are_few}
 use Rattle.session_script.proofs.script.Script.make.Goals as goal
 

@@ -5,7 +5,7 @@ use Rattle.std.specs.List.{flat_map}
 use lib.Chars.{codes}
 use Rattle.session_script.specs.Script.{branch_of}
 use Rattle.session_script.specs.Spelling.{written, branch_words, entry_words, body_words}
-use Rattle.session_script.proofs.Writing.{written_more, are_acts, body_written, three_written}
+use Rattle.session_script.proofs.WrittenLemmas.{written_more, are_acts, body_written, three_written}
 use Rattle.session_script.proofs.writer.body.+bodies.Goals as goal
 
 pub body-returns : goal.body-returns

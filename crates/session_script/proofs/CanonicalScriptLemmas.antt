@@ -10,11 +10,11 @@ use Rattle.session_script.specs.Tokens.{is_printable}
 use Rattle.session_script.specs.Limits.{limits_of}
 use Rattle.session_script.specs.Text.{Words, IsN, IsDeclsText, IsLinesText, IsBodyText, IsRoundsText, IsScriptText}
 use Rattle.session_script.specs.Spelling.{line_words, round_words, declared_words, body_words, words_after_session}
-use Rattle.session_script.proofs.Tokenizing.{IsToken, size}
-use Rattle.session_script.proofs.Respelling.{Rewrites, size-append}
-use Rattle.session_script.proofs.CanonicalActs.{act_respells}
-use Rattle.session_script.proofs.CanonicalBodies.{opening_respells}
-use Rattle.session_script.proofs.Canonical.{number_respells, declared_respells, lines_respell, rounds_respell}
+use Rattle.session_script.proofs.TokenizingLemmas.{IsToken, size}
+use Rattle.session_script.proofs.RespellingLemmas.{Rewrites, size-append}
+use Rattle.session_script.proofs.CanonicalActsLemmas.{act_respells}
+use Rattle.session_script.proofs.CanonicalBodiesLemmas.{opening_respells}
+use Rattle.session_script.proofs.CanonicalLemmas.{number_respells, declared_respells, lines_respell, rounds_respell}
 
 abbrev pub canonical : ScriptModel → Words
 canonical script = codes "session" ∷ words_after_session script

@@ -20,10 +20,10 @@ use Rattle.session_script.specs.Kinds.{pace_word}
 use Rattle.session_script.specs.Productions.{one, word, count, header, world_word, what_happens, world_line, next_world_line, world_lines, restart, round, begins_round, next_round, session_rounds}
 use Rattle.session_script.specs.Grammar.{are_released, ends, script, whole, IsScript}
 use Rattle.session_script.specs.WellFormed.{FitsWhat, FitsLine, FitsRound, IsForest, header_of, IsWellFormed}
-use Rattle.session_script.proofs.Holding.{Passes, Holds, Reads, done_reads, then_reads, one_reads, any_reads, if_reads, repeated_reads, bounded_reads, declared_reads, another_reads, bytes_reads, version_reads}
-use Rattle.session_script.proofs.Forest.{forest_of_none, stands_in_open}
-use Rattle.session_script.proofs.Reading.{Told, script_has}
-use Rattle.session_script.proofs.Standing.{body_reads, time_reads, is_below}
+use Rattle.session_script.proofs.HoldingLemmas.{Passes, Holds, Reads, done_reads, then_reads, one_reads, any_reads, if_reads, repeated_reads, bounded_reads, declared_reads, another_reads, bytes_reads, version_reads}
+use Rattle.session_script.proofs.ForestLemmas.{forest_of_none, stands_in_open}
+use Rattle.session_script.proofs.ReadingLemmas.{Told, script_has}
+use Rattle.session_script.proofs.StandingLemmas.{body_reads, time_reads, is_below}
 
 what_reads : (h : Header) (w : WorldWord) → Reads (FitsWhat h) (what_happens h w)
 unfolding what_happens

@@ -17,8 +17,8 @@ use Rattle.session_script.specs.Productions.{and_then, one, many, repeated, anot
 use Rattle.session_script.specs.Acts.{context_word, timer_word, stream_word, or_else, act_word_of, while_room, act_word, fields, bodies_of, BodyReader, branch, branches, bodies_after, entry, braced, body}
 use Rattle.session_script.specs.Text.{Words, IsWord, act_text, IsLater, BelongsTo, IsFieldsText, IsActText, IsBodyText, in_braces, IsActsText, no_act, an_act, IsBodiesText, no_body, one_body, all_bodies, IsBranchText, left_out, spelled_out}
 use Rattle.std.proofs.lemmas.Bool.{false≢true}
-use Rattle.session_script.proofs.Holding.{Holds, another_reads}
-use Rattle.session_script.proofs.Spelled.{is_later, Spelt, Spells, then_spells, done_spells, weaker_spells, if_spells, Says, OneWord, one_spells, is_text, word_spells, another_spells, bounded_spells, declared_spells, optional_spells, types_spells, plug_spells, bytes_spells}
+use Rattle.session_script.proofs.HoldingLemmas.{Holds, another_reads}
+use Rattle.session_script.proofs.SpelledLemmas.{is_later, Spelt, Spells, then_spells, done_spells, weaker_spells, if_spells, Says, OneWord, one_spells, is_text, word_spells, another_spells, bounded_spells, declared_spells, optional_spells, types_spells, plug_spells, bytes_spells}
 
 -- the word of an act word
 word_text : ActWord → List ℕ

@@ -17,8 +17,8 @@ use Rattle.session_script.specs.Tokens.{Tokens, begins, goes_on}
 use Rattle.session_script.specs.Productions.{and_then, one, bounded, word, another, types, plug}
 use Rattle.session_script.specs.Acts.{act_word_of, act_word, while_room, fields, bodies_of, BodyReader, branch, branches, bodies_after, entry, braced, body}
 use Rattle.session_script.specs.WellFormed.{IsPlug, FitsAct, has_branch, IsForest}
-use Rattle.session_script.proofs.Holding.{Passes, Holds, Reads, weaker, done_reads, then_reads, one_reads, any_reads, if_reads, else_reads, repeated_reads, bounded_reads, declared_reads, optional_reads, another_reads, bytes_reads}
-use Rattle.session_script.proofs.Forest.{Extends, extends_by_none, extends_both, extends_by_one, Stands, stands_later, forest_of_one_more, stands_in_branch}
+use Rattle.session_script.proofs.HoldingLemmas.{Passes, Holds, Reads, weaker, done_reads, then_reads, one_reads, any_reads, if_reads, else_reads, repeated_reads, bounded_reads, declared_reads, optional_reads, another_reads, bytes_reads}
+use Rattle.session_script.proofs.ForestLemmas.{Extends, extends_by_none, extends_both, extends_by_one, Stands, stands_later, forest_of_one_more, stands_in_branch}
 
 types_reads : Reads (λ k. k ≤ 7) types
 unfolding types

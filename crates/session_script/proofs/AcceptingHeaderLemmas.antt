@@ -5,10 +5,10 @@ use Rattle.session_script.specs.Script.{ScriptModel}
 use Rattle.session_script.specs.Productions.{count, header}
 use Rattle.session_script.specs.Text.{Words, IsWord, IsN, IsCountText, IsDeclsText}
 use Rattle.session_script.specs.WellFormed.{header_of, IsWellFormed}
-use Rattle.session_script.proofs.Accepting.{starts}
-use Rattle.session_script.proofs.ReadingAs.{ReadsAs, by_accepts, then_reads_as, done_reads_as, begun_reads_as, unbegun_reads_as}
-use Rattle.session_script.proofs.AcceptingParts.{word_accepts, bounded_accepts, version_accepts}
-use Rattle.session_script.proofs.NextWords.{IsAmong, is_among, word_starts, starts_otherwise}
+use Rattle.session_script.proofs.AcceptingLemmas.{starts}
+use Rattle.session_script.proofs.ReadingAsLemmas.{ReadsAs, by_accepts, then_reads_as, done_reads_as, begun_reads_as, unbegun_reads_as}
+use Rattle.session_script.proofs.AcceptingPartsLemmas.{word_accepts, bounded_accepts, version_accepts}
+use Rattle.session_script.proofs.NextWordsLemmas.{IsAmong, is_among, word_starts, starts_otherwise}
 
 -- a declaration, where something else follows
 count_is_read : (text : List ℕ) (n most : ℕ) (ws rest : Words) → IsCountText text n ws rest → n ≤ most →

@@ -10,14 +10,14 @@ use Rattle.session_script.specs.Grammar as grammar
 use Rattle.session_script.specs.Grammar.{are_released, ends, whole}
 use Rattle.session_script.specs.Text.{words_of, Words, IsWord, IsLinesText, IsBodyText, IsScriptText}
 use Rattle.session_script.specs.WellFormed.{header_of, IsWellFormed}
-use Rattle.session_script.proofs.Accepting.{starts}
-use Rattle.session_script.proofs.ReadingAs.{ReadsAs, by_accepts, then_reads_as, done_reads_as}
-use Rattle.session_script.proofs.AcceptingParts.{word_accepts}
-use Rattle.session_script.proofs.NextWords.{IsAmong, word_starts, starts_with_another}
-use Rattle.session_script.proofs.AcceptingHeader.{after_guards, as_among, header_reads_as}
-use Rattle.session_script.proofs.AcceptingLines.{lines_read_as}
-use Rattle.session_script.proofs.AcceptingRounds.{rounds_read_as}
-use Rattle.session_script.proofs.AcceptingBodies.{body_is_read}
+use Rattle.session_script.proofs.AcceptingLemmas.{starts}
+use Rattle.session_script.proofs.ReadingAsLemmas.{ReadsAs, by_accepts, then_reads_as, done_reads_as}
+use Rattle.session_script.proofs.AcceptingPartsLemmas.{word_accepts}
+use Rattle.session_script.proofs.NextWordsLemmas.{IsAmong, word_starts, starts_with_another}
+use Rattle.session_script.proofs.AcceptingHeaderLemmas.{after_guards, as_among, header_reads_as}
+use Rattle.session_script.proofs.AcceptingLinesLemmas.{lines_read_as}
+use Rattle.session_script.proofs.AcceptingRoundsLemmas.{rounds_read_as}
+use Rattle.session_script.proofs.AcceptingBodiesLemmas.{body_is_read}
 
 -- the text ends where each guard is released
 end_is_read : (guards : ℕ) (acts : List Entry) → are_released guards acts ≡ true → ReadsAs (ends guards acts) tt [] []

@@ -19,8 +19,8 @@ use Rattle.session_script.specs.Kinds.{exactly, another_word, ◌>>=◌}
 use Rattle.session_script.specs.Productions.{and_then, repeated, word, another, types, plug}
 use Rattle.session_script.specs.Acts.{fields, BodyReader, branch, branches, bodies_after, entry, braced, body}
 use Rattle.session_script.specs.Outcome.{Fails}
-use Rattle.session_script.proofs.Shrinking.{Keeps, Shrinks, keeps_taking, one_takes, then_keeps, then_takes, done_keeps, if_keeps, else_keeps, word_keeps, another_keeps, bounded_keeps, declared_keeps, optional_keeps, repeated_keeps}
-use Rattle.session_script.proofs.Turns.{bytes_keeps}
+use Rattle.session_script.proofs.ShrinkingLemmas.{Keeps, Shrinks, keeps_taking, one_takes, then_keeps, then_takes, done_keeps, if_keeps, else_keeps, word_keeps, another_keeps, bounded_keeps, declared_keeps, optional_keeps, repeated_keeps}
+use Rattle.session_script.proofs.TurnsLemmas.{bytes_keeps}
 
 types_keeps : Keeps types
 unfolding types

@@ -11,7 +11,7 @@ use Rattle.session_script.specs.declared.refusal.Refusal.{Refusal}
 use Rattle.session_script.specs.declared.parts.Header.{Header}
 use Rattle.session_script.specs.Tokens.{Tokens, end, token, begins}
 use Rattle.session_script.specs.Kinds as kinds
-use Rattle.session_script.specs.Kinds.{misplaced, number, exactly, another_word, within, known, chosen, version, data_digits, decoded}
+use Rattle.session_script.specs.Kinds.{number, exactly, another_word, within, known, chosen, version, data_digits}
 use Rattle.session_script.specs.Productions.{and_then, ◌>>=◌, done, judged, one, word, another, bounded, declared_number, optional, types, plug, bytes, count}
 use Rattle.session_script.specs.Text.{words_of, Words, IsWord, IsN, IsDashOrN, IsLater, IsPlugText, IsDataText, IsCountText}
 

@@ -3,9 +3,9 @@ use Rattle.std.proofs.Common.{◌≡◌, ℕ, Bool, true, false, List, [], ◌�
 use Rattle.std.specs.Prelude.{◌||◌}
 use Rattle.std.specs.Str.{bytes_eq}
 use Rattle.session_script.specs.Text.{Words, IsWord}
-use Rattle.session_script.proofs.Accepting.{starts}
-use Rattle.session_script.proofs.Spelled.{is_text}
-use Rattle.session_script.proofs.AcceptingParts.{same_text}
+use Rattle.session_script.proofs.AcceptingLemmas.{starts}
+use Rattle.session_script.proofs.SpelledLemmas.{is_text}
+use Rattle.session_script.proofs.AcceptingPartsLemmas.{same_text}
 
 -- the next word is among these
 abbrev pub IsAmong : List (List ℕ) → Words → Type 0

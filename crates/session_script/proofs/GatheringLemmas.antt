@@ -5,7 +5,7 @@ use Rattle.asio_types.specs.declared.code.Class.{Class}
 use Rattle.asio_types.specs.declared.code.Class.TheVariants as class
 use Rattle.session_script.specs.Script.{Place, Entry, ScriptModel, same_class, same_place, numbers_in}
 use Rattle.session_script.specs.Text.{Words, IsBodyText, in_braces, IsActsText, no_act, an_act}
-use Rattle.session_script.proofs.Appending.{Continues, continues_none, continues_both, continues_longer, new_numbers, new_numbers-none, new_numbers-one, new_numbers-both, Inside, Outside, NotIn, Away, away_is_not_in, Appends, acts_append, bodies_append, act_appends}
+use Rattle.session_script.proofs.AppendingLemmas.{Continues, continues_none, continues_both, continues_longer, new_numbers, new_numbers-none, new_numbers-one, new_numbers-both, Inside, Outside, NotIn, Away, away_is_not_in, Appends, acts_append, bodies_append, act_appends}
 
 -- the part of a script between two lists of acts appends all its acts in places of operations from one number on
 pub record Around (script : ScriptModel) (low : ℕ) (before after : List Entry) : Type 0 where

@@ -3,7 +3,7 @@ use Rattle.std.proofs.Common.{◌≡◌, ℕ, ◌+◌, ◌≤◌, List, [], ◌�
 use Rattle.std.specs.List.{All}
 use Rattle.std.proofs.lemmas.List.Elements.{All-nil, All-cons, All-append}
 use Rattle.session_script.specs.Text.{Words, IsWord}
-use Rattle.session_script.proofs.Tokenizing.{IsToken, size}
+use Rattle.session_script.proofs.TokenizingLemmas.{IsToken, size}
 
 -- what spells some one thing
 abbrev pub Spelling : Type 1

@@ -5,7 +5,7 @@ use Rattle.session_script.specs.declared.refusal.Refusal.{Refusal}
 use Rattle.session_script.specs.Tokens.{Tokens, begins}
 use Rattle.session_script.specs.Productions.{and_then, ◌>>=◌, done, one}
 use Rattle.session_script.specs.Text.{words_of, Words}
-use Rattle.session_script.proofs.Accepting.{Accepts, weaker_accepts, TakesWord, one_accepts, starts, begins_starts}
+use Rattle.session_script.proofs.AcceptingLemmas.{Accepts, weaker_accepts, TakesWord, one_accepts, starts, begins_starts}
 
 -- of all tokens with these words, a reader gives this value, and leaves those with the rest
 pub record ReadsAs {A : Type 0} (r : Tokens → Result (A × Tokens) Refusal) (a : A) (ws rest : Words) : Type 0 where

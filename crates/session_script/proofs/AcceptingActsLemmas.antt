@@ -15,9 +15,9 @@ use Rattle.session_script.specs.Productions.{◌>>=◌, done, word, bounded, dec
 use Rattle.session_script.specs.Acts.{context_word, timer_word, stream_word, act_word_of, act_word, fields, bodies_of}
 use Rattle.session_script.specs.Text.{words_of, Words, IsWord, IsN, IsDashOrN, IsDataText, IsLater, IsPlugText, IsTail, act_text, IsFieldsText, BelongsTo}
 use Rattle.session_script.specs.WellFormed.{IsLane, IsPlug, FitsAct}
-use Rattle.session_script.proofs.Accepting.{Accepts, Then, then_accepts, weaker_accepts, done_accepts, starts, begins_starts}
-use Rattle.session_script.proofs.Choosing.{Either, either_accepts}
-use Rattle.session_script.proofs.AcceptingParts.{word_accepts, bounded_accepts, declared_accepts, optional_accepts, bytes_accepts, types_accepts}
+use Rattle.session_script.proofs.AcceptingLemmas.{Accepts, Then, then_accepts, weaker_accepts, done_accepts, starts, begins_starts}
+use Rattle.session_script.proofs.ChoosingLemmas.{Either, either_accepts}
+use Rattle.session_script.proofs.AcceptingPartsLemmas.{word_accepts, bounded_accepts, declared_accepts, optional_accepts, bytes_accepts, types_accepts}
 
 -- the act word of an act
 pub word_of : Act → ActWord

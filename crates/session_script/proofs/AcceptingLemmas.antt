@@ -7,8 +7,8 @@ use Rattle.session_script.specs.declared.token.Position.{Position}
 use Rattle.session_script.specs.Tokens.{Tokens, end, token, begins}
 use Rattle.session_script.specs.Productions.{and_then, ◌>>=◌, done, judged, one, repeated}
 use Rattle.session_script.specs.Text.{words_of, Words}
-use Rattle.session_script.proofs.Shrinking.{Shrinks}
-use Rattle.session_script.proofs.Repeating.{repeated_step}
+use Rattle.session_script.proofs.ShrinkingLemmas.{Shrinks}
+use Rattle.session_script.proofs.RepeatingLemmas.{repeated_step}
 
 pub record Accepts {A : Type 0} (P : A → Words → Words → Type 0) (r : Tokens → Result (A × Tokens) Refusal)
     : Type 0 where

@@ -9,9 +9,9 @@ use Rattle.session_script.specs.declared.act.Act.TheVariants as act
 use Rattle.session_script.specs.Tokens.{is_printable}
 use Rattle.session_script.specs.Text.{Words, IsWord, IsN, IsDashOrN, IsPlugText, IsTail, act_text, IsFieldsText, IsActText}
 use Rattle.session_script.specs.Spelling.{number_or_dash, plug_words, field_words}
-use Rattle.session_script.proofs.Tokenizing.{IsToken, size}
-use Rattle.session_script.proofs.Respelling.{Respells, kept_respells, begun_respells, nothing_respells, word_respells, Two, Three, two_respell, three_respell, four_respell}
-use Rattle.session_script.proofs.Canonical.{number_respells, optional_respells, data_respells}
+use Rattle.session_script.proofs.TokenizingLemmas.{IsToken, size}
+use Rattle.session_script.proofs.RespellingLemmas.{Respells, kept_respells, begun_respells, nothing_respells, word_respells, Two, Three, two_respell, three_respell, four_respell}
+use Rattle.session_script.proofs.CanonicalLemmas.{number_respells, optional_respells, data_respells}
 
 only_is_token : IsToken (codes "only")
 unfolding is_printable

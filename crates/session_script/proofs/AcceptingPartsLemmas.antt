@@ -8,10 +8,10 @@ use lib.Chars.{codes}
 use Rattle.session_script.specs.Kinds.{is_number, number, exactly, another_word, within, known, chosen, version, data_digits, decoded}
 use Rattle.session_script.specs.Productions.{one, word, another, bounded, declared_number, optional, types, bytes}
 use Rattle.session_script.specs.Text.{Words, IsWord, IsN, IsDashOrN, IsDataText}
-use Rattle.session_script.proofs.Spelled.{is_text}
-use Rattle.session_script.proofs.Accepting.{Accepts, weaker_accepts, one_accepts}
-use Rattle.session_script.proofs.Numerals.{data_reads}
-use Rattle.session_script.proofs.ReadingAs.{ReadsAs, by_accepts, accepts_by, tested_accepts, then_reads_as, done_reads_as}
+use Rattle.session_script.proofs.SpelledLemmas.{is_text}
+use Rattle.session_script.proofs.AcceptingLemmas.{Accepts, weaker_accepts, one_accepts}
+use Rattle.session_script.proofs.NumeralsLemmas.{data_reads}
+use Rattle.session_script.proofs.ReadingAsLemmas.{ReadsAs, by_accepts, accepts_by, tested_accepts, then_reads_as, done_reads_as}
 
 is_false : (test : Bool) → (test ≡ true → ⊥) → test ≡ false
 is_false true never = absurd (never refl)

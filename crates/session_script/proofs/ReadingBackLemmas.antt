@@ -16,14 +16,14 @@ use Rattle.session_script.specs.Text.{Words, words_of, IsLater, IsBodyText, IsSc
 use Rattle.session_script.specs.WellFormed.{IsWellFormed}
 use Rattle.session_script.specs.Spelled.{SpellsScript}
 use Rattle.session_script.specs.Spelling.{words_after_session, spelling_of, upgraded}
-use Rattle.session_script.proofs.Tokenizing.{size, words_written, written_is_text, length_written, size_of_tokens}
-use Rattle.session_script.proofs.Numerals.{numeral_is_decimal}
-use Rattle.session_script.proofs.Later.{later_body}
-use Rattle.session_script.proofs.Whole.{script_is_well_formed}
-use Rattle.session_script.proofs.Upgrading.{upgraded_is_well_formed}
-use Rattle.session_script.proofs.SpelledScript.{script_is_spelled}
-use Rattle.session_script.proofs.CanonicalScript.{canonical, spelled_again, no_longer, all_tokens}
-use Rattle.session_script.proofs.AcceptingScript.{script_is_read}
+use Rattle.session_script.proofs.TokenizingLemmas.{size, words_written, written_is_text, length_written, size_of_tokens}
+use Rattle.session_script.proofs.NumeralsLemmas.{numeral_is_decimal}
+use Rattle.session_script.proofs.LaterLemmas.{later_body}
+use Rattle.session_script.proofs.WholeLemmas.{script_is_well_formed}
+use Rattle.session_script.proofs.UpgradingLemmas.{upgraded_is_well_formed}
+use Rattle.session_script.proofs.SpelledScriptLemmas.{script_is_spelled}
+use Rattle.session_script.proofs.CanonicalScriptLemmas.{canonical, spelled_again, no_longer, all_tokens}
+use Rattle.session_script.proofs.AcceptingScriptLemmas.{script_is_read}
 
 -- a test whose true side is an error was false
 went_on : {X : Type 0} (test : Bool) (refusal : Refusal) (rest : Result X Refusal) (x : X) →

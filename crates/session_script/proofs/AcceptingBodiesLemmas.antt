@@ -14,13 +14,13 @@ use Rattle.session_script.specs.Tokens.{Tokens, end, token, begins, goes_on}
 use Rattle.session_script.specs.Acts.{act_word, bodies_of, BodyReader, branch, branches, bodies_after, entry, braced, body}
 use Rattle.session_script.specs.Text.{words_of, Words, IsWord, act_text, IsActText, IsBodyText, in_braces, IsActsText, no_act, an_act, IsBodiesText, no_body, one_body, all_bodies, IsBranchText, left_out, spelled_out}
 use Rattle.session_script.specs.WellFormed.{header_of, FitsAct, IsWellFormed}
-use Rattle.session_script.proofs.Bodies.{KeepsAll, entry_takes, body_keeps}
-use Rattle.session_script.proofs.Forest.{slice_get-seam, Extends, extends_by_none, extends_both, extends_by_one}
-use Rattle.session_script.proofs.Accepting.{Accepts, Then, then_accepts, weaker_accepts, done_accepts, TakesWord, one_accepts, starts, begins_starts, Turns, over, turn, repeated_accepts}
-use Rattle.session_script.proofs.Sequences.{has_room}
-use Rattle.session_script.proofs.AcceptingParts.{same_text, word_accepts, another_accepts}
-use Rattle.session_script.proofs.Choosing.{Either, either_accepts}
-use Rattle.session_script.proofs.AcceptingActs.{word_of, act_word_is, act_text_is_no, FieldsFit, fields_accept}
+use Rattle.session_script.proofs.BodiesLemmas.{KeepsAll, entry_takes, body_keeps}
+use Rattle.session_script.proofs.ForestLemmas.{slice_get-seam, Extends, extends_by_none, extends_both, extends_by_one}
+use Rattle.session_script.proofs.AcceptingLemmas.{Accepts, Then, then_accepts, weaker_accepts, done_accepts, TakesWord, one_accepts, starts, begins_starts, Turns, over, turn, repeated_accepts}
+use Rattle.session_script.proofs.SequencesLemmas.{has_room}
+use Rattle.session_script.proofs.AcceptingPartsLemmas.{same_text, word_accepts, another_accepts}
+use Rattle.session_script.proofs.ChoosingLemmas.{Either, either_accepts}
+use Rattle.session_script.proofs.AcceptingActsLemmas.{word_of, act_word_is, act_text_is_no, FieldsFit, fields_accept}
 
 -- what is spelled is appended
 mutual

@@ -16,9 +16,9 @@ use Rattle.session_script.specs.Tokens.{is_printable}
 use Rattle.session_script.specs.Kinds.{number, data_digits, decoded}
 use Rattle.session_script.specs.Text.{Words, IsWord, IsN, IsDashOrN, IsDataText, IsCountText, IsWhatText, IsLineText, IsLinesText, pace_text, IsRestartText, IsRoundText, IsRoundsText, IsDeclsText}
 use Rattle.session_script.specs.Spelling.{number_or_dash, data_text, count_words, what_words, line_words, round_words, declared_words}
-use Rattle.session_script.proofs.Tokenizing.{IsToken, size}
-use Rattle.session_script.proofs.Numerals.{numeral_is_decimal, data_is_text, numeral_is_token, data_is_token}
-use Rattle.session_script.proofs.Respelling.{Respells, same_respells, begun_respells, nothing_respells, word_respells, form_respells, Two, Three, two_respell, three_respell, five_respell}
+use Rattle.session_script.proofs.TokenizingLemmas.{IsToken, size}
+use Rattle.session_script.proofs.NumeralsLemmas.{numeral_is_decimal, data_is_text, numeral_is_token, data_is_token}
+use Rattle.session_script.proofs.RespellingLemmas.{Respells, same_respells, begun_respells, nothing_respells, word_respells, form_respells, Two, Three, two_respell, three_respell, five_respell}
 
 pub number_respells : (n : ℕ) → Respells (IsN n) (decimal n ∷ [])
 number_respells n =

@@ -12,11 +12,11 @@ use Rattle.session_script.specs.Tokens.{is_printable}
 use Rattle.session_script.specs.Acts.{bodies_of}
 use Rattle.session_script.specs.Text.{Words, IsWord, act_text, IsActText, IsBodyText, in_braces, IsActsText, no_act, an_act, IsBodiesText, no_body, one_body, all_bodies, IsBranchText, left_out, spelled_out}
 use Rattle.session_script.specs.Spelling.{field_words, BodyWords, branch_words, bodies_words, entry_words, body_words}
-use Rattle.session_script.proofs.Tokenizing.{IsToken, size}
-use Rattle.session_script.proofs.Respelling.{Respells, Rewrites, rewrites_none, rewrites_word, rewrites_both, rewrites_as}
-use Rattle.session_script.proofs.Appending.{Continues, continues_both, new_numbers, new_numbers-none, NotIn, Away, Appends, acts_append, bodies_append, body_appends, branch_appends, act_longer}
-use Rattle.session_script.proofs.Gathering.{Around, around_whole, IsEarlier, below_later, numbers_of_act, around_bodies, around_others, body_none}
-use Rattle.session_script.proofs.Branches.{IsBranch, only_branch, ok_branch, abort_branch, final_branch}
+use Rattle.session_script.proofs.TokenizingLemmas.{IsToken, size}
+use Rattle.session_script.proofs.RespellingLemmas.{Respells, Rewrites, rewrites_none, rewrites_word, rewrites_both, rewrites_as}
+use Rattle.session_script.proofs.AppendingLemmas.{Continues, continues_both, new_numbers, new_numbers-none, NotIn, Away, Appends, acts_append, bodies_append, body_appends, branch_appends, act_longer}
+use Rattle.session_script.proofs.GatheringLemmas.{Around, around_whole, IsEarlier, below_later, numbers_of_act, around_bodies, around_others, body_none}
+use Rattle.session_script.proofs.BranchesLemmas.{IsBranch, only_branch, ok_branch, abort_branch, final_branch}
 
 brace_opens : IsToken (codes "{")
 unfolding is_printable

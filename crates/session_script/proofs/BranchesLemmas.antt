@@ -4,8 +4,8 @@ use Rattle.std.proofs.lemmas.Bool.{eq-eqb}
 use Rattle.asio_types.specs.declared.code.Class.{Class}
 use Rattle.asio_types.specs.declared.code.Class.TheVariants as class
 use Rattle.session_script.specs.Script.{Place, Entry, ScriptModel, same_class, branch_of}
-use Rattle.session_script.proofs.Appending.{Continues, continues_longer, new_numbers, NotIn, Away, away_is_not_in, Appends, appends_none, appends_both}
-use Rattle.session_script.proofs.Gathering.{Around, around_part, numbers_of_part, above_outside, beyond_outside, inside_away}
+use Rattle.session_script.proofs.AppendingLemmas.{Continues, continues_longer, new_numbers, NotIn, Away, away_is_not_in, Appends, appends_none, appends_both}
+use Rattle.session_script.proofs.GatheringLemmas.{Around, around_part, numbers_of_part, above_outside, beyond_outside, inside_away}
 
 -- a part of a script that is a branch of an operation
 pub record IsBranch (script : ScriptModel) (op : ℕ) (branch : Class) (before after : List Entry) : Type 0 where

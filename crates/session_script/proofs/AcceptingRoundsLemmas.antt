@@ -14,12 +14,12 @@ use Rattle.session_script.specs.Kinds.{pace_word}
 use Rattle.session_script.specs.Productions.{repeated, restart, round, begins_round, next_round, session_rounds}
 use Rattle.session_script.specs.Text.{words_of, Words, pace_text, IsRestartText, IsRoundText, IsRoundsText}
 use Rattle.session_script.specs.WellFormed.{FitsRound}
-use Rattle.session_script.proofs.Accepting.{one_accepts, starts, repeated_accepts}
-use Rattle.session_script.proofs.ReadingAs.{ReadsAs, by_accepts, accepts_by, then_reads_as, done_reads_as, begun_reads_as, unbegun_reads_as}
-use Rattle.session_script.proofs.AcceptingParts.{another_accepts, bounded_accepts}
-use Rattle.session_script.proofs.NextWords.{word_starts, starts_with_another}
-use Rattle.session_script.proofs.Sequences.{Sequence, ReadsOneMore, has_room, sequence_turns}
-use Rattle.session_script.proofs.Turns.{next_round_takes, no_round_at_end}
+use Rattle.session_script.proofs.AcceptingLemmas.{one_accepts, starts, repeated_accepts}
+use Rattle.session_script.proofs.ReadingAsLemmas.{ReadsAs, by_accepts, accepts_by, then_reads_as, done_reads_as, begun_reads_as, unbegun_reads_as}
+use Rattle.session_script.proofs.AcceptingPartsLemmas.{another_accepts, bounded_accepts}
+use Rattle.session_script.proofs.NextWordsLemmas.{word_starts, starts_with_another}
+use Rattle.session_script.proofs.SequencesLemmas.{Sequence, ReadsOneMore, has_room, sequence_turns}
+use Rattle.session_script.proofs.TurnsLemmas.{next_round_takes, no_round_at_end}
 
 pace_is_read : (p : Pace) → pace_word false (pace_text p) ≡ Ok p
 unfolding pace_word

@@ -22,9 +22,9 @@ use Rattle.session_script.specs.Kinds.{misplaced, pace_word}
 use Rattle.session_script.specs.Productions.{one, many, repeated, header, world_word, what_happens, world_line, next_world_line, world_lines, restart, round, begins_round, next_round, session_rounds}
 use Rattle.session_script.specs.Grammar.{are_released, ends, script, whole, IsScript}
 use Rattle.session_script.specs.Text.{words_of, Words, IsWord, IsN, IsCountText, IsWhatText, IsLineText, IsLinesText, IsBodyText, pace_text, IsRestartText, IsRoundText, IsRoundsText, IsScriptText}
-use Rattle.session_script.proofs.Reading.{Told, script_has}
-use Rattle.session_script.proofs.Spelled.{Spelt, choice_spelt, Spells, then_spells, done_spells, weaker_spells, if_spells, Says, OneWord, one_spells, choice_says, is_text, word_spells, another_spells, bounded_spells, declared_spells, version_spells, bytes_spells, count_spells}
-use Rattle.session_script.proofs.SpelledActs.{body_spells}
+use Rattle.session_script.proofs.ReadingLemmas.{Told, script_has}
+use Rattle.session_script.proofs.SpelledLemmas.{Spelt, choice_spelt, Spells, then_spells, done_spells, weaker_spells, if_spells, Says, OneWord, one_spells, choice_says, is_text, word_spells, another_spells, bounded_spells, declared_spells, version_spells, bytes_spells, count_spells}
+use Rattle.session_script.proofs.SpelledActsLemmas.{body_spells}
 
 -- the word of what happens in a line
 world_text : WorldWord → List ℕ

@@ -14,12 +14,12 @@ use Rattle.session_script.specs.Tokens.{begins}
 use Rattle.session_script.specs.Productions.{one, world_word, what_happens, world_line, next_world_line, world_lines}
 use Rattle.session_script.specs.Text.{Words, IsWord, IsN, IsWhatText, IsLineText, IsLinesText}
 use Rattle.session_script.specs.WellFormed.{FitsWhat, FitsLine}
-use Rattle.session_script.proofs.Accepting.{one_accepts, starts, begins_starts, Turns, repeated_accepts}
-use Rattle.session_script.proofs.ReadingAs.{ReadsAs, by_accepts, accepts_by, then_reads_as, done_reads_as}
-use Rattle.session_script.proofs.AcceptingParts.{another_accepts, bounded_accepts, declared_accepts, bytes_accepts}
-use Rattle.session_script.proofs.NextWords.{word_starts}
-use Rattle.session_script.proofs.Sequences.{Sequence, ReadsOneMore, has_room, sequence_turns}
-use Rattle.session_script.proofs.Turns.{next_line_takes}
+use Rattle.session_script.proofs.AcceptingLemmas.{one_accepts, starts, begins_starts, Turns, repeated_accepts}
+use Rattle.session_script.proofs.ReadingAsLemmas.{ReadsAs, by_accepts, accepts_by, then_reads_as, done_reads_as}
+use Rattle.session_script.proofs.AcceptingPartsLemmas.{another_accepts, bounded_accepts, declared_accepts, bytes_accepts}
+use Rattle.session_script.proofs.NextWordsLemmas.{word_starts}
+use Rattle.session_script.proofs.SequencesLemmas.{Sequence, ReadsOneMore, has_room, sequence_turns}
+use Rattle.session_script.proofs.TurnsLemmas.{next_line_takes}
 
 word_of_line : (word : WorldWord) (text : List ℕ) (ws rest : Words) → world_word text ≡ Ok word → IsWord text ws rest →
     ReadsAs (one world_word) word ws rest

@@ -8,7 +8,7 @@ use Rattle.session_script.specs.declared.reader.world_line.WorldWord.{WorldWord}
 use Rattle.session_script.specs.declared.reader.world_line.WorldWord.TheVariants as world
 use Rattle.session_script.specs.Tokens.{end}
 use Rattle.session_script.specs.Productions.{bytes, what_happens, world_line, next_world_line, restart, round, begins_round, next_round}
-use Rattle.session_script.proofs.Shrinking.{Keeps, Shrinks, keeps_taking, one_takes, one_keeps, then_keeps, then_takes, done_keeps, keeps_then_takes, if_keeps, another_takes, another_keeps, bounded_keeps, declared_keeps}
+use Rattle.session_script.proofs.ShrinkingLemmas.{Keeps, Shrinks, keeps_taking, one_takes, one_keeps, then_keeps, then_takes, done_keeps, keeps_then_takes, if_keeps, another_takes, another_keeps, bounded_keeps, declared_keeps}
 
 pub bytes_takes : (most : ℕ) → Shrinks (bytes most)
 unfolding bytes

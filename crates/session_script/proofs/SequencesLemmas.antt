@@ -6,8 +6,8 @@ use Rattle.std.proofs.lemmas.List.{append-nil}
 use Rattle.session_script.specs.declared.refusal.Refusal.{Refusal}
 use Rattle.session_script.specs.Tokens.{Tokens}
 use Rattle.session_script.specs.Text.{Words}
-use Rattle.session_script.proofs.Accepting.{Turns, over, turn}
-use Rattle.session_script.proofs.ReadingAs.{ReadsAs}
+use Rattle.session_script.proofs.AcceptingLemmas.{Turns, over, turn}
+use Rattle.session_script.proofs.ReadingAsLemmas.{ReadsAs}
 
 -- values that are spelled one after the other
 abbrev pub Sequence : {A : Type 0} → (A → Words → Words → Type 0) → List A → Words → Words → Type 0

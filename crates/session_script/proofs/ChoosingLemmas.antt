@@ -3,7 +3,7 @@ use Rattle.std.proofs.Common.{◌≡◌, Bool, true, false, cond, ◌⊎◌, Res
 use Rattle.session_script.specs.declared.refusal.Refusal.{Refusal}
 use Rattle.session_script.specs.Tokens.{Tokens}
 use Rattle.session_script.specs.Text.{words_of, Words}
-use Rattle.session_script.proofs.Accepting.{Accepts}
+use Rattle.session_script.proofs.AcceptingLemmas.{Accepts}
 
 -- one reader or another, by what the words begin with
 abbrev pub Either : {A : Type 0} → (Words → Bool) → (A → Words → Words → Type 0) → (A → Words → Words → Type 0) → A →

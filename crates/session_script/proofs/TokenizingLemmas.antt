@@ -8,7 +8,7 @@ use Rattle.session_script.specs.Tokens.{Tokens, end, is_printable, line_after, p
 use Rattle.session_script.specs.Text.{Words, words_of}
 use Rattle.session_script.specs.Spelling.{written}
 use Rattle.session_script.specs.Grammar.{is_text, text_len}
-use Rattle.session_script.proofs.Scanning.{run_is_token}
+use Rattle.session_script.proofs.ScanningLemmas.{run_is_token}
 
 -- a word that is read as one token
 abbrev pub IsToken : List ℕ → Type 0

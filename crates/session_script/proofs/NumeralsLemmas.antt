@@ -10,8 +10,8 @@ use Rattle.session_script.specs.declared.refusal.Rule.{Rule}
 use Rattle.session_script.specs.Tokens.{is_printable}
 use Rattle.session_script.specs.Kinds.{is_digit, is_hexadecimal, is_number, is_data, decimal_from, number, data_digits, decoded}
 use Rattle.session_script.specs.Spelling.{data_text}
-use Rattle.session_script.proofs.Holding.{both, not_false, data_long, decoded_size}
-use Rattle.session_script.proofs.Tokenizing.{IsToken}
+use Rattle.session_script.proofs.HoldingLemmas.{both, not_false, data_long, decoded_size}
+use Rattle.session_script.proofs.TokenizingLemmas.{IsToken}
 use Rattle.session_script.proofs.DataLemmas.{encoded-decoded}
 
 -- what is given where one test refuses

@@ -6,7 +6,7 @@ use Rattle.session_script.specs.declared.refusal.ScriptFault.TheVariants as faul
 use Rattle.session_script.specs.Tokens.{Tokens, end, token, token_count}
 use Rattle.session_script.specs.Productions.{and_then, many, repeated}
 use Rattle.session_script.specs.Outcome.{Fails}
-use Rattle.session_script.proofs.Shrinking.{Below, Shrinks}
+use Rattle.session_script.proofs.ShrinkingLemmas.{Below, Shrinks}
 
 module _ {S : Type 0} (more : Tokens → Bool) (reader : S → Tokens → Result (S × Tokens) Refusal)
     (ends : (at : _) → more (end at) ≡ false) (takes : (s : S) → Shrinks (reader s)) where
