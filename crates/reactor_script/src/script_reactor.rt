@@ -48,10 +48,9 @@ impl ScriptReactor {
         })
     }
 
-    /// All bytes that were sent on a stream since the latest `set_up`, also once it is closed.
-    /// Constant cost.
+    /// All bytes that were sent on a stream since the latest `set_up`, also once it is closed; none
+    /// for a stream that the world hasn't. Constant cost.
     pub fn sent(&self, stream: StreamNo) -> &[u8]
-        requires { stream < stream_count self.now.state }
         ensures { result.now ≡ (stream_at self.now.outside.streams stream).sent }
     {
         self.stage.sent(stream)

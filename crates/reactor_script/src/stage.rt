@@ -144,12 +144,13 @@ impl Stage {
         self.closed[stream as usize] = true;
     }
 
-    /// What was sent on a stream.
+    /// What was sent on a stream; on one that the world hasn't, nothing.
     pub(crate) fn sent(&self, stream: StreamNo) -> &[u8]
-        requires { stream < stream_count self.now.state }
         ensures { result.now ≡ (stream_at self.now.outside.streams stream).sent }
     {
-        let pipe = &self.pipes[stream as usize];
-        pipe.outbound.sent()
+        match self.pipes.get(stream as usize) {
+            Some(pipe) => pipe.outbound.sent(),
+            None => &[],
+        }
     }
 }

@@ -83,7 +83,7 @@ fn a_failing_write_leaves_the_lines_before_it(rt: HostRuntime) -> Result<(), Fai
     for nth in 1..LINES + 1 {
         let mut source = SureSource::make(alloc, REALISTIC.as_bytes())?;
         let mut out = TextSink::make(alloc, 4_096, &[nth])?;
-        let (status, note) = session(&rt, alloc, "run", &mut source, &mut out, &[], PLAIN)?;
+        let (status, note, _) = session(&rt, alloc, "run", &mut source, &mut out, &[], PLAIN)?;
         let trace = String::from_utf8_lossy(alloc, out.bytes())?;
         let verdict = verdict_of(&rt, alloc, "", REALISTIC, trace.as_str())?;
         let before = nth - 1;
@@ -102,7 +102,7 @@ fn a_failing_write_comes_before_a_failing_reactor(rt: HostRuntime) -> Result<(),
         let mut source = SureSource::make(alloc, CUT_OFF.as_bytes())?;
         let mut out = TextSink::make(alloc, 256, &[1])?;
         let fail = FailAt { method, nth: 1 };
-        let (status, note) = session(&rt, alloc, "run", &mut source, &mut out, &[fail], PLAIN)?;
+        let (status, note, _) = session(&rt, alloc, "run", &mut source, &mut out, &[fail], PLAIN)?;
         assert_eq!(rt; status, Status::WriteFault, "{method:?}");
         assert_eq!(rt; note.as_str(), "asio_run: write fault\n", "{method:?}");
         assert_eq!(rt; out.bytes(), b"".as_slice(), "{method:?}");
@@ -116,7 +116,7 @@ fn a_failing_read_runs_nothing(rt: HostRuntime) -> Result<(), Fail> {
     for words in ["run", "upgrade"] {
         let mut source = TextSource::make(alloc, REALISTIC.as_bytes(), &[1])?;
         let mut out = SureSink::make(alloc, 256)?;
-        let (status, note) = session(&rt, alloc, words, &mut source, &mut out, &[], PLAIN)?;
+        let (status, note, _) = session(&rt, alloc, words, &mut source, &mut out, &[], PLAIN)?;
         assert_eq!(rt; status, Status::ReadFault, "{words}");
         assert_eq!(rt; note.as_str(), "asio_run: read fault\n", "{words}");
         assert_eq!(rt; out.bytes(), b"".as_slice(), "{words}");
@@ -130,7 +130,7 @@ fn pieces_of_any_size_give_a_legal_trace(rt: HostRuntime) -> Result<(), Fail> {
     for step in [1, 2, 7] {
         let mut source = SlowSource::make(alloc, REALISTIC.as_bytes(), step)?;
         let mut out = SlowSink::make(alloc, step, 4_096)?;
-        let (status, _) = session(&rt, alloc, "run", &mut source, &mut out, &[], PLAIN)?;
+        let (status, _, _) = session(&rt, alloc, "run", &mut source, &mut out, &[], PLAIN)?;
         let trace = String::from_utf8_lossy(alloc, out.bytes())?;
         assert_eq!(rt; status, Status::Done, "step {step}");
         is_legal(&rt, alloc, REALISTIC, trace.as_str())?;

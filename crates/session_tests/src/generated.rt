@@ -20,7 +20,7 @@ fn made<R: Abort + Threads + Wait + Sync>(
 ) -> Result<(Status, String), Fail> {
     let mut source = SureSource::make(alloc, b"")?;
     let mut out = SureSink::make(alloc, 1_024)?;
-    let (status, _) = session(rt, alloc, words, &mut source, &mut out, fails, PLAIN)?;
+    let (status, _, _) = session(rt, alloc, words, &mut source, &mut out, fails, PLAIN)?;
     Ok((status, String::from_utf8_lossy(alloc, out.bytes())?))
 }
 

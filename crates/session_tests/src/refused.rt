@@ -120,7 +120,7 @@ fn other_words_are_no_form(rt: HostRuntime) -> Result<(), Fail> {
     ] {
         let mut source = SureSource::make(alloc, REALISTIC.as_bytes())?;
         let mut out = SureSink::make(alloc, 256)?;
-        let (status, _) = session(&rt, alloc, words, &mut source, &mut out, &[], PLAIN)?;
+        let (status, _, _) = session(&rt, alloc, words, &mut source, &mut out, &[], PLAIN)?;
         assert_eq!(rt; status, Status::Usage, "{words}");
         assert_eq!(rt; out.bytes(), b"".as_slice(), "{words}");
     }

@@ -21,6 +21,7 @@ pub(crate) struct Left {
     pub(crate) status: Status,
     pub(crate) trace: String,
     pub(crate) note: String,
+    pub(crate) reactor: ScriptReactor,
 }
 
 /// The words of a command line.
@@ -32,8 +33,8 @@ pub(crate) fn words_of(alloc: Global, text: &str) -> Result<Vec<String>, Fail> {
     Ok(words)
 }
 
-/// A session with this source and this out over the scripted world, in which these calls fail; and
-/// its note.
+/// A session with this source and this out over the scripted world, in which these calls fail; its
+/// note, and the world as it is left.
 pub(crate) fn session<R: Abort + Threads + Wait + Sync, S: Source, K: Sink>(
     rt: &R,
     alloc: Global,
@@ -42,12 +43,12 @@ pub(crate) fn session<R: Abort + Threads + Wait + Sync, S: Source, K: Sink>(
     out: &mut K,
     fails: &[FailAt],
     marks: Marks,
-) -> Result<(Status, String), Fail> {
+) -> Result<(Status, String, ScriptReactor), Fail> {
     let words = words_of(alloc, words)?;
     let reactor = ScriptReactor::make(alloc, fails)?;
     let mut notes = SureSink::make(alloc, 256)?;
     let mut rack = rack_of(rt, alloc, MOST_ACTS, marks);
-    let (status, _) = asio_session(
+    let (status, reactor) = asio_session(
         rt,
         alloc,
         words.as_slice(),
@@ -58,7 +59,8 @@ pub(crate) fn session<R: Abort + Threads + Wait + Sync, S: Source, K: Sink>(
         &mut rack,
     );
     rack.discard_all();
-    Ok((status, String::from_utf8_lossy(alloc, notes.bytes())?))
+    let note = String::from_utf8_lossy(alloc, notes.bytes())?;
+    Ok((status, note, reactor))
 }
 
 /// A session from memory to memory.
@@ -71,12 +73,13 @@ pub(crate) fn ran<R: Abort + Threads + Wait + Sync>(
 ) -> Result<Left, Fail> {
     let mut source = SureSource::make(alloc, script.as_bytes())?;
     let mut out = SureSink::make(alloc, ROOM)?;
-    let (status, note) = session(rt, alloc, "run", &mut source, &mut out, fails, marks)?;
+    let (status, note, reactor) = session(rt, alloc, "run", &mut source, &mut out, fails, marks)?;
     let trace = String::from_utf8_lossy(alloc, out.bytes())?;
     Ok(Left {
         status,
         trace,
         note,
+        reactor,
     })
 }
 

@@ -71,6 +71,15 @@ fn traces_show_the_marks_of_the_handlers(rt: HostRuntime) -> Result<(), Fail> {
 }
 
 #[test]
+fn the_world_has_what_the_history_sent(rt: HostRuntime) -> Result<(), Fail> {
+    for (script, sent) in SENT {
+        let left = ran_well(&rt, rt.alloc(), script)?;
+        assert_eq!(rt; left.reactor.sent(0), sent.as_bytes(), "{script}");
+    }
+    Ok(())
+}
+
+#[test]
 fn many_postings_to_a_strand_begin_in_their_order(rt: HostRuntime) -> Result<(), Fail> {
     let alloc = rt.alloc();
     let mut script = String::from_str(alloc, "session 1 strands 1 open {")?;
@@ -222,6 +231,19 @@ const ONE_TEXT: [(&str, &str); 32] = [
         "session 2 open { post - { } } run 1",
         "call 0 / back 0 / begin 0 ok 0 / end 0 1000 / ended",
     ),
+];
+
+/// Scripts, and what each sends on stream 0.
+const SENT: [(&str, &str); 3] = [
+    (
+        "session 1 streams 1 at 1 room 0 2 at 3 room 0 9 open { write 0 x61626364 - - { } } run 1",
+        "abcd",
+    ),
+    (
+        "session 1 streams 1 at 1 room 0 2 open { write 0 x61626364 - - { } } run 1",
+        "ab",
+    ),
+    ("session 1 streams 1 open { } run 1", ""),
 ];
 
 /// Scripts that may write several texts: lines that stand together in each, and a text that stands
