@@ -1,0 +1,61 @@
+#!/usr/bin/env bash
+# Counts how often the programs take memory, by valgrind. A session takes its memory before the first handler runs: asio_run
+# takes it as often where the context is stopped in `open` and each handler is destroyed as where a restart lets everything run.
+# A replay takes its memory before its first event: asio_check takes it as often where the first line of a trace is illegal as
+# where the whole trace is judged. Ends with 'N passed, M failed'.
+set -u
+cd "$(dirname "$0")/.." || exit 1
+if ! command -v valgrind > /dev/null; then
+  echo "memory: not counted, since there is no valgrind here"
+  exit 0
+fi
+room=$(mktemp -d) || exit 1
+trap 'rm -rf "$room"' EXIT
+for program in asio_run asio_check; do
+  # (what 'rt ci' keeps of a program may have lost the right to be run)
+  if ! install -m 755 "crates/$program/out/$program" "$room/$program"; then
+    echo "memory: $program isn't built ('rt ci' builds it, and 'rt run' in its crate's folder)"
+    exit 1
+  fi
+done
+
+# How often the command takes memory with $room/input as its input.
+counted() {
+  timeout 60 valgrind --log-file="$room/log" "$@" < "$room/input" > "$room/output"
+  grep -oE 'total heap usage: [0-9,]+ allocs' "$room/log"
+}
+
+passed=0
+failed=0
+# Passes where both counts are one, and both outputs hold what they have to.
+compare() {
+  if [ -n "$2" ] && [ "$2" = "$3" ]; then
+    passed=$((passed + 1))
+  else
+    failed=$((failed + 1))
+    echo "memory: $1: '$2' differs from '$3'"
+  fi
+}
+
+for script in examples/*.session; do
+  text=$(tr '\n' ' ' < "$script")
+  text=${text%\}*}
+  text=${text/open \{/open \{ stop}
+  # Two scripts of one length, with the same acts.
+  echo "$text}         run 1" > "$room/input"
+  stopped=$(counted "$room/asio_run" run)
+  grep -q '^begin' "$room/output" && stopped="a handler ran"
+  echo "$text} restart run 1" > "$room/input"
+  compare "$script" "$stopped" "$(counted "$room/asio_run" run)"
+done
+for trace in examples/*.trace; do
+  [ "$(head -n 1 "$trace")" = "call 0" ] || continue
+  # Two inputs of one length, with as many events.
+  { cat "${trace%.trace}.session"; echo "--"; cat "$trace"; } > "$room/input"
+  whole=$(counted "$room/asio_check")
+  [ "$(cat "$room/output")" = legal ] || whole="not legal"
+  { cat "${trace%.trace}.session"; echo "--"; echo "back 0"; tail -n +2 "$trace"; } > "$room/input"
+  compare "$trace" "$whole" "$(counted "$room/asio_check")"
+done
+echo "memory: $passed passed, $failed failed"
+[ "$failed" = 0 ]
