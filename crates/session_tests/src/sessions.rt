@@ -1,7 +1,7 @@
 //! One session in memory, and what the checker of traces says of it.
 
 use crate::marked::{Marks, PLAIN, rack_of};
-use asio_types::{Sink, Source, SureSink, SureSource};
+use asio_types::{Bytes, Sink, Source, SureSink, SureSource};
 use reactor_script::{FailAt, ScriptReactor};
 use session_run::{Status, asio_session};
 use session_script::MOST_ACTS;
@@ -21,7 +21,8 @@ pub(crate) struct Left {
     pub(crate) status: Status,
     pub(crate) trace: String,
     pub(crate) note: String,
-    pub(crate) reactor: ScriptReactor,
+    /// What was sent on stream 0.
+    pub(crate) sent: Bytes,
 }
 
 /// The words of a command line.
@@ -34,7 +35,7 @@ pub(crate) fn words_of(alloc: Global, text: &str) -> Result<Vec<String>, Fail> {
 }
 
 /// A session with this source and this out over the scripted world, in which these calls fail; its
-/// note, and the world as it is left.
+/// note, and what was sent on stream 0.
 pub(crate) fn session<R: Abort + Threads + Wait + Sync, S: Source, K: Sink>(
     rt: &R,
     alloc: Global,
@@ -43,7 +44,7 @@ pub(crate) fn session<R: Abort + Threads + Wait + Sync, S: Source, K: Sink>(
     out: &mut K,
     fails: &[FailAt],
     marks: Marks,
-) -> Result<(Status, String, ScriptReactor), Fail> {
+) -> Result<(Status, String, Bytes), Fail> {
     let words = words_of(alloc, words)?;
     let reactor = ScriptReactor::make(alloc, fails)?;
     let mut notes = SureSink::make(alloc, 256)?;
@@ -60,7 +61,7 @@ pub(crate) fn session<R: Abort + Threads + Wait + Sync, S: Source, K: Sink>(
     );
     rack.discard_all();
     let note = String::from_utf8_lossy(alloc, notes.bytes())?;
-    Ok((status, note, reactor))
+    Ok((status, note, Bytes::from_slice(alloc, reactor.sent(0))?))
 }
 
 /// A session from memory to memory.
@@ -73,13 +74,13 @@ pub(crate) fn ran<R: Abort + Threads + Wait + Sync>(
 ) -> Result<Left, Fail> {
     let mut source = SureSource::make(alloc, script.as_bytes())?;
     let mut out = SureSink::make(alloc, ROOM)?;
-    let (status, note, reactor) = session(rt, alloc, "run", &mut source, &mut out, fails, marks)?;
+    let (status, note, sent) = session(rt, alloc, "run", &mut source, &mut out, fails, marks)?;
     let trace = String::from_utf8_lossy(alloc, out.bytes())?;
     Ok(Left {
         status,
         trace,
         note,
-        reactor,
+        sent,
     })
 }
 

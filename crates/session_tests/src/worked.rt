@@ -74,7 +74,7 @@ fn traces_show_the_marks_of_the_handlers(rt: HostRuntime) -> Result<(), Fail> {
 fn the_world_has_what_the_history_sent(rt: HostRuntime) -> Result<(), Fail> {
     for (script, sent) in SENT {
         let left = ran_well(&rt, rt.alloc(), script)?;
-        assert_eq!(rt; left.reactor.sent(0), sent.as_bytes(), "{script}");
+        assert_eq!(rt; left.sent.as_slice(), sent.as_bytes(), "{script}");
     }
     Ok(())
 }
