@@ -7,8 +7,6 @@
 mod law;
 mod machine;
 mod step;
-#[cfg(test)]
-mod tests;
 mod want;
 
 pub use law::{

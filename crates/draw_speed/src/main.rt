@@ -90,7 +90,7 @@ fn command_of(words: &[String]) -> Option<Command>
 }
 
 /// Makes all draws of a seat.
-#[tactic(auto, using(lane_clock::proofs::TestLemmas::counted_push))]
+#[tactic(auto, using(lane_clock::proofs::CountLemmas::counted_push))]
 fn draw_all(clock: &LaneClock, mut seat: LaneSeat)
     requires clock { seat.clock ≡ clock.now }
     requires new { own seat ≡ [] }
@@ -101,7 +101,7 @@ fn draw_all(clock: &LaneClock, mut seat: LaneSeat)
 }
 
 /// The seats that are left, at most so many.
-#[tactic(auto, using(lane_clock::proofs::TestLemmas::new_own))]
+#[tactic(auto, using(lane_clock::proofs::SeatLemmas::new_own))]
 fn seats_of(alloc: Global, mut list: SeatList, count: u32) -> Result<Vec<LaneSeat>, NoMemory>
     ensures new { IfOk result (λ seats.
         All (λ seat. (seat.clock ≡ list.clock) × (own seat ≡ [])) seats.items) }

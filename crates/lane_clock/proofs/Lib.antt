@@ -17,4 +17,3 @@ pub mod EndLemmas
 pub mod RowLemmas
 pub mod SeatLemmas
 pub mod LawLemmas
-pub mod TestLemmas

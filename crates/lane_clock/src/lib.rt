@@ -13,8 +13,6 @@ mod plan;
 mod rule;
 mod seat;
 mod step;
-#[cfg(test)]
-mod tests;
 
 pub use clock::LaneClock;
 pub use found::{Change, Found};

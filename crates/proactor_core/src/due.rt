@@ -1,4 +1,4 @@
-ghost use Rattle.std.specs.Prelude.{◌≡◌, ◌<◌, ◌+◌, ◌↔◌, [], ◌∷◌, length, IfOk, IfNone, IfSome, IsTrue};
+ghost use Rattle.std.specs.Prelude.{◌≡◌, ◌<◌, ◌+◌, [], ◌∷◌, length, IfOk, IfNone, IfSome};
 ghost use Rattle.proactor_core.specs.Due.{listed};
 
 use asio_types::NoMemory;
@@ -51,13 +51,6 @@ impl DueList {
         ensures unchanged { IfNone result (self.new ≡ self.old) }
     {
         self.queue.pop_front()
-    }
-
-    /// Whether there is none to be told.
-    pub(crate) fn is_empty(&self) -> bool
-        ensures { IsTrue result ↔ (self.now.coming ≡ []) }
-    {
-        self.queue.is_empty()
     }
 
     /// How many are to be told.

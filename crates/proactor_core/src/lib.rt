@@ -19,8 +19,6 @@ mod stream_work;
 mod streams;
 mod tables;
 mod taking;
-#[cfg(test)]
-mod tests;
 mod uncounted;
 mod untold_law;
 mod waits;

@@ -4,7 +4,7 @@ use crate::turns::{Case, is_as_said};
 use std::process::Abort;
 use std::test::Fail;
 
-const STREAMS: [Case; 18] = [
+const STREAMS: [Case; 20] = [
     Case {
         shows: "total_misses_a_composed_read",
         script: "session 1 slots 1 streams 1 at 4 feed 0 x6162 open { emit 0 1 read 0 2 - 0 { } emit 0 4 } run 1",
@@ -130,6 +130,20 @@ const STREAMS: [Case; 18] = [
         turns: "0 1 3 tick 4 5",
         fails: &[],
         trace: "take 0 / take 1 / take 3 / tick 2 / done 3 ok 3 / take 4 / done 4 ok 3 / take 5 / done 1 aborted 0",
+    },
+    Case {
+        shows: "a_closed_stream_cancels_in_order_of_acceptance",
+        script: "session 1 streams 1 open { write 0 x616263 - - { } read 0 4 - - { } close 0 read 0 4 - - { } } run 1",
+        turns: "0 1 2 3",
+        fails: &[],
+        trace: "take 0 / take 1 / take 2 / done 0 aborted 0 / done 1 aborted 0 / take 3 / done 3 bad 0",
+    },
+    Case {
+        shows: "a_read_completes_at_the_end_of_its_stream",
+        script: "session 1 timers 2 streams 1 open { read 0 4 - - { } } run 1",
+        turns: "0 tick",
+        fails: &[],
+        trace: "take 0 / last / done 0 eof 0",
     },
 ];
 

@@ -10,8 +10,6 @@ mod law;
 mod make;
 mod pass;
 mod rule;
-#[cfg(test)]
-mod tests;
 
 pub use hints::ReadyHints;
 pub use law::others_may_take_all;

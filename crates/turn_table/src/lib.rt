@@ -11,8 +11,6 @@ mod place;
 mod plays;
 mod seat;
 mod table;
-#[cfg(test)]
-mod tests;
 mod turns;
 
 pub use home::{Home, Homes};

@@ -1,7 +1,7 @@
 use Rattle.std.proofs.Common.{◌<◌, ap, ◌∙◌, subst}
 use Rattle.lane_clock.specs.Seats.{SeatView, Owns}
-use Rattle.lane_clock.proofs.TestLemmas.{below_four}
-use Rattle.lane_clock.proofs.tests.gathered.Goals as goal
+use Rattle.lane_tests.proofs.NumberLemmas.{below_four}
+use Rattle.lane_tests.proofs.clock.gathered.Goals as goal
 
 pub close-requires-clause-all : goal.close-requires-clause-all
 close-requires-clause-all c n lt =

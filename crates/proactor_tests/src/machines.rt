@@ -5,8 +5,8 @@ ghost use Rattle.composed_ops.specs.Asking.{asking_of, IsSizedAct};
 ghost use Rattle.composed_ops.specs.Machine.{progress_of};
 ghost use Rattle.composed_ops.specs.Progress.{IsUnderWay};
 
-use super::*;
 use asio_types::{Bytes, Code, Moved, NoMemory, ReadMark, Types};
+use composed_ops::{Machine, Step, Want};
 use session_script::Act;
 use std::alloc::Global;
 

@@ -1,7 +1,4 @@
--- What the tests use of seats, under names that an attribute can have.
 use Rattle.std.proofs.Common.{ℕ, zero, suc, ◌<◌, arith}
-pub use Rattle.lane_clock.proofs.SeatLemmas.{new_own}
-pub use Rattle.lane_clock.proofs.CountLemmas.{counted_push}
 
 -- what holds of each number below four
 pub below_four : (P : ℕ → Type 0) → P 0 → P 1 → P 2 → P 3 → (n : ℕ) → n < 4 → P n

@@ -1,8 +1,7 @@
 ghost use Rattle.std.specs.Prelude.{◌≡◌};
 ghost use Rattle.ready_hints.specs.Hints.{IsPassOf};
 
-use crate::hints::ReadyHints;
-use crate::pass::HintPass;
+use ready_hints::{HintPass, ReadyHints};
 use std::sync::Wait;
 use std::test::*;
 use std::thread;

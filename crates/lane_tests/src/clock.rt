@@ -1,11 +1,8 @@
 ghost use Rattle.std.specs.Prelude.{◌≡◌, ◌<◌, [], length};
 ghost use Rattle.lane_clock.specs.Seats.{Keeps, Owns, own};
 
-use crate::clock::LaneClock;
-use crate::found::{Change, Found};
-use crate::note::Note;
-use crate::seat::LaneSeat;
 use asio_types::Code;
+use lane_clock::{Change, Found, LaneClock, LaneSeat, Note};
 use std::process::Abort;
 use std::test::Fail;
 use std::thread::{Threads, join};
@@ -35,7 +32,7 @@ fn gathered(
 }
 
 #[test]
-#[tactic(auto, using(crate::proofs::TestLemmas::new_own, crate::proofs::TestLemmas::counted_push))]
+#[tactic(auto, using(lane_clock::proofs::SeatLemmas::new_own, lane_clock::proofs::CountLemmas::counted_push))]
 fn operation_changes_hands(rt: HostRuntime) -> Result<(), Fail> {
     let (clock, mut seats) = LaneClock::make(rt.alloc(), &[2, 1], 1, 0)?;
     let mut first = seats.next().expect(&rt, "the seat of lane 0");
@@ -67,7 +64,7 @@ fn operation_changes_hands(rt: HostRuntime) -> Result<(), Fail> {
 }
 
 #[test]
-#[tactic(auto, using(crate::proofs::TestLemmas::new_own, crate::proofs::TestLemmas::counted_push))]
+#[tactic(auto, using(lane_clock::proofs::SeatLemmas::new_own, lane_clock::proofs::CountLemmas::counted_push))]
 fn stop_and_release(rt: HostRuntime) -> Result<(), Fail> {
     let (clock, mut seats) = LaneClock::make(rt.alloc(), &[1, 1], 1, 2)?;
     let mut first = seats.next().expect(&rt, "the seat of lane 0");
@@ -82,7 +79,7 @@ fn stop_and_release(rt: HostRuntime) -> Result<(), Fail> {
 }
 
 #[test]
-#[tactic(auto, using(crate::proofs::TestLemmas::new_own, crate::proofs::TestLemmas::counted_push))]
+#[tactic(auto, using(lane_clock::proofs::SeatLemmas::new_own, lane_clock::proofs::CountLemmas::counted_push))]
 fn copy_tells_another_seat(rt: HostRuntime) -> Result<(), Fail> {
     let (clock, mut seats) = LaneClock::make(rt.alloc(), &[1], 1, 3)?;
     let mut lane = seats.next().expect(&rt, "the lane's seat");
@@ -105,7 +102,7 @@ struct Report {
     seen: Option<u32>,
 }
 
-#[tactic(auto, using(crate::proofs::TestLemmas::counted_push))]
+#[tactic(auto, using(lane_clock::proofs::CountLemmas::counted_push))]
 fn play(clock: &LaneClock, mut seat: LaneSeat) -> Report
     requires clock { seat.clock ≡ clock.now }
     requires lane { 0 < length clock.now.plan.cells }
@@ -176,7 +173,7 @@ fn are_all_below_eight(reports: &[(u64, u64)]) -> bool {
 }
 
 #[test]
-#[tactic(auto, using(crate::proofs::TestLemmas::new_own))]
+#[tactic(auto, using(lane_clock::proofs::SeatLemmas::new_own))]
 fn four_threads_share_a_lane(rt: HostRuntime) -> Result<(), Fail> {
     let (clock, mut seats) = LaneClock::make(rt.alloc(), &[4], 2, 0)?;
     let a = seats.next().expect(&rt, "the lane's seat");

@@ -2,14 +2,12 @@ ghost use Rattle.std.specs.Prelude.{◌≡◌, ◌+◌, ◌%◌, ◌<◌, [], �
 ghost use Rattle.turn_table.specs.Numbers.{run_from};
 ghost use Rattle.turn_table.specs.Seated.{IsSeatOf, new_seat};
 
-use crate::home::{Home, Homes};
-use crate::seat::{TurnSeat, TurnSeats};
-use crate::table::TurnTable;
 use std::alloc::Global;
 use std::sync::Wait;
 use std::test::Fail;
 use std::thread;
 use std::thread::Threads;
+use turn_table::{Home, Homes, TurnSeat, TurnSeats, TurnTable};
 
 // A value that its type keeps even.
 #[derive(Drop)]

@@ -1,3 +1,0 @@
-mod due;
-mod streams;
-mod waits;
