@@ -49,6 +49,3 @@ pub use text_sink::TextSink;
 pub use text_source::TextSource;
 pub use whole_write::write_all;
 pub use world::{Line, Lines, What, World};
-
-#[cfg(test)]
-mod tests;

@@ -6,8 +6,6 @@
 
 mod connection;
 mod slots;
-#[cfg(test)]
-mod tests;
 
 pub use connection::Connection;
 pub use slots::CancelSlots;

@@ -7,8 +7,6 @@ mod call;
 mod completion;
 mod handler;
 mod rack;
-#[cfg(test)]
-mod tests;
 
 pub use call::{Call, Ran, Spend};
 pub use completion::CompletionHandler;

@@ -7,8 +7,6 @@ mod method;
 mod plans;
 mod script_reactor;
 mod stage;
-#[cfg(test)]
-mod tests;
 
 pub use method::{FailAt, Method};
 pub use script_reactor::ScriptReactor;

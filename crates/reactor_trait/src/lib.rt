@@ -6,8 +6,6 @@
 
 mod reactor;
 mod silent_reactor;
-#[cfg(test)]
-mod tests;
 
 pub use reactor::Reactor;
 pub use silent_reactor::SilentReactor;

@@ -36,6 +36,3 @@ pub use refusal::{Refusal, Rule, ScriptFault};
 pub use round::{Pace, Round};
 pub use script::{Script, read_script, upgrade};
 pub use writer::write_script;
-
-#[cfg(test)]
-mod tests;

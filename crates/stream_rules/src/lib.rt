@@ -14,8 +14,6 @@ mod pipes;
 mod queue;
 mod schedule;
 mod serving;
-#[cfg(test)]
-mod tests;
 
 pub use delimiter::first_end;
 pub use inbound::Inbound;

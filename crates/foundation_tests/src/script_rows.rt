@@ -1,7 +1,7 @@
 //! Each place of the grammar with each rule that a token may break there. A front leads to a place:
 //! the fault is at the token behind it, marked with `@`, or at the end of the text.
 
-use crate::tests::verdict;
+use crate::script_texts::verdict;
 use std::alloc::{AllocError, Global};
 use std::process::Abort;
 use std::test::Fail;
@@ -253,18 +253,34 @@ const BROKEN: &[Broken] = &[
     ),
 ];
 
-#[test]
-fn each_token_is_refused_where_it_breaks_a_rule(rt: HostRuntime) -> Result<(), Fail> {
-    let alloc = rt.alloc();
-    for (rule, kinds, tokens) in BROKEN {
-        for (before, places) in *kinds {
-            for place in *places {
-                let front = format!(in alloc; "{before}{place}")?;
-                refuses_all(&rt, alloc, *rule, front.as_str(), tokens)?;
-            }
+/// Each of these tokens is refused by this rule behind each of these fronts.
+fn refuses_at_all(
+    rt: &impl Abort,
+    alloc: Global,
+    rule: u8,
+    kind: &Places,
+    tokens: &[&str],
+) -> Result<(), Fail> {
+    let (before, places) = kind;
+    for place in *places {
+        let front = format!(in alloc; "{before}{place}")?;
+        refuses_all(rt, alloc, rule, front.as_str(), tokens)?;
+    }
+    Ok(())
+}
+
+fn are_broken(rt: &impl Abort, alloc: Global, rows: &[Broken]) -> Result<(), Fail> {
+    for (rule, kinds, tokens) in rows {
+        for kind in *kinds {
+            refuses_at_all(rt, alloc, *rule, kind, tokens)?;
         }
     }
     Ok(())
+}
+
+#[test]
+fn each_token_is_refused_where_it_breaks_a_rule(rt: HostRuntime) -> Result<(), Fail> {
+    are_broken(&rt, rt.alloc(), BROKEN)
 }
 
 /// Behind this front each of these texts breaks this rule.
@@ -376,10 +392,14 @@ const REFUSED: &[Refused] = &[
     ),
 ];
 
-#[test]
-fn these_texts_are_refused(rt: HostRuntime) -> Result<(), Fail> {
-    for (rule, front, texts) in REFUSED {
-        refuses_all(&rt, rt.alloc(), *rule, front, texts)?;
+fn are_refused(rt: &impl Abort, alloc: Global, rows: &[Refused]) -> Result<(), Fail> {
+    for (rule, front, texts) in rows {
+        refuses_all(rt, alloc, *rule, front, texts)?;
     }
     Ok(())
+}
+
+#[test]
+fn these_texts_are_refused(rt: HostRuntime) -> Result<(), Fail> {
+    are_refused(&rt, rt.alloc(), REFUSED)
 }

@@ -5,21 +5,32 @@ ghost use Rattle.std.specs.Prelude.{◌≡◌, ◌≤◌, IfOk, length};
 ghost use Rattle.std.specs.VecDeque.{deque_len};
 ghost use Rattle.stream_rules.specs.Asked.{writing_of, IsCountable};
 
-use super::*;
 use asio_types::{Code, NoMemory, OpNo, ReadMark, WriteMark};
 use std::alloc::Global;
 use std::collections::VecDeque;
+use stream_rules::{
+    Asks, Completion, Pipe, Queued, Reading, Writing, first_end, serve_reads, serve_writes,
+};
 
 /// A reading operation, the bytes that come, the mark behind them, how it completes, and how many
 /// bytes it leaves.
-#[derive(Clone, Copy)]
-struct ReadCase {
-    reading: Reading<'static>,
-    bytes: &'static [u8],
-    mark: Option<ReadMark>,
-    outcome: Option<(Code, u32)>,
-    left: usize,
-}
+type ReadCase = (
+    Reading<'static>,
+    &'static [u8],
+    Option<ReadMark>,
+    Option<(Code, u32)>,
+    usize,
+);
+
+/// The bytes of a write, the room that comes, the mark behind it, how the write completes, and how
+/// many bytes are sent.
+type WriteCase = (
+    &'static [u8],
+    u32,
+    Option<WriteMark>,
+    Option<(Code, u32)>,
+    usize,
+);
 
 /// How a reading operation completes where the first bytes are there at first, and the others and
 /// the mark come later; and how many bytes it leaves.
@@ -75,144 +86,127 @@ fn write_cut(
     Ok((outcome, pipe.outbound.sent().len()))
 }
 
-fn read_case(
-    reading: Reading<'static>,
-    bytes: &'static [u8],
-    mark: Option<ReadMark>,
-    outcome: Option<(Code, u32)>,
-    left: usize,
-) -> ReadCase {
-    ReadCase {
-        reading,
-        bytes,
-        mark,
-        outcome,
-        left,
-    }
-}
+const LINE: Reading<'static> = Reading::Until {
+    delimiter: b"\r\n",
+    max: 64,
+};
+
+const COMMAND: Reading<'static> = Reading::Until {
+    delimiter: b"\n",
+    max: 64,
+};
+
+const SHORT: Reading<'static> = Reading::Until {
+    delimiter: b"\n",
+    max: 4,
+};
+
+const TEN: Reading<'static> = Reading::All { size: 10 };
+
+const READS: &[ReadCase] = &[
+    (
+        Reading::All { size: 2 },
+        b"ab",
+        None,
+        Some((Code::Ok, 2)),
+        0,
+    ),
+    (TEN, b"abcdefghij", None, Some((Code::Ok, 10)), 0),
+    (TEN, b"abcd", Some(ReadMark::Eof), Some((Code::Eof, 4)), 0),
+    (Reading::All { size: 4 }, b"", None, None, 0),
+    (LINE, b"ab\r\ncd\r\n", None, Some((Code::Ok, 4)), 4),
+    (LINE, b"ab\rcd\n", None, None, 6),
+    (COMMAND, b"hi\n", None, Some((Code::Ok, 3)), 0),
+    (SHORT, b"abcd", None, Some((Code::NotFound, 0)), 4),
+    (SHORT, b"abc\n", None, Some((Code::Ok, 4)), 0),
+    (
+        SHORT,
+        b"hi\n",
+        Some(ReadMark::Reset),
+        Some((Code::Ok, 3)),
+        0,
+    ),
+    (
+        SHORT,
+        b"hi",
+        Some(ReadMark::Reset),
+        Some((Code::Reset, 0)),
+        2,
+    ),
+];
 
 /// Each stays, or completes, alike however its bytes are cut.
 #[test]
 fn composed_reads_give_the_same_for_every_cut(rt: HostRuntime) -> Result<(), NoMemory> {
-    let all = |size| Reading::All { size };
-    let line = Reading::Until {
-        delimiter: b"\r\n",
-        max: 64,
-    };
-    let command = Reading::Until {
-        delimiter: b"\n",
-        max: 64,
-    };
-    let short = Reading::Until {
-        delimiter: b"\n",
-        max: 4,
-    };
-    let cases = [
-        read_case(all(2), b"ab", None, Some((Code::Ok, 2)), 0),
-        read_case(all(10), b"abcdefghij", None, Some((Code::Ok, 10)), 0),
-        read_case(
-            all(10),
-            b"abcd",
-            Some(ReadMark::Eof),
-            Some((Code::Eof, 4)),
-            0,
-        ),
-        read_case(all(4), b"", None, None, 0),
-        read_case(line, b"ab\r\ncd\r\n", None, Some((Code::Ok, 4)), 4),
-        read_case(line, b"ab\rcd\n", None, None, 6),
-        read_case(command, b"hi\n", None, Some((Code::Ok, 3)), 0),
-        read_case(short, b"abcd", None, Some((Code::NotFound, 0)), 4),
-        read_case(short, b"abc\n", None, Some((Code::Ok, 4)), 0),
-        read_case(
-            short,
-            b"hi\n",
-            Some(ReadMark::Reset),
-            Some((Code::Ok, 3)),
-            0,
-        ),
-        read_case(
-            short,
-            b"hi",
-            Some(ReadMark::Reset),
-            Some((Code::Reset, 0)),
-            2,
-        ),
-    ];
-    for case in &cases {
-        for cut in 0..=case.bytes.len() {
-            assert_eq!(rt;
-                read_cut(rt.alloc(), case.reading, case.bytes, cut, case.mark)?,
-                (case.outcome, case.left)
-            );
+    for (reading, bytes, mark, outcome, left) in READS {
+        for cut in 0..=bytes.len() {
+            let got = read_cut(rt.alloc(), *reading, bytes, cut, *mark)?;
+            assert_eq!(rt; got, (*outcome, *left));
         }
     }
     Ok(())
 }
+
+const WRITES: &[WriteCase] = &[
+    (b"abcd", 11, None, Some((Code::Ok, 4)), 4),
+    (
+        b"abcd",
+        2,
+        Some(WriteMark::Broken),
+        Some((Code::Broken, 2)),
+        2,
+    ),
+    (
+        b"abcd",
+        3,
+        Some(WriteMark::Reset),
+        Some((Code::Reset, 3)),
+        3,
+    ),
+    (b"hi\n", 64, None, Some((Code::Ok, 3)), 3),
+    (b"hi\n", 2, None, None, 2),
+];
 
 /// Each is whole however its room is cut.
 #[test]
 fn composed_writes_give_the_same_for_every_cut(rt: HostRuntime) -> Result<(), NoMemory> {
-    let cases: [(&[u8], u32, Option<WriteMark>, Option<(Code, u32)>, usize); 5] = [
-        (b"abcd", 11, None, Some((Code::Ok, 4)), 4),
-        (
-            b"abcd",
-            2,
-            Some(WriteMark::Broken),
-            Some((Code::Broken, 2)),
-            2,
-        ),
-        (
-            b"abcd",
-            3,
-            Some(WriteMark::Reset),
-            Some((Code::Reset, 3)),
-            3,
-        ),
-        (b"hi\n", 64, None, Some((Code::Ok, 3)), 3),
-        (b"hi\n", 2, None, None, 2),
-    ];
-    for (bytes, room, mark, outcome, sent) in cases {
-        let writing = Writing::All { bytes };
-        for cut in 0..=room {
-            if bytes.len() < 8 {
-                assert_eq!(rt;
-                    write_cut(rt.alloc(), writing, room, cut, mark)?,
-                    (outcome, sent)
-                );
-            }
+    for (bytes, room, mark, outcome, sent) in WRITES {
+        assert!(rt; bytes.len() < 8);
+        for cut in 0..=*room {
+            let writing = Writing::All { bytes };
+            let got = write_cut(rt.alloc(), writing, *room, cut, *mark)?;
+            assert_eq!(rt; got, (*outcome, *sent));
         }
     }
     Ok(())
 }
 
+const TWO: Reading<'static> = Reading::Some { size: 2 };
+
+const FOUR: Reading<'static> = Reading::Some { size: 4 };
+
+/// How many bytes are there at first.
+const SOME: &[(usize, ReadCase)] = &[
+    (3, (TWO, b"abc", None, Some((Code::Ok, 2)), 1)),
+    (1, (TWO, b"abc", None, Some((Code::Ok, 1)), 2)),
+    (0, (FOUR, b"", Some(ReadMark::Eof), Some((Code::Eof, 0)), 0)),
+    (
+        0,
+        (FOUR, b"", Some(ReadMark::Reset), Some((Code::Reset, 0)), 0),
+    ),
+];
+
 /// A read or a write of some bytes completes with what is there at first.
 #[test]
 fn what_is_there_is_enough_for_some(rt: HostRuntime) -> Result<(), NoMemory> {
-    let alloc = rt.alloc();
-    let some = |size| Reading::Some { size };
-    let eof = Some(ReadMark::Eof);
-    let reset = Some(ReadMark::Reset);
-    assert_eq!(rt;
-        read_cut(alloc, some(2), b"abc", 3, None)?,
-        (Some((Code::Ok, 2)), 1)
-    );
-    assert_eq!(rt;
-        read_cut(alloc, some(2), b"abc", 1, None)?,
-        (Some((Code::Ok, 1)), 2)
-    );
-    assert_eq!(rt;
-        read_cut(alloc, some(4), b"", 0, eof)?,
-        (Some((Code::Eof, 0)), 0)
-    );
-    assert_eq!(rt;
-        read_cut(alloc, some(4), b"", 0, reset)?,
-        (Some((Code::Reset, 0)), 0)
-    );
+    for (cut, (reading, bytes, mark, outcome, left)) in SOME {
+        assert!(rt; *cut <= bytes.len());
+        let got = read_cut(rt.alloc(), *reading, bytes, *cut, *mark)?;
+        assert_eq!(rt; got, (*outcome, *left));
+    }
     let writing = Writing::Some { bytes: b"abc" };
-    assert_eq!(rt;
-        write_cut(alloc, writing, 2, 2, None)?,
-        (Some((Code::Ok, 2)), 2)
-    );
+    let got = write_cut(rt.alloc(), writing, 2, 2, None)?;
+    assert_eq!(rt; got, (Some((Code::Ok, 2)), 2));
     Ok(())
 }
 
@@ -291,27 +285,51 @@ fn two_lines_are_read_in_order_for_every_cut(rt: HostRuntime) -> Result<(), NoMe
     Ok(())
 }
 
+/// What is seen of two writes: the head of the queue where they stay at first, which of them
+/// completed at last, the head then, and all bytes that are sent.
+#[derive(Drop)]
+struct Written {
+    at_first: Option<(OpNo, u32)>,
+    completed: Vec<Completion>,
+    at_last: Option<(OpNo, u32)>,
+    sent: Vec<u8>,
+}
+
+/// The operation at the head of a queue, and how many of its bytes are sent.
+fn head_of(queue: &VecDeque<Queued>) -> Option<(OpNo, u32)> {
+    queue.front().map(|head| (head.op, head.moved))
+}
+
+/// What is seen of two writes where so much room is there at first, and the rest comes later.
+fn two_writes_cut(alloc: Global, room: u32, cut: u32) -> Result<Written, NoMemory>
+    requires { cut ≤ room }
+{
+    let mut queue = two_queued(alloc)?;
+    let mut completed = Vec::with_capacity(alloc, 2)?;
+    let mut pipe = Pipe::make(alloc, 0, room)?;
+    pipe.outbound.add_room(cut);
+    serve_writes(&Asked, &mut queue, &mut pipe, &mut completed);
+    let at_first = head_of(&queue);
+    pipe.outbound.add_room(room - cut);
+    serve_writes(&Asked, &mut queue, &mut pipe, &mut completed);
+    Ok(Written {
+        at_first,
+        completed,
+        at_last: head_of(&queue),
+        sent: Vec::from_slice(alloc, pipe.outbound.sent())?,
+    })
+}
+
 /// A write that stays has its bytes so far sent, and the next one waits behind it.
 #[test]
 fn a_write_that_stays_keeps_what_it_sent(rt: HostRuntime) -> Result<(), NoMemory> {
-    let mut queue = two_queued(rt.alloc())?;
-    let mut completed = Vec::with_capacity(rt.alloc(), 2)?;
-    let mut pipe = Pipe::make(rt.alloc(), 0, 3)?;
-    pipe.outbound.add_room(1);
-    serve_writes(&Asked, &mut queue, &mut pipe, &mut completed);
-    assert_eq!(rt; queue.front().map(|head| head.moved), Some(1));
-    pipe.outbound.add_room(2);
-    serve_writes(&Asked, &mut queue, &mut pipe, &mut completed);
+    let written = two_writes_cut(rt.alloc(), 3, 1)?;
     let outcome = (Code::Ok, 2);
-    assert_eq!(rt;
-        completed.as_slice(),
-        [Completion { op: 0, outcome }].as_slice()
-    );
-    assert_eq!(rt;
-        queue.front().map(|head| (head.op, head.moved)),
-        Some((1, 1))
-    );
-    assert_eq!(rt; pipe.outbound.sent(), b"aba".as_slice());
+    let completed = [Completion { op: 0, outcome }];
+    assert_eq!(rt; written.at_first, Some((0, 1)));
+    assert_eq!(rt; written.completed.as_slice(), completed.as_slice());
+    assert_eq!(rt; written.at_last, Some((1, 1)));
+    assert_eq!(rt; written.sent.as_slice(), b"aba".as_slice());
     Ok(())
 }
 

@@ -1,15 +1,13 @@
-mod rows;
-mod script;
+//! Which texts are read as a script, and the limits of each version.
 
-use crate::limits::{MOST_ACTS, MOST_BYTES};
-use crate::reader::read_parts;
-use crate::refusal::ScriptFault;
+use session_script::{MOST_ACTS, MOST_BYTES, ScriptFault, read_script};
 use std::alloc::{AllocError, Global};
+use std::process::Abort;
 use std::test::Fail;
 
 /// The rule, line and token of a refusal; zeros for a script, and 99 without memory.
-fn verdict(alloc: Global, text: &[u8]) -> (u8, u32, u32) {
-    match read_parts(alloc, text) {
+pub(crate) fn verdict(alloc: Global, text: &[u8]) -> (u8, u32, u32) {
+    match read_script(alloc, text) {
         Ok(_) => (0, 0, 0),
         Err(ScriptFault::Refused(refusal)) => (refusal.rule.number(), refusal.line, refusal.token),
         Err(ScriptFault::NoMemory) => (99, 99, 99),
@@ -168,14 +166,37 @@ const LIMITED: &[Limited] = &[
     ),
 ];
 
+fn verdict_on(
+    alloc: Global,
+    front: &str,
+    part: &str,
+    count: u32,
+    back: &str,
+) -> Result<(u8, u32, u32), AllocError> {
+    let text = repeated(alloc, front, part, count, back)?;
+    Ok(verdict(alloc, text.as_slice()))
+}
+
+fn is_judged(
+    rt: &impl Abort,
+    alloc: Global,
+    limited: &Limited,
+    count: u32,
+    wanted: (u8, u32, u32),
+) -> Result<(), AllocError> {
+    let (front, part, _, back, _) = limited;
+    let judged = verdict_on(alloc, front, part, count, back)?;
+    assert_eq!(rt; judged, wanted, "{front}");
+    Ok(())
+}
+
 #[test]
 fn accepts_as_many_as_the_limit(rt: HostRuntime) -> Result<(), Fail> {
     let alloc = rt.alloc();
-    for (front, part, most, back, token) in LIMITED {
-        let allowed = repeated(alloc, front, part, *most, back)?;
-        assert_eq!(rt; verdict(alloc, allowed.as_slice()), (0, 0, 0), "{front}");
-        let more = repeated(alloc, front, part, most.saturating_add(1), back)?;
-        assert_eq!(rt; verdict(alloc, more.as_slice()), (7, 1, *token), "{front}");
+    for limited in LIMITED {
+        let (_, _, most, _, token) = limited;
+        is_judged(&rt, alloc, limited, *most, (0, 0, 0))?;
+        is_judged(&rt, alloc, limited, most.saturating_add(1), (7, 1, *token))?;
     }
     Ok(())
 }
@@ -187,19 +208,23 @@ fn a_text_is_no_longer_than_the_limit(rt: HostRuntime) -> Result<(), Fail> {
         (MOST_BYTES as u32, (4, 1, 1)),
         (MOST_BYTES as u32 + 1, (2, 0, 0)),
     ] {
-        let text = repeated(alloc, "", " ", count, "")?;
-        assert_eq!(rt; verdict(alloc, text.as_slice()), wanted);
+        assert_eq!(rt; verdict_on(alloc, "", " ", count, "")?, wanted);
     }
     Ok(())
 }
 
+/// Postings, each in the one before.
+fn nested(alloc: Global, depth: u32) -> Result<Vec<u8>, AllocError> {
+    let mut text = repeated(alloc, "session 1 open {", " post - {", depth, " }")?;
+    text.extend_from_slice(repeated(alloc, "", " }", depth, " run 1")?.as_slice())?;
+    Ok(text)
+}
+
 #[test]
 fn bodies_are_no_deeper_than_the_limit(rt: HostRuntime) -> Result<(), Fail> {
-    let alloc = rt.alloc();
     for (depth, wanted) in [(31, (0, 0, 0)), (32, (7, 1, 100))] {
-        let mut text = repeated(alloc, "session 1 open {", " post - {", depth, " }")?;
-        text.extend_from_slice(repeated(alloc, "", " }", depth, " run 1")?.as_slice())?;
-        assert_eq!(rt; verdict(alloc, text.as_slice()), wanted);
+        let text = nested(rt.alloc(), depth)?;
+        assert_eq!(rt; verdict(rt.alloc(), text.as_slice()), wanted);
     }
     Ok(())
 }

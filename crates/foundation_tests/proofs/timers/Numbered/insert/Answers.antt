@@ -3,10 +3,10 @@ use Rattle.std.specs.List.{All}
 use Rattle.std.proofs.lemmas.List.Elements.{All-weaker}
 use Rattle.timer_queue.specs.declared.entry.Entry.{Entry}
 use Rattle.timer_queue.proofs.OrderLemmas.{All-put}
-use Rattle.timer_queue.proofs.tests.Numbered.insert.Goals as goal
+use Rattle.foundation_tests.proofs.timers.Numbered.insert.Goals as goal
 
 pub invariant_of-self : goal.invariant_of-self
-invariant_of-self g c = record {
+invariant_of-self c = record {
   kept =
       subst (All (λ (wait : Entry). (wait.serial < c.args.self.now.next + 1) × (wait.op + wait.serial ≡ 12)))
       (sym c.insert_reserved.ensures.waits)

@@ -1,12 +1,13 @@
+//! Handlers that are executed or discarded, and a rack of them.
+
 ghost use Rattle.std.specs.Prelude.{◌≡◌};
 ghost use Rattle.op_handlers.specs.Job.{answer};
 
-use crate::call::{Call, Ran, Spend};
-use crate::completion::CompletionHandler;
-use crate::handler::Handler;
-use crate::rack::Rack;
 use asio_types::{Class, Code, class_of};
+use op_handlers::{Call, CompletionHandler, Handler, Rack, Ran, Spend};
+use std::alloc::{AllocError, Global};
 use std::cell::Cell;
+use std::process::Abort;
 use std::sync::Arc;
 use std::sync::atomic::{AtomicU64, Ordering};
 use std::test::Fail;
@@ -112,6 +113,29 @@ impl<'a> CompletionHandler for Counted<'a> {
     }
 }
 
+// The rack of three such handlers, behind a number whose handler was taken.
+fn rack_of(alloc: Global, counted: Counted) -> Result<Rack<Counted>, AllocError> {
+    let slots = vec![in alloc; None, Some(counted), Some(counted), Some(counted)]?;
+    Ok(Rack::of(slots))
+}
+
+// The run mark of a handler that is taken and executed, if there is one.
+fn run_mark(rack: &mut Rack<Counted>, number: u32) -> Option<u64> {
+    match rack.take(number) {
+        Some(handler) => Some(executed(handler).mark),
+        None => None,
+    }
+}
+
+fn have_run_marks(rt: &impl Abort, rack: &mut Rack<Counted>, rows: &[(u32, Option<u64>)]) {
+    for (number, mark) in rows {
+        assert_eq!(rt; run_mark(rack, *number), *mark, "at {number}");
+    }
+}
+
+// The numbers that are taken, with the run mark that is found at each.
+const TAKEN: &[(u32, Option<u64>)] = &[(0, None), (2, Some(7)), (2, None), (4, None)];
+
 #[test]
 fn a_rack_executes_none_that_it_discards(rt: HostRuntime) -> Result<(), Fail> {
     let (executions, discards) = (Cell::new(0), Cell::new(0));
@@ -119,16 +143,9 @@ fn a_rack_executes_none_that_it_discards(rt: HostRuntime) -> Result<(), Fail> {
         executions: &executions,
         discards: &discards,
     };
-    let slots = vec![in rt.alloc(); None, Some(counted), Some(counted), Some(counted)]?;
-    let mut rack = Rack::of(slots);
+    let mut rack = rack_of(rt.alloc(), counted)?;
     assert!(rt; !rack.is_whole());
-    for (number, marks) in [(0, None), (2, Some(7)), (2, None), (4, None)] {
-        let ran = match rack.take(number) {
-            Some(handler) => Some(executed(handler).mark),
-            None => None,
-        };
-        assert_eq!(rt; ran, marks, "at {number}");
-    }
+    have_run_marks(&rt, &mut rack, TAKEN);
     rack.discard_rest();
     assert_eq!(rt; (executions.get(), discards.get()), (1, 2));
     assert_eq!(rt; rack.count(), 4);

@@ -1,10 +1,9 @@
 //! The questions of a script, its text and its upgrade.
 
-use crate::act::Act;
-use crate::script::{Script, read_script, upgrade};
-use crate::writer::write_script;
-use asio_types::{Class, Lane};
+use asio_types::{Class, Lane, NoMemory};
+use session_script::{Act, Script, read_script, upgrade, write_script};
 use std::alloc::Global;
+use std::process::Abort;
 use std::test::Fail;
 
 /// The parent of an act, whether it is an operation and executes inside its call, and its lane.
@@ -23,6 +22,13 @@ fn seen(script: &Script, a: u32) -> Option<Row> {
     }
 }
 
+fn have_lanes(rt: &impl Abort, script: &Script, rows: &[Row]) {
+    assert_eq!(rt; script.acts() as usize, rows.len());
+    for (a, row) in rows.iter().enumerate() {
+        assert_eq!(rt; seen(script, a as u32), Some(*row), "at act {a}");
+    }
+}
+
 fn is_stop(script: &Script, a: u32) -> bool {
     a < script.acts() && script.is_stop(a) && matches!(script.act(a), Act::Stop)
 }
@@ -31,69 +37,95 @@ fn has_branch(script: &Script, o: u32, class: Class, acts: &[u32]) -> bool {
     o < script.acts() && script.is_op(o) && script.branch(o, class) == acts
 }
 
-const OK: Class = Class::Ok;
-
-#[test]
-fn lanes_follow_callers_and_strands(rt: HostRuntime) -> Result<(), Fail> {
-    let text =
-        b"session 1 strands 2 timers 1 slots 1 open { post 0 { dispatch 0 { stop } dispatch 1 { dispatch - { } } \
-        dispatch - { } } dispatch 0 { } stop wait 0 1 0 { post - { dispatch 1 { } dispatch - { } } } abort { stop } \
-        other { dispatch 1 { } } cancel 0 } run 1";
-    let rows = [
-        (None, true, false, Lane::Strand(0)),
-        (Some((0, OK)), true, true, Lane::Strand(0)),
-        (Some((1, OK)), false, false, Lane::Strand(0)),
-        (Some((0, OK)), true, false, Lane::Strand(1)),
-        (Some((3, OK)), true, true, Lane::Strand(1)),
-        (Some((0, OK)), true, true, Lane::Strand(0)),
-        (None, true, false, Lane::Strand(0)),
-        (None, false, false, Lane::Reactor),
-        (None, true, false, Lane::Strand(1)),
-        (Some((8, OK)), true, false, Lane::Own(9)),
-        (Some((9, OK)), true, false, Lane::Strand(1)),
-        (Some((9, OK)), true, true, Lane::Own(9)),
-        (Some((8, Class::Abort)), false, false, Lane::Strand(1)),
-        (Some((8, Class::Other)), true, true, Lane::Strand(1)),
-        (None, false, false, Lane::Reactor),
-    ];
-    let script = read_script(rt.alloc(), text)?;
-    assert_eq!(rt; script.acts(), 15);
-    for (a, row) in rows.iter().enumerate() {
-        assert_eq!(rt; seen(&script, a as u32), Some(*row), "at act {a}");
+fn have_branches(rt: &impl Abort, script: &Script, rows: &[(u32, Class, &[u32], bool)]) {
+    for (o, class, acts, has) in rows {
+        assert_eq!(rt; has_branch(script, *o, *class, acts), *has, "at act {o}");
     }
-    Ok(())
 }
 
-#[test]
-fn branches_list_their_acts_in_text_order(rt: HostRuntime) -> Result<(), Fail> {
-    let text =
-        b"session 1 timers 1 guards 1 open { post - { post - { } stop } wait 0 - - { stop stop } abort { release 0 } \
-        other { post - { } } stop } restart run 2 poll 3";
-    let script = read_script(rt.alloc(), text)?;
-    assert_eq!(rt; script.opening(), [0, 3, 8].as_slice());
-    assert!(rt; has_branch(&script, 0, OK, &[1, 2]));
-    assert!(rt; has_branch(&script, 0, Class::Abort, &[]));
-    assert!(rt; has_branch(&script, 1, OK, &[]));
-    assert!(rt; has_branch(&script, 3, OK, &[4, 5]));
-    assert!(rt; has_branch(&script, 3, Class::Abort, &[6]));
-    assert!(rt; has_branch(&script, 3, Class::Other, &[7]));
-    assert!(rt; !has_branch(&script, 8, OK, &[]));
-    assert!(rt; is_stop(&script, 2) && is_stop(&script, 8) && !is_stop(&script, 1));
-    let counts = (
+fn have_stops(rt: &impl Abort, script: &Script, rows: &[(u32, bool)]) {
+    for (a, stop) in rows {
+        assert_eq!(rt; is_stop(script, *a), *stop, "at act {a}");
+    }
+}
+
+/// The strands, timers, slots and guards.
+fn declared(script: &Script) -> (u8, u8, u8, u8) {
+    (
         script.strands(),
         script.timers(),
         script.slots(),
         script.guards(),
-    );
-    assert_eq!(rt; counts, (0, 1, 0, 1));
-    assert_eq!(rt;
-        (
-            script.version(),
-            script.world().streams,
-            script.rounds().len()
-        ),
-        (1, 0, 2)
-    );
+    )
+}
+
+/// The version, the streams, and how many rounds there are.
+fn sizes(script: &Script) -> (u8, u8, usize) {
+    (
+        script.version(),
+        script.world().streams,
+        script.rounds().len(),
+    )
+}
+
+const OK: Class = Class::Ok;
+
+const LANES_TEXT: &[u8] =
+    b"session 1 strands 2 timers 1 slots 1 open { post 0 { dispatch 0 { stop } dispatch 1 { dispatch - { } } \
+    dispatch - { } } dispatch 0 { } stop wait 0 1 0 { post - { dispatch 1 { } dispatch - { } } } abort { stop } \
+    other { dispatch 1 { } } cancel 0 } run 1";
+
+const LANES: &[Row] = &[
+    (None, true, false, Lane::Strand(0)),
+    (Some((0, OK)), true, true, Lane::Strand(0)),
+    (Some((1, OK)), false, false, Lane::Strand(0)),
+    (Some((0, OK)), true, false, Lane::Strand(1)),
+    (Some((3, OK)), true, true, Lane::Strand(1)),
+    (Some((0, OK)), true, true, Lane::Strand(0)),
+    (None, true, false, Lane::Strand(0)),
+    (None, false, false, Lane::Reactor),
+    (None, true, false, Lane::Strand(1)),
+    (Some((8, OK)), true, false, Lane::Own(9)),
+    (Some((9, OK)), true, false, Lane::Strand(1)),
+    (Some((9, OK)), true, true, Lane::Own(9)),
+    (Some((8, Class::Abort)), false, false, Lane::Strand(1)),
+    (Some((8, Class::Other)), true, true, Lane::Strand(1)),
+    (None, false, false, Lane::Reactor),
+];
+
+#[test]
+fn lanes_follow_callers_and_strands(rt: HostRuntime) -> Result<(), Fail> {
+    let script = read_script(rt.alloc(), LANES_TEXT)?;
+    have_lanes(&rt, &script, LANES);
+    Ok(())
+}
+
+const BRANCHES_TEXT: &[u8] =
+    b"session 1 timers 1 guards 1 open { post - { post - { } stop } wait 0 - - { stop stop } abort { release 0 } \
+    other { post - { } } stop } restart run 2 poll 3";
+
+/// Whether an operation has these acts in its branch of this class.
+const BRANCHES: &[(u32, Class, &[u32], bool)] = &[
+    (0, OK, &[1, 2], true),
+    (0, Class::Abort, &[], true),
+    (1, OK, &[], true),
+    (3, OK, &[4, 5], true),
+    (3, Class::Abort, &[6], true),
+    (3, Class::Other, &[7], true),
+    (8, OK, &[], false),
+];
+
+/// Whether an act is a stop.
+const STOPS: &[(u32, bool)] = &[(1, false), (2, true), (8, true)];
+
+#[test]
+fn branches_list_their_acts_in_text_order(rt: HostRuntime) -> Result<(), Fail> {
+    let script = read_script(rt.alloc(), BRANCHES_TEXT)?;
+    assert_eq!(rt; script.opening(), [0, 3, 8].as_slice());
+    have_branches(&rt, &script, BRANCHES);
+    have_stops(&rt, &script, STOPS);
+    assert_eq!(rt; declared(&script), (0, 1, 0, 1));
+    assert_eq!(rt; sizes(&script), (1, 0, 2));
     Ok(())
 }
 
@@ -143,22 +175,20 @@ fn respelled(alloc: Global, text: &str) -> Result<Vec<u8>, Fail> {
     Ok(write_script(alloc, &script)?)
 }
 
+fn is_respelled(rt: &impl Abort, alloc: Global, text: &str, canonical: &str) -> Result<(), Fail> {
+    let written = respelled(alloc, text)?;
+    assert_eq!(rt; written.as_slice(), canonical.as_bytes(), "{text}");
+    Ok(())
+}
+
 #[test]
 fn a_script_is_written_in_one_spelling(rt: HostRuntime) -> Result<(), Fail> {
     let alloc = rt.alloc();
     for text in CANONICAL {
-        assert_eq!(rt;
-            respelled(alloc, text)?.as_slice(),
-            text.as_bytes(),
-            "{text}"
-        );
+        is_respelled(&rt, alloc, text, text)?;
     }
     for (text, canonical) in RESPELLED {
-        assert_eq!(rt;
-            respelled(alloc, text)?.as_slice(),
-            canonical.as_bytes(),
-            "{text}"
-        );
+        is_respelled(&rt, alloc, text, canonical)?;
     }
     Ok(())
 }
@@ -169,14 +199,16 @@ const UPGRADED: (&str, &str) = (
     "session 2 strands 3 timers 1 slots 2 streams 1 guards 1 at 5 feed 0 xab at 6 room 0 9 open { wait 0 2 1 { release 0 } abort { stop } until 0 x0a 9 - - { } } restart poll 3 run 2",
 );
 
+fn upgraded(alloc: Global, script: &Script) -> Result<Vec<u8>, NoMemory> {
+    let upgraded = upgrade(alloc, script)?;
+    write_script(alloc, &upgraded)
+}
+
 #[test]
 fn an_upgrade_changes_the_version_alone(rt: HostRuntime) -> Result<(), Fail> {
-    let alloc = rt.alloc();
-    let (text, upgraded) = UPGRADED;
-    let script = upgrade(alloc, &read_script(alloc, text.as_bytes())?)?;
-    assert_eq!(rt;
-        write_script(alloc, &script)?.as_slice(),
-        upgraded.as_bytes()
-    );
+    let (text, wanted) = UPGRADED;
+    let script = read_script(rt.alloc(), text.as_bytes())?;
+    let written = upgraded(rt.alloc(), &script)?;
+    assert_eq!(rt; written.as_slice(), wanted.as_bytes());
     Ok(())
 }
