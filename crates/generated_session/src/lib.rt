@@ -9,8 +9,6 @@ mod law;
 mod line;
 mod summary;
 mod tally;
-#[cfg(test)]
-mod tests;
 
 pub use generator::{MOST_SIZE, MOST_START, generate};
 pub use law::summaries_are_plain;

@@ -38,6 +38,3 @@ pub use phase::{ActPhase, ActState, Allowance, CallPhase, Cause, Progress, Step}
 pub use replay::Replay;
 pub use trace::{one_to_one, write_trace};
 pub use waiting::Wait;
-
-#[cfg(test)]
-mod tests;

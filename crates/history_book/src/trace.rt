@@ -31,6 +31,3 @@ pub fn one_to_one()
     ensures { (first second : List Event) → AreEvents first → AreEvents second →
         trace_of first ≡ trace_of second → first ≡ second }
 {}
-
-#[cfg(test)]
-mod tests;

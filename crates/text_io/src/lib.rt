@@ -5,8 +5,6 @@
 #![tactic(auto)]
 
 mod note;
-#[cfg(test)]
-mod tests;
 mod text;
 mod unfinished;
 

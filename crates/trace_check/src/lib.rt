@@ -22,6 +22,3 @@ pub use reading::{MOST_TRACE, TraceFault, read_trace};
 pub use session::check_session;
 pub use status::CheckStatus;
 pub use verdict::{Verdict, check};
-
-#[cfg(test)]
-mod tests;

@@ -94,6 +94,3 @@ pub fn read_trace(alloc: Global, bytes: &[u8]) -> Result<History, TraceFault>
     }
     Ok(history)
 }
-
-#[cfg(test)]
-mod tests;

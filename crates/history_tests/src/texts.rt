@@ -1,17 +1,15 @@
-use crate::{Unfinished, read_text, write_field, write_refusal};
+//! Texts read within a limit, and notes made of words and numbers.
+
 use asio_types::{SlowSource, SureSink, TextSource};
 use std::alloc::Global;
-use std::process::Abort;
 use std::test::Fail;
+use text_io::{Unfinished, read_text, write_field, write_refusal};
 
 /// What is read of four bytes that come two at a time.
-fn reads(rt: &impl Abort, alloc: Global, most: usize, want: &[u8]) -> Result<(), Fail> {
+fn read_of(alloc: Global, most: usize) -> Result<Vec<u8>, Fail> {
     let mut source = SlowSource::make(alloc, b"abcd", 2)?;
     match read_text(alloc, &mut source, most) {
-        Ok(text) => {
-            assert_eq!(rt; text.as_slice(), want, "at most {most}");
-            Ok(())
-        }
+        Ok(text) => Ok(text),
         Err(_) => Err("no text".into()),
     }
 }
@@ -24,7 +22,8 @@ fn a_source_is_read_to_its_end_or_to_the_limit(rt: HostRuntime) -> Result<(), Fa
         (4, b"abcd".as_slice()),
         (9, b"abcd".as_slice()),
     ] {
-        reads(&rt, rt.alloc(), most, want)?;
+        let text = read_of(rt.alloc(), most)?;
+        assert_eq!(rt; text.as_slice(), want, "at most {most}");
     }
     Ok(())
 }

@@ -1,8 +1,10 @@
-use crate::{CheckStatus, check_session};
+//! Whole sessions of the checker. The expected lines were worked out by hand from the rules.
+
 use asio_types::{Sink, SlowSource, Source, SureSink, SureSource, TextSink, TextSource};
 use std::alloc::Global;
 use std::process::Abort;
 use std::test::Fail;
+use trace_check::{CheckStatus, check_session};
 
 const ONE: &str = "session 1 open { post - { } } run 1";
 
@@ -32,6 +34,12 @@ fn session<S: Source, K: Sink>(
     Ok(Left { status, note })
 }
 
+/// A session without words, whose source gives a few bytes at a time.
+fn read_slowly<K: Sink>(alloc: Global, input: &[u8], out: &mut K) -> Result<Left, Fail> {
+    let mut source = SlowSource::make(alloc, input, 7)?;
+    session(alloc, "", &mut source, out)
+}
+
 /// The script, the line `--`, and the lines of the trace, which ` / ` separates.
 fn input_of(alloc: Global, script: &str, trace: &str) -> Result<String, Fail> {
     let mut input = String::from_str(alloc, script)?;
@@ -39,7 +47,7 @@ fn input_of(alloc: Global, script: &str, trace: &str) -> Result<String, Fail> {
     if !trace.is_empty() {
         for line in trace.split(" / ") {
             input.push_str(line)?;
-            input.push('\n')?;
+            input.push_str("\n")?;
         }
     }
     Ok(input)
@@ -223,9 +231,8 @@ fn a_failed_read_gives_no_verdict(rt: HostRuntime) -> Result<(), Fail> {
 fn a_failed_write_leaves_a_first_part(rt: HostRuntime) -> Result<(), Fail> {
     let alloc = rt.alloc();
     let input = input_of(alloc, ONE, "call 0")?;
-    let mut source = SlowSource::make(alloc, input.as_bytes(), 7)?;
     let mut out = TextSink::make(alloc, 64, &[2])?;
-    let left = session(alloc, "", &mut source, &mut out)?;
+    let left = read_slowly(alloc, input.as_bytes(), &mut out)?;
     assert_eq!(rt;
         (left.status, left.note.as_str()),
         (CheckStatus::WriteFault, "asio_check: write fault\n")

@@ -1,7 +1,10 @@
-use super::*;
+//! Traces read back: each kind of event, the first bad line, and how many bytes a trace has.
+
 use asio_types::{Code, Event};
+use history_book::History;
 use std::alloc::{AllocError, Global};
 use std::test::Fail;
+use trace_check::{TraceFault, read_trace};
 
 // Each kind of event, each code, no act, and the least and the greatest numbers of each field.
 const LINES: [(&str, Event); 24] = [
@@ -136,11 +139,16 @@ const BAD: [(&str, u32); 40] = [
 ];
 
 /// The bad line that a text is refused for.
-fn bad_line(read: Result<History, TraceFault>) -> Option<u32> {
-    match read {
+fn bad_line(alloc: Global, text: &[u8]) -> Option<u32> {
+    match read_trace(alloc, text) {
         Err(TraceFault::Text { line }) => Some(line),
         Ok(_) | Err(TraceFault::NoMemory) => None,
     }
+}
+
+/// The history that a text is the trace of.
+fn history_in(alloc: Global, text: &[u8]) -> Result<History, Fail> {
+    Ok(read_trace(alloc, text).or(Err("refused"))?)
 }
 
 /// This text, so often, and then the other one.
@@ -155,9 +163,9 @@ fn repeated(alloc: Global, text: &[u8], count: u32, end: &[u8]) -> Result<Vec<u8
 
 #[test]
 fn each_kind_of_event_is_read(rt: HostRuntime) -> Result<(), Fail> {
-    for (text, event) in LINES {
-        let history = read_trace(rt.alloc(), text.as_bytes()).or(Err("refused"))?;
-        assert_eq!(rt; history.events(), [event].as_slice(), "{text}");
+    for (text, event) in &LINES {
+        let history = history_in(rt.alloc(), text.as_bytes())?;
+        assert_eq!(rt; history.events(), [*event].as_slice(), "{text}");
     }
     Ok(())
 }
@@ -174,38 +182,36 @@ fn events_are_read_in_order(rt: HostRuntime) -> Result<(), Fail> {
         Event::Stopped,
         Event::Dropped { op: 0, mark: 1000 },
     ];
-    let history = read_trace(rt.alloc(), text).or(Err("refused"))?;
+    let history = history_in(rt.alloc(), text)?;
     assert_eq!(rt; history.events(), events.as_slice());
-    let none = read_trace(rt.alloc(), b"").or(Err("refused"))?;
+    let none = history_in(rt.alloc(), b"")?;
     assert!(rt; none.events().is_empty());
     Ok(())
 }
 
 #[test]
 fn the_first_bad_line_is_named(rt: HostRuntime) {
-    for (text, line) in BAD {
+    for (text, line) in &BAD {
         assert_eq!(rt;
-            bad_line(read_trace(rt.alloc(), text.as_bytes())),
-            Some(line),
+            bad_line(rt.alloc(), text.as_bytes()),
+            Some(*line),
             "{text}"
         );
     }
     let unprintable = b"ended\ncall 1\xFF\n";
-    assert_eq!(rt; bad_line(read_trace(rt.alloc(), unprintable)), Some(2));
+    assert_eq!(rt; bad_line(rt.alloc(), unprintable), Some(2));
 }
 
 #[test]
 fn a_trace_has_so_many_bytes(rt: HostRuntime) -> Result<(), Fail> {
-    let most = repeated(rt.alloc(), b"last\n", 209714, b"ended\n").or(Err("memory"))?;
+    let alloc = rt.alloc();
+    let most = repeated(alloc, b"last\n", 209714, b"ended\n").or(Err("memory"))?;
     assert_eq!(rt; most.len(), 1048576);
-    let history = read_trace(rt.alloc(), most.as_slice()).or(Err("refused"))?;
+    let history = history_in(alloc, most.as_slice())?;
     assert_eq!(rt; history.events().len(), 209715);
-    let late = repeated(rt.alloc(), b"last\n", 209715, b"e").or(Err("memory"))?;
-    assert_eq!(rt;
-        bad_line(read_trace(rt.alloc(), late.as_slice())),
-        Some(209716)
-    );
-    let long = repeated(rt.alloc(), b"last\n", 209715, b"\n\n").or(Err("memory"))?;
-    assert_eq!(rt; bad_line(read_trace(rt.alloc(), long.as_slice())), Some(0));
+    let late = repeated(alloc, b"last\n", 209715, b"e").or(Err("memory"))?;
+    assert_eq!(rt; bad_line(alloc, late.as_slice()), Some(209716));
+    let long = repeated(alloc, b"last\n", 209715, b"\n\n").or(Err("memory"))?;
+    assert_eq!(rt; bad_line(alloc, long.as_slice()), Some(0));
     Ok(())
 }
