@@ -10,8 +10,6 @@ mod law;
 mod record;
 mod rounds;
 mod session;
-#[cfg(test)]
-mod tests;
 
 pub use answer::BookTurn;
 pub use book::Book;

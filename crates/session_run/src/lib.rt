@@ -15,8 +15,6 @@ mod rounds;
 mod running;
 mod session;
 mod status;
-#[cfg(test)]
-mod tests;
 mod upgrading;
 mod writing;
 

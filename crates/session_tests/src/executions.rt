@@ -4,13 +4,13 @@
 ghost use Rattle.std.specs.Prelude.{◌≡◌, ◌<◌, ◌++◌, ◌∷◌, [], length};
 
 use crate::marked::{Marked, PLAIN, rack_of};
+use crate::wanted::{MEMORY, is_text, text_of};
 use asio_types::{ActNo, Code, Event, Lane, OpNo, SureSink};
 use history_book::{History, Replay, write_trace};
 use op_handlers::Ran;
 use session_script::{Script, read_script};
 use std::alloc::Global;
 use std::process::Abort;
-use std::test::Fail;
 use strand_core::{Hands, PlainLanes, Posted, Poster, execute};
 
 /// Keeps what the latest execution posted, and the events of all.
@@ -25,17 +25,13 @@ impl<'a, R: Abort> Recorder<'a, R> {
     fn record(&mut self, event: Event)
         ensures { self.new.posted.items ≡ self.old.posted.items }
     {
-        self.events
-            .push(event)
-            .expect(&self.rt, "memory for a test");
+        self.events.push(event).expect(&self.rt, MEMORY);
     }
 
     fn note(&mut self, posted: Posted)
         ensures { self.new.posted.items ≡ self.old.posted.items ++ posted ∷ [] }
     {
-        self.posted
-            .push(posted)
-            .expect(&self.rt, "memory for a test");
+        self.posted.push(posted).expect(&self.rt, MEMORY);
     }
 }
 
@@ -162,10 +158,7 @@ fn hands_of<'a, R: Abort>(
     ensures { result.script ≡ script.now }
 {
     let mut rack = rack_of(rt, alloc, script.acts(), PLAIN);
-    let hands = Hands::of_lane(alloc, script, Lane::Strand(strand), &mut rack).expect(
-        rt,
-        "memory for a test",
-    );
+    let hands = Hands::of_lane(alloc, script, Lane::Strand(strand), &mut rack).expect(rt, MEMORY);
     rack.discard_all();
     hands
 }
@@ -242,84 +235,100 @@ fn destroy<'a, R: Abort>(
     hands.discard_all();
 }
 
-/// The history of a session of postings on the strands 0 and 1, of which the second has nothing
-/// left in the end.
-fn history_of<R: Abort + Copy>(rt: R, alloc: Global, script: &Script) -> Result<Vec<Event>, Fail> {
-    let mut ready = PlainLanes::make(alloc, script)?;
-    let mut first = hands_of(&rt, alloc, script, 0);
-    let mut second = hands_of(&rt, alloc, script, 1);
-    let (posted, events) = (Vec::new(alloc), Vec::new(alloc));
-    let mut recorder = Recorder {
-        rt,
-        script,
-        posted,
-        events,
-    };
+/// Makes the calls of `open`.
+fn open<R: Abort>(recorder: &mut Recorder<'_, R>, script: &Script) {
     for &act in script.opening() {
         recorder.call(act);
         recorder.back(act);
     }
-    let stopped = ready_by(script, recorder.posted.as_slice(), &mut ready);
-    run_rounds(
-        &mut recorder,
-        script,
-        stopped,
-        &mut ready,
-        &mut first,
-        &mut second,
-    );
-    destroy(&mut recorder, script, first);
+}
+
+/// Runs what `open` made ready in all rounds, and destroys what is left on strand 0; strand 1 has
+/// nothing left in the end.
+fn run_opened<'a, R: Abort>(
+    recorder: &mut Recorder<'a, R>,
+    script: &'a Script,
+    ready: &mut PlainLanes,
+    hands: (Hands<'a, Marked>, Hands<'a, Marked>),
+)
+    requires ready { ready.old.acts ≡ length script.now.acts }
+    requires first { hands.0.script ≡ script.now }
+    requires second { hands.1.script ≡ script.now }
+{
+    let (mut first, mut second) = hands;
+    let stopped = ready_by(script, recorder.posted.as_slice(), ready);
+    run_rounds(recorder, script, stopped, ready, &mut first, &mut second);
+    destroy(recorder, script, first);
     second.discard_all();
+}
+
+/// The history of a session of postings on the strands 0 and 1, of which the second has nothing
+/// left in the end.
+fn history_of<R: Abort + Copy>(rt: R, alloc: Global, script: &Script) -> Vec<Event> {
+    let mut ready = PlainLanes::make(alloc, script).expect(&rt, MEMORY);
+    let hands = (
+        hands_of(&rt, alloc, script, 0),
+        hands_of(&rt, alloc, script, 1),
+    );
+    let mut recorder = Recorder {
+        rt,
+        script,
+        posted: Vec::new(alloc),
+        events: Vec::new(alloc),
+    };
+    open(&mut recorder, script);
+    run_opened(&mut recorder, script, &mut ready, hands);
     let Recorder {
         rt: _,
         script: _,
         posted: _,
         events,
     } = recorder;
-    Ok(events)
+    events
 }
 
-/// Whether the events are a legal, whole history of the script.
-fn is_legal(alloc: Global, script: &Script, events: &[Event]) -> Result<bool, Fail> {
-    let mut replay = Replay::make(alloc, script, false)?;
+/// The events are a legal, whole history of the script.
+fn is_legal<R: Abort>(rt: &R, alloc: Global, script: &Script, events: &[Event], text: &str) {
+    let mut replay = Replay::make(alloc, script, false).expect(rt, MEMORY);
+    let mut legal = true;
     for event in events {
-        if !replay.step(*event) {
-            return Ok(false);
-        }
+        legal = legal && replay.step(*event);
     }
-    Ok(replay.whole())
+    let legal = legal && replay.whole();
+    assert!(rt; legal, "{text}");
 }
 
 /// The trace of the first 64 events.
-fn trace_of(alloc: Global, events: &[Event]) -> Result<String, Fail> {
-    let mut history = History::with_room(alloc, 64)?;
+fn trace_of<R: Abort>(rt: &R, alloc: Global, events: &[Event]) -> String {
+    let mut history = History::with_room(alloc, 64).expect(rt, MEMORY);
     for n in 0..64 {
         let Some(event) = events.get(n) else { break };
         history.push_reserved(*event);
     }
-    let mut sink = SureSink::make(alloc, 4_096)?;
+    let mut sink = SureSink::make(alloc, 4_096).expect(rt, MEMORY);
     let _ = write_trace(&history, &mut sink);
-    Ok(String::from_utf8_lossy(alloc, sink.bytes())?)
+    text_of(rt, alloc, sink.bytes())
+}
+
+/// The history of a script is legal, and has this trace.
+fn has_trace<R: Abort + Copy>(rt: R, alloc: Global, text: &str, trace: &str) {
+    let script = read_script(alloc, text.as_bytes()).expect(&rt, "a script");
+    let events = history_of(rt, alloc, &script);
+    is_legal(&rt, alloc, &script, events.as_slice(), text);
+    let made = trace_of(&rt, alloc, events.as_slice());
+    is_text(&rt, made.as_str(), trace, text);
 }
 
 #[test]
-fn executions_over_ready_lanes_make_legal_histories(rt: HostRuntime) -> Result<(), Fail> {
-    for (text, trace) in SESSIONS {
-        let script = read_script(rt.alloc(), text.as_bytes())?;
-        let events = history_of(rt, rt.alloc(), &script)?;
-        assert!(rt;
-            is_legal(rt.alloc(), &script, events.as_slice())?,
-            "{}",
-            text
-        );
-        assert_eq!(rt; trace_of(rt.alloc(), events.as_slice())?.as_str(), trace);
+fn executions_over_ready_lanes_make_legal_histories(rt: HostRuntime) {
+    for &(text, trace) in SESSIONS {
+        has_trace(rt, rt.alloc(), text, trace);
     }
-    Ok(())
 }
 
 /// Sessions on strands, with dispatches and stops of handlers, and their traces where the oldest
 /// ready operation runs first.
-const SESSIONS: [(&str, &str); 6] = [
+const SESSIONS: &[(&str, &str)] = &[
     (
         "session 1 strands 1 open { post 0 { } post 0 { } } run 4",
         "call 0\nback 0\ncall 1\nback 1\nbegin 0 ok 0\nend 0 1000\nbegin 1 ok 0\nend 1 1001\nended\n",

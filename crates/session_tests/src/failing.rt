@@ -1,12 +1,18 @@
 //! Each call that can fail does so in turn, and the session ends with its cause.
 
+ghost use Rattle.std.specs.Prelude.{◌<◌};
+
 use crate::marked::PLAIN;
-use crate::sessions::{is_legal, lines, ran, session, verdict_of};
+use crate::sessions::{Left, is_ended, is_judged, is_legal, left_by, session};
+use crate::wanted::{MEMORY, has, is_bytes, is_lines, is_text, lacks, text_of};
 use crate::worked::REALISTIC;
 use asio_types::{SlowSink, SlowSource, SureSink, SureSource, TextSink, TextSource};
 use reactor_script::{FailAt, Method};
 use session_run::Status;
-use std::test::Fail;
+use std::alloc::Global;
+use std::process::Abort;
+use std::sync::Wait;
+use std::thread::Threads;
 
 /// The lines of each trace of the realistic session.
 const LINES: u32 = 26;
@@ -16,124 +22,165 @@ const CUT_OFF: &str =
 
 const LATE: &str = "session 1 strands 4 timers 4 open { expires 3 74 wait 3 3 - { } } run 4";
 
-#[test]
-fn a_failing_reactor_ends_in_a_fault(rt: HostRuntime) -> Result<(), Fail> {
-    let alloc = rt.alloc();
-    let set_up = FailAt {
-        method: Method::SetUp,
-        nth: 1,
-    };
-    let advance = FailAt {
-        method: Method::Advance,
-        nth: 1,
-    };
-    for (script, fail, trace) in [
-        (
-            CUT_OFF,
-            advance,
-            "call 0 / back 0 / take 0 / fault / drop 0 1000",
-        ),
-        (CUT_OFF, set_up, "fault"),
-        (
-            LATE,
-            advance,
-            "call 0 / back 0 / call 1 / back 1 / take 0 / take 1 / fault / drop 1 1001",
-        ),
-        (LATE, set_up, "fault"),
-    ] {
-        let left = ran(&rt, alloc, script, &[fail], PLAIN)?;
-        let want = lines(alloc, trace)?;
-        assert_eq!(rt; left.status, Status::ReactorFault, "{script}");
-        assert_eq!(rt; left.trace.as_str(), want.as_str(), "{script}");
-        assert_eq!(rt; left.note.as_str(), "asio_run: reactor fault\n", "{script}");
-        is_legal(&rt, alloc, script, left.trace.as_str())?;
-    }
-    Ok(())
+/// What the first call of a method of the reactor leaves where it fails.
+fn left_where_fails<R: Abort + Threads + Wait + Sync>(
+    rt: &R,
+    alloc: Global,
+    script: &str,
+    method: Method,
+) -> Left {
+    left_by(
+        rt,
+        alloc,
+        "run",
+        script,
+        &[FailAt { method, nth: 1 }],
+        PLAIN,
+    )
 }
 
+const REACTOR_FAULT: &str = "asio_run: reactor fault\n";
+
 #[test]
-fn each_method_of_the_reactor_may_fail(rt: HostRuntime) -> Result<(), Fail> {
+fn a_failing_reactor_ends_in_a_fault(rt: HostRuntime) {
     let alloc = rt.alloc();
-    for method in [
-        Method::SetUp,
+    for &(script, method, trace) in FAULTS {
+        let left = left_where_fails(&rt, alloc, script, method);
+        is_ended(
+            &rt,
+            &left.ended,
+            Status::ReactorFault,
+            REACTOR_FAULT,
+            script,
+        );
+        is_lines(&rt, alloc, left.trace.as_str(), trace, script);
+        is_legal(&rt, alloc, script, left.trace.as_str());
+    }
+}
+
+/// Scripts with the method of which the first call fails, and their traces.
+const FAULTS: &[(&str, Method, &str)] = &[
+    (
+        CUT_OFF,
         Method::Advance,
-        Method::ReadSome,
-        Method::WriteSome,
-    ] {
-        let left = ran(&rt, alloc, REALISTIC, &[FailAt { method, nth: 1 }], PLAIN)?;
-        assert_eq!(rt; left.status, Status::ReactorFault, "{method:?}");
-        assert!(rt;
-            left.trace.contains("fault\n"),
-            "{method:?}: {}",
-            left.trace
-        );
-        assert!(rt;
-            !left.trace.contains("tick 10"),
-            "{method:?}: {}",
-            left.trace
-        );
-        is_legal(&rt, alloc, REALISTIC, left.trace.as_str())?;
-    }
-    Ok(())
+        "call 0 / back 0 / take 0 / fault / drop 0 1000",
+    ),
+    (CUT_OFF, Method::SetUp, "fault"),
+    (
+        LATE,
+        Method::Advance,
+        "call 0 / back 0 / call 1 / back 1 / take 0 / take 1 / fault / drop 1 1001",
+    ),
+    (LATE, Method::SetUp, "fault"),
+];
+
+/// Where a method fails, the trace of the realistic session has a fault, and time stands from then
+/// on.
+fn is_cut_off<R: Abort + Threads + Wait + Sync>(rt: &R, alloc: Global, method: Method) {
+    let left = left_where_fails(rt, alloc, REALISTIC, method);
+    let trace = left.trace.as_str();
+    assert_eq!(rt; left.ended.status, Status::ReactorFault, "{method:?}");
+    has(rt, trace, "fault\n", REALISTIC);
+    lacks(rt, trace, "tick 10", REALISTIC);
+    is_legal(rt, alloc, REALISTIC, trace);
 }
 
 #[test]
-fn a_failing_write_leaves_the_lines_before_it(rt: HostRuntime) -> Result<(), Fail> {
-    let alloc = rt.alloc();
+fn each_method_of_the_reactor_may_fail(rt: HostRuntime) {
+    for &method in METHODS {
+        is_cut_off(&rt, rt.alloc(), method);
+    }
+}
+
+const METHODS: &[Method] = &[
+    Method::SetUp,
+    Method::Advance,
+    Method::ReadSome,
+    Method::WriteSome,
+];
+
+/// What a session leaves of a text in which this write fails, with the calls of the reactor that
+/// fail: it ends with the fault of a write, and the out has what was written before.
+fn written_before<R: Abort + Threads + Wait + Sync>(
+    rt: &R,
+    alloc: Global,
+    script: &str,
+    nth: u32,
+    fails: &[FailAt],
+) -> String {
+    let mut source = SureSource::make(alloc, script.as_bytes()).expect(rt, MEMORY);
+    let mut out = TextSink::make(alloc, 4_096, &[nth]).expect(rt, MEMORY);
+    let ended = session(rt, alloc, "run", &mut source, &mut out, fails, PLAIN);
+    is_ended(
+        rt,
+        &ended,
+        Status::WriteFault,
+        "asio_run: write fault\n",
+        script,
+    );
+    text_of(rt, alloc, out.bytes())
+}
+
+/// The checker finds that a trace of the realistic session ends after this line.
+fn is_incomplete<R: Abort>(rt: &R, alloc: Global, trace: &str, line: u32) {
+    let verdict = format!(in alloc; "incomplete after line {line}\n").expect(rt, MEMORY);
+    is_judged(rt, alloc, "", REALISTIC, trace, verdict.as_str());
+}
+
+#[test]
+fn a_failing_write_leaves_the_lines_before_it(rt: HostRuntime) {
     for nth in 1..LINES + 1 {
-        let mut source = SureSource::make(alloc, REALISTIC.as_bytes())?;
-        let mut out = TextSink::make(alloc, 4_096, &[nth])?;
-        let (status, note, _) = session(&rt, alloc, "run", &mut source, &mut out, &[], PLAIN)?;
-        let trace = String::from_utf8_lossy(alloc, out.bytes())?;
-        let verdict = verdict_of(&rt, alloc, "", REALISTIC, trace.as_str())?;
-        let before = nth - 1;
-        let want = format!(in alloc; "incomplete after line {before}\n")?;
-        assert_eq!(rt; status, Status::WriteFault, "{nth}");
-        assert_eq!(rt; note.as_str(), "asio_run: write fault\n", "{nth}");
-        assert_eq!(rt; verdict.as_str(), want.as_str());
+        let trace = written_before(&rt, rt.alloc(), REALISTIC, nth, &[]);
+        is_incomplete(&rt, rt.alloc(), trace.as_str(), nth - 1);
     }
-    Ok(())
 }
 
 #[test]
-fn a_failing_write_comes_before_a_failing_reactor(rt: HostRuntime) -> Result<(), Fail> {
-    let alloc = rt.alloc();
-    for method in [Method::SetUp, Method::Advance] {
-        let mut source = SureSource::make(alloc, CUT_OFF.as_bytes())?;
-        let mut out = TextSink::make(alloc, 256, &[1])?;
-        let fail = FailAt { method, nth: 1 };
-        let (status, note, _) = session(&rt, alloc, "run", &mut source, &mut out, &[fail], PLAIN)?;
-        assert_eq!(rt; status, Status::WriteFault, "{method:?}");
-        assert_eq!(rt; note.as_str(), "asio_run: write fault\n", "{method:?}");
-        assert_eq!(rt; out.bytes(), b"".as_slice(), "{method:?}");
+fn a_failing_write_comes_before_a_failing_reactor(rt: HostRuntime) {
+    for &method in &[Method::SetUp, Method::Advance] {
+        let fails = [FailAt { method, nth: 1 }];
+        let trace = written_before(&rt, rt.alloc(), CUT_OFF, 1, &fails);
+        is_text(&rt, trace.as_str(), "", CUT_OFF);
     }
-    Ok(())
 }
 
 #[test]
-fn a_failing_read_runs_nothing(rt: HostRuntime) -> Result<(), Fail> {
-    let alloc = rt.alloc();
-    for words in ["run", "upgrade"] {
-        let mut source = TextSource::make(alloc, REALISTIC.as_bytes(), &[1])?;
-        let mut out = SureSink::make(alloc, 256)?;
-        let (status, note, _) = session(&rt, alloc, words, &mut source, &mut out, &[], PLAIN)?;
-        assert_eq!(rt; status, Status::ReadFault, "{words}");
-        assert_eq!(rt; note.as_str(), "asio_run: read fault\n", "{words}");
-        assert_eq!(rt; out.bytes(), b"".as_slice(), "{words}");
+fn a_failing_read_runs_nothing(rt: HostRuntime) {
+    for &words in &["run", "upgrade"] {
+        runs_nothing(&rt, rt.alloc(), words);
     }
-    Ok(())
+}
+
+/// Where the first read fails, a session of these words writes nothing.
+fn runs_nothing<R: Abort + Threads + Wait + Sync>(rt: &R, alloc: Global, words: &str) {
+    let mut source = TextSource::make(alloc, REALISTIC.as_bytes(), &[1]).expect(rt, MEMORY);
+    let mut out = SureSink::make(alloc, 256).expect(rt, MEMORY);
+    let ended = session(rt, alloc, words, &mut source, &mut out, &[], PLAIN);
+    is_ended(
+        rt,
+        &ended,
+        Status::ReadFault,
+        "asio_run: read fault\n",
+        words,
+    );
+    is_bytes(rt, out.bytes(), b"", words);
+}
+
+/// The trace of the realistic session where each call moves so many bytes at the most.
+fn trace_by_steps<R: Abort + Threads + Wait + Sync>(rt: &R, alloc: Global, step: u32) -> String
+    requires { 0 < step }
+{
+    let mut source = SlowSource::make(alloc, REALISTIC.as_bytes(), step).expect(rt, MEMORY);
+    let mut out = SlowSink::make(alloc, step, 4_096).expect(rt, MEMORY);
+    let ended = session(rt, alloc, "run", &mut source, &mut out, &[], PLAIN);
+    assert_eq!(rt; ended.status, Status::Done, "step {step}");
+    text_of(rt, alloc, out.bytes())
 }
 
 #[test]
-fn pieces_of_any_size_give_a_legal_trace(rt: HostRuntime) -> Result<(), Fail> {
-    let alloc = rt.alloc();
+fn pieces_of_any_size_give_a_legal_trace(rt: HostRuntime) {
     for step in [1, 2, 7] {
-        let mut source = SlowSource::make(alloc, REALISTIC.as_bytes(), step)?;
-        let mut out = SlowSink::make(alloc, step, 4_096)?;
-        let (status, _, _) = session(&rt, alloc, "run", &mut source, &mut out, &[], PLAIN)?;
-        let trace = String::from_utf8_lossy(alloc, out.bytes())?;
-        assert_eq!(rt; status, Status::Done, "step {step}");
-        is_legal(&rt, alloc, REALISTIC, trace.as_str())?;
+        let trace = trace_by_steps(&rt, rt.alloc(), step);
+        is_legal(&rt, rt.alloc(), REALISTIC, trace.as_str());
     }
-    Ok(())
 }

@@ -2,104 +2,89 @@
 //! is legal.
 
 use crate::marked::{Marks, PLAIN};
-use crate::sessions::{is_legal, lines, ran, ran_well};
-use std::test::Fail;
+use crate::sessions::{is_legal, left_by, ran_well, writes};
+use crate::wanted::{MEMORY, has, is_bytes, is_text, lacks, lines};
+use std::alloc::Global;
+use std::process::Abort;
 
 #[test]
-fn sessions_with_one_text_write_it(rt: HostRuntime) -> Result<(), Fail> {
-    for (script, trace) in ONE_TEXT {
-        let left = ran_well(&rt, rt.alloc(), script)?;
-        let want = lines(rt.alloc(), trace)?;
-        assert_eq!(rt; left.trace.as_str(), want.as_str(), "{script}");
-        is_legal(&rt, rt.alloc(), script, left.trace.as_str())?;
+fn sessions_with_one_text_write_it(rt: HostRuntime) {
+    for &(script, trace) in ONE_TEXT {
+        writes(&rt, rt.alloc(), script, PLAIN, trace);
     }
-    Ok(())
 }
 
 #[test]
-fn sessions_with_several_texts_write_a_legal_one(rt: HostRuntime) -> Result<(), Fail> {
-    for (script, part, other) in SEVERAL_TEXTS {
-        let left = ran_well(&rt, rt.alloc(), script)?;
-        let part = lines(rt.alloc(), part)?;
-        assert!(rt;
-            left.trace.contains(part.as_str()),
-            "{script}: {}",
-            left.trace
-        );
-        assert!(rt; !left.trace.contains(other), "{script}: {}", left.trace);
-        is_legal(&rt, rt.alloc(), script, left.trace.as_str())?;
-    }
-    Ok(())
-}
-
-#[test]
-fn traces_show_the_marks_of_the_handlers(rt: HostRuntime) -> Result<(), Fail> {
-    let apart = Marks {
-        run: 7,
-        run_step: 2,
-        drop: 70,
-        drop_step: 20,
-    };
-    let same = Marks {
-        run: 1,
-        run_step: 0,
-        drop: 2,
-        drop_step: 0,
-    };
-    for (script, marks, part) in [
-        (TWO_ON_A_STRAND, apart, "end 0 7 / begin 1 ok 0 / end 1 9"),
-        (
-            STOPPED_BY_A_HANDLER,
-            same,
-            "end 0 1 / stopped / drop 2 2 / drop 3 2",
-        ),
-        (
-            STOPPED_BY_A_HANDLER,
-            PLAIN,
-            "end 0 1000 / stopped / drop 2 1002 / drop 3 1003",
-        ),
-    ] {
-        let left = ran(&rt, rt.alloc(), script, &[], marks)?;
-        let part = lines(rt.alloc(), part)?;
-        assert!(rt;
-            left.trace.contains(part.as_str()),
-            "{script}: {}",
-            left.trace
-        );
-    }
-    Ok(())
-}
-
-#[test]
-fn the_world_has_what_the_history_sent(rt: HostRuntime) -> Result<(), Fail> {
-    for (script, sent) in SENT {
-        let left = ran_well(&rt, rt.alloc(), script)?;
-        assert_eq!(rt; left.sent.as_slice(), sent.as_bytes(), "{script}");
-    }
-    Ok(())
-}
-
-#[test]
-fn many_postings_to_a_strand_begin_in_their_order(rt: HostRuntime) -> Result<(), Fail> {
+fn sessions_with_several_texts_write_a_legal_one(rt: HostRuntime) {
     let alloc = rt.alloc();
-    let mut script = String::from_str(alloc, "session 1 strands 1 open {")?;
-    for _ in 0..1024u32 {
-        script.push_str(" post 0 { }")?;
+    for &(script, part, other) in SEVERAL_TEXTS {
+        let left = ran_well(&rt, alloc, script);
+        has_lines(&rt, alloc, left.trace.as_str(), part, script);
+        lacks(&rt, left.trace.as_str(), other, script);
+        is_legal(&rt, alloc, script, left.trace.as_str());
     }
-    script.push_str(" } run 16")?;
-    let left = ran_well(&rt, alloc, script.as_str())?;
-    let mut begins = 0u32;
+}
+
+/// A trace has these lines together.
+fn has_lines<R: Abort>(rt: &R, alloc: Global, trace: &str, part: &str, script: &str) {
+    let part = lines(rt, alloc, part);
+    has(rt, trace, part.as_str(), script);
+}
+
+#[test]
+fn traces_show_the_marks_of_the_handlers(rt: HostRuntime) {
+    let alloc = rt.alloc();
+    for &(script, marks, part) in MARKED {
+        let left = left_by(&rt, alloc, "run", script, &[], marks);
+        has_lines(&rt, alloc, left.trace.as_str(), part, script);
+    }
+}
+
+#[test]
+fn the_world_has_what_the_history_sent(rt: HostRuntime) {
+    for &(script, sent) in SENT {
+        let left = ran_well(&rt, rt.alloc(), script);
+        is_bytes(&rt, left.ended.sent.as_slice(), sent.as_bytes(), script);
+    }
+}
+
+/// A line begins operation n.
+fn begins<R: Abort>(rt: &R, alloc: Global, line: &str, n: u32) {
+    let want = format!(in alloc; "begin {n} ok 0").expect(rt, MEMORY);
+    is_text(rt, line, want.as_str(), "");
+}
+
+/// The begins of a trace are those of the numbers from 0 on. Answers how many they are, and how
+/// many lines there are.
+fn begins_in_order<R: Abort>(rt: &R, alloc: Global, trace: &str) -> (u32, u32) {
+    let mut begun = 0u32;
     let mut all = 0u32;
-    for line in left.trace.lines() {
+    for line in trace.lines() {
         all = all.saturating_add(1);
         if line.starts_with("begin") {
-            let want = format!(in alloc; "begin {begins} ok 0")?;
-            assert_eq!(rt; line, want.as_str());
-            begins = begins.saturating_add(1);
+            begins(rt, alloc, line, begun);
+            begun = begun.saturating_add(1);
         }
     }
-    assert_eq!(rt; (begins, all), (1024, 4097));
-    Ok(())
+    (begun, all)
+}
+
+/// A script of so many postings to a strand, for 16 workers.
+fn postings<R: Abort>(rt: &R, alloc: Global, count: u32) -> String {
+    let mut script = String::from_str(alloc, "session 1 strands 1 open {").expect(rt, MEMORY);
+    for _ in 0..count {
+        script.push_str(" post 0 { }").expect(rt, MEMORY);
+    }
+    script.push_str(" } run 16").expect(rt, MEMORY);
+    script
+}
+
+#[test]
+fn many_postings_to_a_strand_begin_in_their_order(rt: HostRuntime) {
+    let script = postings(&rt, rt.alloc(), 1024);
+    let left = ran_well(&rt, rt.alloc(), script.as_str());
+    let counts = begins_in_order(&rt, rt.alloc(), left.trace.as_str());
+    assert_eq!(rt; counts, (1024, 4097));
 }
 
 const TWO_ON_A_STRAND: &str = "session 1 strands 1 open { post 0 { } post 0 { } } run 4";
@@ -107,8 +92,37 @@ const TWO_ON_A_STRAND: &str = "session 1 strands 1 open { post 0 { } post 0 { } 
 const STOPPED_BY_A_HANDLER: &str =
     "session 1 strands 1 open { post 0 { stop } post 0 { } post 0 { } } run 1";
 
+const APART: Marks = Marks {
+    run: 7,
+    run_step: 2,
+    drop: 70,
+    drop_step: 20,
+};
+
+const SAME: Marks = Marks {
+    run: 1,
+    run_step: 0,
+    drop: 2,
+    drop_step: 0,
+};
+
+/// Scripts with the marks of their handlers, and lines that show them.
+const MARKED: &[(&str, Marks, &str)] = &[
+    (TWO_ON_A_STRAND, APART, "end 0 7 / begin 1 ok 0 / end 1 9"),
+    (
+        STOPPED_BY_A_HANDLER,
+        SAME,
+        "end 0 1 / stopped / drop 2 2 / drop 3 2",
+    ),
+    (
+        STOPPED_BY_A_HANDLER,
+        PLAIN,
+        "end 0 1000 / stopped / drop 2 1002 / drop 3 1003",
+    ),
+];
+
 /// Scripts with the one text that each may write.
-const ONE_TEXT: [(&str, &str); 32] = [
+const ONE_TEXT: &[(&str, &str)] = &[
     (
         "session 1 open { post - { } } run 1",
         "call 0 / back 0 / begin 0 ok 0 / end 0 1000 / ended",
@@ -234,7 +248,7 @@ const ONE_TEXT: [(&str, &str); 32] = [
 ];
 
 /// Scripts, and what each sends on stream 0.
-const SENT: [(&str, &str); 3] = [
+const SENT: &[(&str, &str)] = &[
     (
         "session 1 streams 1 at 1 room 0 2 at 3 room 0 9 open { write 0 x61626364 - - { } } run 1",
         "abcd",
@@ -248,7 +262,7 @@ const SENT: [(&str, &str); 3] = [
 
 /// Scripts that may write several texts: lines that stand together in each, and a text that stands
 /// in none.
-const SEVERAL_TEXTS: [(&str, &str, &str); 14] = [
+const SEVERAL_TEXTS: &[(&str, &str, &str)] = &[
     (
         "session 1 open { post - { } post - { } } run 4",
         "call 0 / back 0 / call 1 / back 1",

@@ -76,13 +76,3 @@ module _ {H : Type 0} (script : ScriptModel) (ordered : (n : ℕ) → HasParent 
 
 pub script_length : {H : Type 0} {a b : Held H} → a ≡ b → length a.script.acts ≡ length b.script.acts
 script_length same = ap (λ v. length v.script.acts) same
-
--- nothing calls the first act
-pub none_calls_first : {H : Type 0} (script : ScriptModel)
-    (ordered : (n : ℕ) → HasParent script.acts n (parent_of script n)) (hands : Held H) → hands.script ≡ script →
-    CallerIsGone hands 0
-none_calls_first script ordered hands same caller inside =
-    let called : IsInlineOf script caller 0 = subst (λ (s : ScriptModel). IsInlineOf s caller 0) same inside in
-    let before : HasParent script.acts 0 (Some (caller, inside.0)) =
-    subst (HasParent script.acts 0) called.1 (ordered 0) in
-    absurd (omega (arith, before.0))

@@ -1,9 +1,8 @@
 -- What executes inside a call executes on the lane of its caller.
-use Rattle.std.proofs.Common.{◌≡◌, ℕ, zero, suc, ◌+◌, ◌<◌, ◌≤◌, List, [], ◌∷◌, ◌++◌, Bool, true, false, ◌==◌, Option, Some, None, inl, inr, length, refl, sym, ap, subst, ◌∙◌, arith, length-append}
+use Rattle.std.proofs.Common.{◌≡◌, ℕ, zero, suc, ◌+◌, ◌<◌, ◌≤◌, List, [], ◌∷◌, ◌++◌, Bool, true, false, Option, Some, None, length, refl, sym, ap, subst, ◌∙◌, arith, length-append}
 use Rattle.std.specs.Prelude.{◌&&◌, slice_get}
 use Rattle.std.specs.Option.{unwrap_or}
-use Rattle.std.proofs.lemmas.Bool.{cases_lt, eq-eqb, eqb-true}
-use Rattle.std.proofs.lemmas.Option.{get_or_from_slice_get, slice_get_past, unwrap_or-slice_get}
+use Rattle.std.proofs.lemmas.Option.{get_or_from_slice_get, unwrap_or-slice_get}
 use Rattle.asio_types.specs.declared.number.Lane.{Lane}
 use Rattle.asio_types.specs.declared.number.Lane.TheVariants as lane
 use Rattle.session_script.specs.declared.act.Act.{Act}
@@ -118,56 +117,3 @@ module _ (script : ScriptModel) (ordered : (n : ℕ) → HasParent script.acts n
   pub callee_of : (of : Option Lane) → is_op_of script of caller ≡ true → is_op_of script of n ≡ true
   callee_of (Some lane) of_lane = callee_of_lane lane of_lane
   callee_of None op = let found : OnLane = on_lane_by (slice_get script.acts n) refl in found.op
-
-first_of : (a b : Bool) → (a && b) ≡ true → (a ≡ true) × (b ≡ true)
-first_of true b is = (refl, is)
-first_of false b is = absurd (cc is)
-
--- an operation is an act
-pub op_within : (script : ScriptModel) (n : ℕ) → is_op script n ≡ true → n < length script.acts
-op_within script n is = elim (cases_lt n (length script.acts)) [
-  | inl less ↦ less
-  | inr past ↦
-      let gone : slice_get script.acts n ≡ None = slice_get_past script.acts n past in
-      let none : is_op script n ≡ false = rw gone refl in
-      absurd (cc (none, is))
-]
-
-pub of_within : (script : ScriptModel) (of : Option Lane) (n : ℕ) → is_op_of script of n ≡ true → n < length script.acts
-of_within script (Some lane) n is =
-    op_within script n (first_of (is_op script n) (same_lane (lane_of script n) lane) is).0
-of_within script None n is = op_within script n is
-
-same_number : (m k l : ℕ) → (m == k) ≡ true → (m == l) ≡ true → (k == l) ≡ true
-same_number m k l is_k is_l = eq-eqb k l (sym (eqb-true m k is_k) ∙ eqb-true m l is_l)
-
-same_both : (x a b : Lane) → same_lane x a ≡ true → same_lane x b ≡ true → same_lane a b ≡ true
-same_both (lane.Strand m) (lane.Strand k) (lane.Strand l) is_a is_b = same_number m k l is_a is_b
-same_both (lane.Own m) (lane.Own k) (lane.Own l) is_a is_b = same_number m k l is_a is_b
-same_both lane.Reactor lane.Reactor lane.Reactor is_a is_b = refl
-same_both (lane.Strand m) (lane.Own k) b is_a is_b = absurd (cc is_a)
-same_both (lane.Strand m) lane.Reactor b is_a is_b = absurd (cc is_a)
-same_both (lane.Own m) (lane.Strand k) b is_a is_b = absurd (cc is_a)
-same_both (lane.Own m) lane.Reactor b is_a is_b = absurd (cc is_a)
-same_both lane.Reactor (lane.Strand k) b is_a is_b = absurd (cc is_a)
-same_both lane.Reactor (lane.Own k) b is_a is_b = absurd (cc is_a)
-same_both (lane.Strand m) (lane.Strand k) (lane.Own l) is_a is_b = absurd (cc is_b)
-same_both (lane.Strand m) (lane.Strand k) lane.Reactor is_a is_b = absurd (cc is_b)
-same_both (lane.Own m) (lane.Own k) (lane.Strand l) is_a is_b = absurd (cc is_b)
-same_both (lane.Own m) (lane.Own k) lane.Reactor is_a is_b = absurd (cc is_b)
-same_both lane.Reactor lane.Reactor (lane.Strand l) is_a is_b = absurd (cc is_b)
-same_both lane.Reactor lane.Reactor (lane.Own l) is_a is_b = absurd (cc is_b)
-
--- an operation is of one lane
-pub lanes_apart : (script : ScriptModel) (a b : Lane) (n : ℕ) → same_lane a b ≡ false → is_of_lane script b n ≡ true →
-    is_of_lane script a n ≡ false
-lanes_apart script a b n differ is_b = by (is_of_lane script a n) refl
-  where
-    by : (t : Bool) → is_of_lane script a n ≡ t → is_of_lane script a n ≡ false
-    by false is_a = is_a
-    by true is_a =
-        let on_a : same_lane (lane_of script n) a ≡ true =
-        (first_of (is_op script n) (same_lane (lane_of script n) a) is_a).1 in
-        let on_b : same_lane (lane_of script n) b ≡ true =
-        (first_of (is_op script n) (same_lane (lane_of script n) b) is_b).1 in
-        absurd (cc (differ, same_both (lane_of script n) a b on_a on_b))

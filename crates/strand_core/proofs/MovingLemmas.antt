@@ -1,18 +1,18 @@
 -- The handlers of some operations, moved from one list into another and back.
 use borrow.Author.Count.{below_more}
 use Rattle.std.proofs.Common.{◌≡◌, ◌≢◌, ℕ, zero, suc, ◌+◌, ◌<◌, ◌≤◌, List, [], ◌∷◌, Bool, true, false, inl, inr, Option, Some, None, IsSome, length, refl, sym, ap, subst, ◌∙◌, arith}
-use Rattle.std.specs.Prelude.{All, slice_get, slice_set}
+use Rattle.std.specs.Prelude.{slice_get, slice_set}
 use Rattle.std.specs.Option.{option_flatten}
 use Rattle.std.proofs.lemmas.Bool.{cases_lt}
 use Rattle.std.proofs.lemmas.List.{length-set}
-use Rattle.std.proofs.lemmas.Option.{slice_get-get_or, slice_get_within}
+use Rattle.std.proofs.lemmas.Option.{slice_get_within}
 use Rattle.asio_types.specs.declared.number.Lane.{Lane}
 use Rattle.session_script.specs.Script.{ScriptModel, parent_of}
 use Rattle.session_script.specs.WellFormed.{HasParent}
-use Rattle.strand_core.specs.Hands.{KeepsInline, behind, in_list, is_op_of, is_of_lane, left_at, or_else, same_lane, taken_at}
-use Rattle.strand_core.proofs.BehindLemmas.{free-behind, free_at, in_behind, length-behind, none_past, set-behind}
-use Rattle.strand_core.proofs.HandLemmas.{is_within, taken_other, taken_same}
-use Rattle.strand_core.proofs.LaneLemmas.{callee_of, lanes_apart, of_within}
+use Rattle.strand_core.specs.Hands.{KeepsInline, behind, in_list, is_op_of, left_at, or_else, taken_at}
+use Rattle.strand_core.proofs.BehindLemmas.{free-behind, in_behind, length-behind, none_past, set-behind}
+use Rattle.strand_core.proofs.HandLemmas.{taken_other, taken_same}
+use Rattle.strand_core.proofs.LaneLemmas.{callee_of}
 
 get-set_same : {X : Type 0} (xs : List X) (n : ℕ) (x : X) → n < length xs → slice_get (slice_set xs n x) n ≡ Some x
 get-set_same [] n x less = absurd (omega arith)
@@ -110,34 +110,9 @@ module _ {H : Type 0} (of_lane : ℕ → Bool) (first end : ℕ) (spans : Spans 
         | inr more ↦ far.later n more ∙ sym (ap (λ b. left_at b (in_list all n)) (past_span n (omega arith)))
       ]
 
--- a rack from which nothing was taken has the handlers of every lane
-pub whole_has : {H : Type 0} (script : ScriptModel) (of : Option Lane) (hs : List (Option H)) → All IsSome hs →
-    length script.acts ≤ length hs → (n : ℕ) → is_op_of script of n ≡ true → IsSome (in_list hs n)
-whole_has script of hs whole long n is =
-    let within : n < length hs = omega (arith, long, of_within script of n is) in
-    subst IsSome (sym (ap option_flatten (slice_get-get_or hs n None within))) (whole n None within)
-
--- where the handlers of a lane were taken, those of another are left
-pub others_left : {H : Type 0} (script : ScriptModel) (a b : Lane) (all left : List (Option H)) →
-    same_lane a b ≡ false → ((n : ℕ) → in_list left n ≡ left_at (is_of_lane script a n) (in_list all n)) →
-    ((n : ℕ) → is_of_lane script b n ≡ true → IsSome (in_list all n)) → (n : ℕ) → is_of_lane script b n ≡ true →
-    IsSome (in_list left n)
-others_left script a b all left differ is_left there n is =
-    subst IsSome (sym (is_left n ∙ ap (λ t. left_at t (in_list all n)) (lanes_apart script a b n differ is))) (there n is)
-
 was_of_lane : {H : Type 0} (b : Bool) (handler : Option H) → IsSome (taken_at b handler) → b ≡ true
 was_of_lane true handler some = refl
 was_of_lane false handler some = absurd (cc some)
-
--- where the handlers of a lane were taken there is room for them
-pub room_for_taken : {H : Type 0} (of_lane : ℕ → Bool) (all left hs : List (Option H)) → length left ≡ length all →
-    ((n : ℕ) → in_list hs n ≡ taken_at (of_lane n) (in_list all n)) →
-    ((n : ℕ) → in_list left n ≡ left_at (of_lane n) (in_list all n)) → (n : ℕ) → IsSome (in_list hs n) →
-    slice_get left n ≡ Some None
-room_for_taken of_lane all left hs size taken is_left n some =
-    let is : of_lane n ≡ true = was_of_lane (of_lane n) (in_list all n) (subst IsSome (taken n) some) in
-    let there : IsSome (in_list all n) = subst IsSome (taken n ∙ ap (λ t. taken_at t (in_list all n)) is) some in
-    free_at left n (omega (arith, size, is_within all n there)) (is_left n ∙ ap (λ t. left_at t (in_list all n)) is)
 
 -- the handlers of a lane, or of all, are held with those of all that execute inside them
 pub keeps_of : {H : Type 0} (script : ScriptModel) (ordered : (n : ℕ) → HasParent script.acts n (parent_of script n))

@@ -10,8 +10,6 @@ mod lane;
 mod plain_lanes;
 mod posted;
 mod poster;
-#[cfg(test)]
-mod tests;
 
 pub use execution::{Execution, execute};
 pub use hands::Hands;

@@ -2,4 +2,4 @@ use Rattle.std.proofs.Common.{◌≡◌, ◌+◌}
 use Rattle.session_tests.proofs.executions.trace_of.Given as goal
 
 abbrev pub invariant-loop-n : goal.invariant-loop-n
-invariant-loop-n l = l.history.spare + l.n ≡ 64
+invariant-loop-n g l = l.history.spare + l.n ≡ 64

@@ -1,0 +1,10 @@
+use Rattle.std.proofs.Common.{◌≡◌}
+use Rattle.strand_tests.proofs.strands.run_ready.Given as goal
+
+abbrev pub invariant-loop : goal.invariant-loop
+invariant-loop g l =
+    record {
+      ready : l.ready.acts ≡ l.fn.ready.acts;
+      first : l.first.script ≡ l.fn.script;
+      second : l.second.script ≡ l.fn.script;
+    }

@@ -1,0 +1,101 @@
+//! Handlers that note their call, and the hands of them.
+
+ghost use Rattle.std.specs.Prelude.{◌≡◌, ◌≤◌, false, length, IsSome};
+ghost use Rattle.op_handlers.specs.Rack.{IsWholeRack, handlers_in};
+ghost use Rattle.strand_core.specs.Hands.{same_lane};
+
+use asio_types::{Lane, class_of};
+use op_handlers::{Call, CompletionHandler, Rack, Ran};
+use session_script::{Script, read_script};
+use std::alloc::Global;
+use std::cell::Cell;
+use std::process::Abort;
+use strand_core::Hands;
+
+/// The run mark and the drop mark of each handler.
+pub(crate) type Marks = [(u64, u64); 4];
+
+/// A handler with its two marks, which notes its call.
+#[derive(Clone, Copy)]
+pub(crate) struct Noting<'a> {
+    run: u64,
+    drop: u64,
+    last: &'a Cell<Option<Call>>,
+}
+
+impl<'a> CompletionHandler for Noting<'a> {
+    ghost marks = { λ h. record { run = h.run; drop = h.drop } };
+
+    fn call(self, call: Call) -> Ran {
+        let Noting { run, drop: _, last } = self;
+        last.set(Some(call));
+        Ran {
+            mark: run,
+            class: class_of(call.code),
+            begun: call.begun,
+        }
+    }
+
+    fn discard(self) -> u64 {
+        self.drop
+    }
+}
+
+/// A handler with these marks.
+fn handler_of<'a>(marks: (u64, u64), last: &'a Cell<Option<Call>>) -> Option<Noting<'a>>
+    ensures { IsSome result }
+{
+    let (run, drop) = marks;
+    Some(Noting { run, drop, last })
+}
+
+/// A whole rack of four handlers with these marks.
+pub(crate) fn rack_of<'a, R: Abort>(
+    rt: &R,
+    alloc: Global,
+    marks: Marks,
+    last: &'a Cell<Option<Call>>,
+) -> Rack<Noting<'a>>
+    ensures whole { IsWholeRack result }
+    ensures count { length (handlers_in result) ≡ 4 }
+{
+    let [first, second, third, fourth] = marks;
+    let handlers = vec![in alloc;
+        handler_of(first, last),
+        handler_of(second, last),
+        handler_of(third, last),
+        handler_of(fourth, last),
+    ]
+    .expect(rt, "memory for a test");
+    Rack::of(handlers)
+}
+
+/// The script of this text, which has at most four acts.
+pub(crate) fn script_of<R: Abort>(rt: &R, alloc: Global, text: &str) -> Script
+    ensures { length result.acts ≤ 4 }
+{
+    let script = read_script(alloc, text.as_bytes()).expect(rt, "a script");
+    let acts = script.acts();
+    assert!(rt; acts <= 4);
+    script
+}
+
+/// The hands of two lanes.
+pub(crate) fn hands_of<'a, 'b, R: Abort>(
+    rt: &R,
+    alloc: Global,
+    script: &'a Script,
+    lanes: (Lane, Lane),
+    rack: &mut Rack<Noting<'b>>,
+) -> (Hands<'a, Noting<'b>>, Hands<'a, Noting<'b>>)
+    requires whole { IsWholeRack rack.old }
+    requires enough { length script.now.acts ≤ length (handlers_in rack.old) }
+    requires apart { same_lane lanes.0 lanes.1 ≡ false }
+    ensures first { result.0.script ≡ script.now }
+    ensures second { result.1.script ≡ script.now }
+{
+    let (first, second) = lanes;
+    let one = Hands::of_lane(alloc, script, first, rack).expect(rt, "memory for a test");
+    let other = Hands::of_lane(alloc, script, second, rack).expect(rt, "memory for a test");
+    (one, other)
+}
