@@ -70,10 +70,10 @@ const STREAMS: [Case; 20] = [
     },
     Case {
         shows: "an_aborted_read_keeps_what_it_consumed",
-        script: "session 1 slots 1 streams 1 at 1 feed 0 x6162 at 2 feed 0 x636465 open { read 0 4 - 0 { } post - { emit 0 1 readsome 0 4 - - { } } } run 1",
-        turns: "0 tick 2 3 tick",
+        script: "session 1 timers 1 slots 1 streams 1 at 1 feed 0 x6162 at 2 feed 0 x636465 open { read 0 4 - 0 { } expires 0 1 wait 0 - - { emit 0 1 readsome 0 4 - - { } } } run 1",
+        turns: "0 1 2 tick 3 4 tick",
         fails: &[],
-        trace: "take 0 / tick 1 / take 2 / done 0 aborted 2 / take 3 / tick 2 / done 3 ok 3",
+        trace: "take 0 / take 1 / take 2 / tick 1 / done 2 ok 0 / take 3 / done 0 aborted 2 / take 4 / tick 2 / done 4 ok 3",
     },
     Case {
         shows: "two_reads_of_a_stream_complete_in_one_turn",
