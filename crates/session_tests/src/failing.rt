@@ -74,8 +74,7 @@ const FAULTS: &[(&str, Method, &str)] = &[
     (LATE, Method::SetUp, "fault"),
 ];
 
-/// Where a method fails, the trace of the realistic session has a fault, and time stands from then
-/// on.
+/// Where a method fails, the trace of the realistic session has a fault, and no tick to 10.
 fn is_cut_off<R: Abort + Threads + Wait + Sync>(rt: &R, alloc: Global, method: Method) {
     let left = left_where_fails(rt, alloc, REALISTIC, method);
     let trace = left.trace.as_str();

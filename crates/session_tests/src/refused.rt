@@ -111,17 +111,18 @@ fn writes_nothing<R: Abort + Threads + Wait + Sync>(
     words: &str,
     text: &str,
     status: Status,
+    row: &str,
 ) {
     let left = left_by(rt, alloc, words, text, &[], PLAIN);
-    is_status(rt, left.ended.status, status, text);
-    is_text(rt, left.trace.as_str(), "", text);
+    is_status(rt, left.ended.status, status, row);
+    is_text(rt, left.trace.as_str(), "", row);
 }
 
 #[test]
 fn first_parts_of_a_script_are_refused(rt: HostRuntime) {
     for end in 0..REALISTIC.len() {
         if let Some(text) = REALISTIC.get(..end) {
-            writes_nothing(&rt, rt.alloc(), "run", text, Status::Refused);
+            writes_nothing(&rt, rt.alloc(), "run", text, Status::Refused, text);
         }
     }
 }
@@ -129,7 +130,7 @@ fn first_parts_of_a_script_are_refused(rt: HostRuntime) {
 #[test]
 fn other_words_are_no_form(rt: HostRuntime) {
     for &words in OTHER_WORDS {
-        writes_nothing(&rt, rt.alloc(), words, REALISTIC, Status::Usage);
+        writes_nothing(&rt, rt.alloc(), words, REALISTIC, Status::Usage, words);
     }
 }
 
