@@ -4,7 +4,7 @@ use Rattle.turn_table.specs.Laid.{IsWhole}
 use Rattle.turn_table.specs.Numbers.{Has}
 use Rattle.turn_table.specs.Seated.{Lanes}
 use Rattle.turn_table.proofs.SeatLemmas.{sat}
-use Rattle.turn_table.proofs.TurnLemmas.{closes}
+use Rattle.turn_table.proofs.TableLemmas.{closes}
 use Rattle.turn_table.proofs.table.TurnTable.close.Goals as goal
 
 pub take_out-requires-clause-whole : goal.take_out-requires-clause-whole

@@ -1,6 +1,6 @@
 use Rattle.std.proofs.Common.{rules, ◌∙◌, sym}
 use Rattle.turn_table.proofs.SeatLemmas.{sat}
-use Rattle.turn_table.proofs.TurnLemmas.{gathers}
+use Rattle.turn_table.proofs.ViewLemmas.{gathers}
 use Rattle.turn_table.proofs.table.TurnTable.gather.Goals as goal
 
 pub join_seat-requires : goal.join_seat-requires

@@ -2,7 +2,7 @@ use Rattle.std.proofs.Common.{[], ◌∷◌, length, sym, refl, ap, ◌∙◌, s
 use Rattle.turn_table.specs.Laid.{AreAtHome, AreLaid}
 use Rattle.turn_table.specs.TurnSteps.{first_view}
 use Rattle.turn_table.proofs.NumberLemmas.{has_run}
-use Rattle.turn_table.proofs.TurnLemmas.{opens}
+use Rattle.turn_table.proofs.TableLemmas.{opens}
 use Rattle.turn_table.proofs.table.TurnTable.make.Goals as goal
 
 pub new-requires : goal.new-requires

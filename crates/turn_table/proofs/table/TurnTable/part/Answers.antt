@@ -3,7 +3,7 @@ use Rattle.turn_table.specs.Numbers.{Has, greatest}
 use Rattle.turn_table.specs.TurnSteps.{parted_left, parted_right}
 use Rattle.turn_table.proofs.NumberLemmas.{has_head, kept_number}
 use Rattle.turn_table.proofs.SeatLemmas.{sat}
-use Rattle.turn_table.proofs.TurnLemmas.{parts}
+use Rattle.turn_table.proofs.ViewLemmas.{parts}
 use Rattle.turn_table.proofs.table.TurnTable.part.Goals as goal
 
 pub split_seat-parted-requires : goal.split_seat-parted-requires
