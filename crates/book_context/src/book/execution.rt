@@ -15,23 +15,23 @@ use strand_core::Hands;
 
 /// Executes the oldest ready operation; answers whether there was one.
 pub(super) fn execute_next<'a, H: CompletionHandler, N: Session>(
-    record: &mut Record<'a>,
+    recording: &mut Record<'a>,
     hands: &mut Hands<'a, H>,
 ) -> bool
-    requires history { KeepsHistory N.script N.told N.run N.drop N.outside record.old }
-    requires hands { HoldsUnspent H.marks N.told N.run N.drop record.old hands.old }
-    requires going { record.old.stopped ≡ false }
-    requires round { IsRoundOpen record.old }
+    requires history { KeepsHistory N.script N.told N.run N.drop N.outside recording.old }
+    requires hands { HoldsUnspent H.marks N.told N.run N.drop recording.old hands.old }
+    requires going { recording.old.stopped ≡ false }
+    requires round { IsRoundOpen recording.old }
     ensures executed { result ≡ true →
-        HasExecutedNext H.marks N.script N.told N.run N.drop N.outside record.old record.new
+        HasExecutedNext H.marks N.script N.told N.run N.drop N.outside recording.old recording.new
         hands.new }
-    ensures same { result ≡ false → record.new ≡ record.old }
+    ensures same { result ≡ false → recording.new ≡ recording.old }
     ensures same_hands { result ≡ false → hands.new ≡ hands.old }
-    ensures none { result ≡ false → record.old.ready ≡ [] }
+    ensures none { result ≡ false → recording.old.ready ≡ [] }
 {
-    match record.pop_ready() {
+    match recording.pop_ready() {
         Some((op, code, size)) => {
-            execute_oldest::<H, N>(record, hands, op, code, size);
+            execute_oldest::<H, N>(recording, hands, op, code, size);
             true
         }
         None => false,
@@ -40,25 +40,26 @@ pub(super) fn execute_next<'a, H: CompletionHandler, N: Session>(
 
 /// Executes an operation that was the oldest ready one, with what executes inside it.
 fn execute_oldest<'a, H: CompletionHandler, N: Session>(
-    record: &mut Record<'a>,
+    recording: &mut Record<'a>,
     hands: &mut Hands<'a, H>,
     op: OpNo,
     code: Code,
     size: u32,
 )
     requires history { KeepsHistory N.script N.told N.run N.drop N.outside
-        (with_ready (op, code, size) record.old) }
+        (with_ready (op, code, size) recording.old) }
     requires hands { HoldsUnspent H.marks N.told N.run N.drop
-        (with_ready (op, code, size) record.old) hands.old }
-    requires going { record.old.stopped ≡ false }
-    requires round { IsRoundOpen record.old }
-    ensures history { KeepsHistory N.script N.told N.run N.drop N.outside record.new }
-    ensures hands { HoldsUnspent H.marks N.told N.run N.drop record.new hands.new }
-    ensures script { record.new.script ≡ record.old.script }
-    ensures half { recorded_half N.told record.new ≡ recorded_half N.told record.old }
-    ensures faults { KeepsFaults record.old record.new }
-    ensures gone { HasGoneOn N.script N.run (with_ready (op, code, size) record.old) record.new }
+        (with_ready (op, code, size) recording.old) hands.old }
+    requires going { recording.old.stopped ≡ false }
+    requires round { IsRoundOpen recording.old }
+    ensures history { KeepsHistory N.script N.told N.run N.drop N.outside recording.new }
+    ensures hands { HoldsUnspent H.marks N.told N.run N.drop recording.new hands.new }
+    ensures script { recording.new.script ≡ recording.old.script }
+    ensures half { recorded_half N.told recording.new ≡ recorded_half N.told recording.old }
+    ensures faults { KeepsFaults recording.old recording.new }
+    ensures gone { HasGoneOn N.script N.run (with_ready (op, code, size) recording.old)
+        recording.new }
 {
     executions_are_recorded();
-    record.execute(hands, op, code, size);
+    recording.execute(hands, op, code, size);
 }

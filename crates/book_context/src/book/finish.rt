@@ -21,44 +21,44 @@ use strand_core::Hands;
 
 /// Destroys the handler of an operation, if it was accepted and never ran.
 fn discard_next<'a, H: CompletionHandler, N: Session>(
-    record: &mut Record<'a>,
+    recording: &mut Record<'a>,
     hands: Hands<'a, H>,
     op: OpNo,
 ) -> Hands<'a, H>
-    requires act { op < length record.old.script.acts }
-    requires ending { IsEnding H.marks N.told N.run N.drop N.outside op record.old hands }
-    ensures ending { IsEnding H.marks N.told N.run N.drop N.outside (op + 1) record.new result }
-    ensures script { record.new.script ≡ record.old.script }
-    ensures half { recorded_half N.told record.new ≡ recorded_half N.told record.old }
-    ensures faults { KeepsFaults record.old record.new }
+    requires act { op < length recording.old.script.acts }
+    requires ending { IsEnding H.marks N.told N.run N.drop N.outside op recording.old hands }
+    ensures ending { IsEnding H.marks N.told N.run N.drop N.outside (op + 1) recording.new result }
+    ensures script { recording.new.script ≡ recording.old.script }
+    ensures half { recorded_half N.told recording.new ≡ recorded_half N.told recording.old }
+    ensures faults { KeepsFaults recording.old recording.new }
 {
     drops_are_recorded();
-    let script = record.script();
-    if !script.is_op(op) || script.is_inline(op) || !record.was_called(op) {
+    let script = recording.script();
+    if !script.is_op(op) || script.is_inline(op) || !recording.was_called(op) {
         return hands;
     }
     let (rest, mark) = hands.discard(op);
     if let Some(mark) = mark {
-        record.push(Event::Dropped { op, mark });
+        recording.push(Event::Dropped { op, mark });
     }
     rest
 }
 
 /// Destroys the handlers that were accepted and never ran, in rising number.
 fn discard_unspent<'a, H: CompletionHandler, N: Session>(
-    record: &mut Record<'a>,
+    recording: &mut Record<'a>,
     hands: Hands<'a, H>,
 ) -> Hands<'a, H>
-    requires ending { IsEnding H.marks N.told N.run N.drop N.outside 0 record.old hands }
-    ensures ending { IsEnding H.marks N.told N.run N.drop N.outside (length record.old.script.acts)
-        record.new result }
-    ensures script { record.new.script ≡ record.old.script }
-    ensures half { recorded_half N.told record.new ≡ recorded_half N.told record.old }
-    ensures faults { KeepsFaults record.old record.new }
+    requires ending { IsEnding H.marks N.told N.run N.drop N.outside 0 recording.old hands }
+    ensures ending { IsEnding H.marks N.told N.run N.drop N.outside
+        (length recording.old.script.acts) recording.new result }
+    ensures script { recording.new.script ≡ recording.old.script }
+    ensures half { recorded_half N.told recording.new ≡ recorded_half N.told recording.old }
+    ensures faults { KeepsFaults recording.old recording.new }
 {
     let mut left = hands;
-    for op in 0..record.script().acts() {
-        left = discard_next::<H, N>(record, left, op);
+    for op in 0..recording.script().acts() {
+        left = discard_next::<H, N>(recording, left, op);
     }
     left
 }

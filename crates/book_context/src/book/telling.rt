@@ -11,23 +11,23 @@ use reactor_trait::Reactor;
 
 /// Tells the completion that is next; answers whether there was one.
 fn tell_next<'a, X: Reactor, N: Session>(
-    record: &mut Record<'a>,
+    recording: &mut Record<'a>,
     proactor: &mut Proactor<'a, X>,
 ) -> bool
-    requires history { KeepsHistory N.script N.told N.run N.drop N.outside record.old }
-    requires turn { IsInTurn X.state X.told N.told record.old proactor.old }
-    ensures history { KeepsHistory N.script N.told N.run N.drop N.outside record.new }
-    ensures turn { IsInTurn X.state X.told N.told record.new proactor.new }
+    requires history { KeepsHistory N.script N.told N.run N.drop N.outside recording.old }
+    requires turn { IsInTurn X.state X.told N.told recording.old proactor.old }
+    ensures history { KeepsHistory N.script N.told N.run N.drop N.outside recording.new }
+    ensures turn { IsInTurn X.state X.told N.told recording.new proactor.new }
     ensures reactor { proactor.new.reactor ≡ proactor.old.reactor }
-    ensures told { HasOnlyTold N.told record.old record.new }
-    ensures fewer { result ≡ true → record.new.spare < record.old.spare }
+    ensures told { HasOnlyTold N.told recording.old recording.new }
+    ensures fewer { result ≡ true → recording.new.spare < recording.old.spare }
     ensures whole { result ≡ false →
-        IsTurned X.state X.told (recorded_half N.told record.new) proactor.new }
+        IsTurned X.state X.told (recorded_half N.told recording.new) proactor.new }
 {
     turns_are_recorded();
     match proactor.next_due() {
         Some((op, code, size)) => {
-            record.push_done(op, code, size);
+            recording.push_done(op, code, size);
             true
         }
         None => false,
@@ -36,16 +36,16 @@ fn tell_next<'a, X: Reactor, N: Session>(
 
 /// Tells all that completes in this turn.
 pub(super) fn tell_all<'a, X: Reactor, N: Session>(
-    record: &mut Record<'a>,
+    recording: &mut Record<'a>,
     proactor: &mut Proactor<'a, X>,
 )
-    requires history { KeepsHistory N.script N.told N.run N.drop N.outside record.old }
-    requires turn { IsInTurn X.state X.told N.told record.old proactor.old }
-    ensures history { KeepsHistory N.script N.told N.run N.drop N.outside record.new }
-    ensures turn { IsInTurn X.state X.told N.told record.new proactor.new }
+    requires history { KeepsHistory N.script N.told N.run N.drop N.outside recording.old }
+    requires turn { IsInTurn X.state X.told N.told recording.old proactor.old }
+    ensures history { KeepsHistory N.script N.told N.run N.drop N.outside recording.new }
+    ensures turn { IsInTurn X.state X.told N.told recording.new proactor.new }
     ensures reactor { proactor.new.reactor ≡ proactor.old.reactor }
-    ensures told { HasOnlyTold N.told record.old record.new }
-    ensures whole { IsTurned X.state X.told (recorded_half N.told record.new) proactor.new }
+    ensures told { HasOnlyTold N.told recording.old recording.new }
+    ensures whole { IsTurned X.state X.told (recorded_half N.told recording.new) proactor.new }
 {
-    while tell_next::<X, N>(record, proactor) {}
+    while tell_next::<X, N>(recording, proactor) {}
 }

@@ -16,16 +16,16 @@ use crate::session::Session;
 use asio_types::{ActNo, Event, Point};
 
 /// A turn of the reactor begins: it takes a request that was the oldest one.
-pub(super) fn begin_take<N: Session>(record: &mut Record<'_>, a: ActNo)
+pub(super) fn begin_take<N: Session>(recording: &mut Record<'_>, a: ActNo)
     requires history { KeepsHistory N.script N.told N.run N.drop N.outside
-        (with_request a record.old) }
-    requires can { CanTurnNow N.told record.old }
-    ensures history { KeepsHistory N.script N.told N.run N.drop N.outside record.new }
-    ensures begun { HasBegun N.told record.old record.new
-        (reactor_after_take record.old.script N.told (recorded_half N.told record.old) a) }
+        (with_request a recording.old) }
+    requires can { CanTurnNow N.told recording.old }
+    ensures history { KeepsHistory N.script N.told N.run N.drop N.outside recording.new }
+    ensures begun { HasBegun N.told recording.old recording.new
+        (reactor_after_take recording.old.script N.told (recorded_half N.told recording.old) a) }
 {
     turns_are_recorded();
-    record.push(Event::Take { act: a });
+    recording.push(Event::Take { act: a });
 }
 
 /// The event of a time point that has passed.
@@ -39,47 +39,48 @@ fn passed(point: &Point) -> Event
 }
 
 /// A turn of the reactor begins: time moves to the next point.
-pub(super) fn begin_tick<N: Session>(record: &mut Record<'_>, point: &Point)
-    requires history { KeepsHistory N.script N.told N.run N.drop N.outside record.old }
-    requires waiting { IsWaiting N.told record.old }
-    requires next { next_time record.old.script (recorded_half N.told record.old) ≡ point.now }
-    ensures history { KeepsHistory N.script N.told N.run N.drop N.outside record.new }
-    ensures begun { HasBegun N.told record.old record.new
-        (after_point record.old.script N.told point.now (recorded_half N.told record.old)) }
+pub(super) fn begin_tick<N: Session>(recording: &mut Record<'_>, point: &Point)
+    requires history { KeepsHistory N.script N.told N.run N.drop N.outside recording.old }
+    requires waiting { IsWaiting N.told recording.old }
+    requires next { next_time recording.old.script (recorded_half N.told recording.old)
+        ≡ point.now }
+    ensures history { KeepsHistory N.script N.told N.run N.drop N.outside recording.new }
+    ensures begun { HasBegun N.told recording.old recording.new
+        (after_point recording.old.script N.told point.now (recorded_half N.told recording.old)) }
 {
     turns_are_recorded();
-    record.push(passed(point));
+    recording.push(passed(point));
 }
 
 /// The reactor has failed, before any of a turn was told.
-pub(super) fn fail<N: Session>(record: &mut Record<'_>)
-    requires history { KeepsHistory N.script N.told N.run N.drop N.outside record.old }
-    requires round { IsRoundOpen record.old }
-    requires works { (recorded_half N.told record.old).failed ≡ false }
-    requires untold { ((recorded_half N.told record.old).whole_turn ≡ true)
-        ⊎ ((recorded_half N.told record.old).due ≡ []) }
-    requires some { record.old.events ≢ [] }
-    ensures history { KeepsHistory N.script N.told N.run N.drop N.outside record.new }
-    ensures broken { HasBroken N.told record.old record.new }
+pub(super) fn fail<N: Session>(recording: &mut Record<'_>)
+    requires history { KeepsHistory N.script N.told N.run N.drop N.outside recording.old }
+    requires round { IsRoundOpen recording.old }
+    requires works { (recorded_half N.told recording.old).failed ≡ false }
+    requires untold { ((recorded_half N.told recording.old).whole_turn ≡ true)
+        ⊎ ((recorded_half N.told recording.old).due ≡ []) }
+    requires some { recording.old.events ≢ [] }
+    ensures history { KeepsHistory N.script N.told N.run N.drop N.outside recording.new }
+    ensures broken { HasBroken N.told recording.old recording.new }
 {
     turns_are_recorded();
-    record.push_fault();
+    recording.push_fault();
 }
 
 /// The reactor has failed in a tick, after the time moved to this point, if it moved.
-pub(super) fn break_off<N: Session>(record: &mut Record<'_>, moved: Option<Point>)
-    requires history { KeepsHistory N.script N.told N.run N.drop N.outside record.old }
-    requires waiting { IsWaiting N.told record.old }
+pub(super) fn break_off<N: Session>(recording: &mut Record<'_>, moved: Option<Point>)
+    requires history { KeepsHistory N.script N.told N.run N.drop N.outside recording.old }
+    requires waiting { IsWaiting N.told recording.old }
     requires next { IfSome moved
-        (λ point. next_time record.old.script (recorded_half N.told record.old) ≡ point) }
-    ensures history { KeepsHistory N.script N.told N.run N.drop N.outside record.new }
-    ensures broken { HasBrokenOff N.told record.old record.new moved }
+        (λ point. next_time recording.old.script (recorded_half N.told recording.old) ≡ point) }
+    ensures history { KeepsHistory N.script N.told N.run N.drop N.outside recording.new }
+    ensures broken { HasBrokenOff N.told recording.old recording.new moved }
 {
     match moved {
         Some(point) => {
-            begin_tick::<N>(record, &point);
-            fail::<N>(record);
+            begin_tick::<N>(recording, &point);
+            fail::<N>(recording);
         }
-        None => fail::<N>(record),
+        None => fail::<N>(recording),
     }
 }

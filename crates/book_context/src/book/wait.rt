@@ -33,21 +33,23 @@ pub(super) fn has_work<X: Reactor>(proactor: &Proactor<'_, X>) -> bool
 /// Where nothing is ready and no request waits: time moves on, if the round runs and something is
 /// pending.
 pub(super) fn wait_for_outside<'a, X: Reactor, N: Session>(
-    record: &mut Record<'a>,
+    recording: &mut Record<'a>,
     proactor: &mut Proactor<'a, X>,
 ) -> BookTurn
-    requires history { KeepsHistory N.script N.told N.run N.drop N.outside record.old }
-    requires ready { record.old.ready ≡ [] }
-    requires requests { record.old.requests ≡ [] }
-    requires going { record.old.stopped ≡ false }
-    requires round { IsRoundOpen record.old }
-    requires reactor { KeepsReactor X.state X.told X.faults N.told N.faults record.old
+    requires history { KeepsHistory N.script N.told N.run N.drop N.outside recording.old }
+    requires ready { recording.old.ready ≡ [] }
+    requires requests { recording.old.requests ≡ [] }
+    requires going { recording.old.stopped ≡ false }
+    requires round { IsRoundOpen recording.old }
+    requires reactor { KeepsReactor X.state X.told X.faults N.told N.faults recording.old
         proactor.old }
-    ensures history { KeepsHistory N.script N.told N.run N.drop N.outside record.new }
-    ensures reactor { KeepsReactor X.state X.told X.faults N.told N.faults record.new proactor.new }
-    ensures script { record.new.script ≡ record.old.script }
-    ensures spent { SpendsNone N.told record.old record.new }
-    ensures waits { Waits X.faults N.told result record.old record.new proactor.old proactor.new }
+    ensures history { KeepsHistory N.script N.told N.run N.drop N.outside recording.new }
+    ensures reactor { KeepsReactor X.state X.told X.faults N.told N.faults recording.new
+        proactor.new }
+    ensures script { recording.new.script ≡ recording.old.script }
+    ensures spent { SpendsNone N.told recording.old recording.new }
+    ensures waits { Waits X.faults N.told result recording.old recording.new proactor.old
+        proactor.new }
 {
     rounds_are_recorded();
     sessions_at_rest_go_on();
@@ -57,8 +59,8 @@ pub(super) fn wait_for_outside<'a, X: Reactor, N: Session>(
     if proactor.pending() == 0 {
         return BookTurn::Idle;
     }
-    if !is_run(record) {
+    if !is_run(recording) {
         return BookTurn::Idle;
     }
-    tick::<X, N>(record, proactor)
+    tick::<X, N>(recording, proactor)
 }

@@ -18,7 +18,7 @@ returns-clause-legal g c =
     let discarded = c.discard_unspent-left.ensures in
     let history = c.self.invariant.history in
     over_legal c.drops_are_recorded.ensures.ends g.N.Session.script g.N.Session.told discarded.ending.last
-    c.discard_unspent-left.new.record c.into_history.result.events (rw (← history.is_script) discarded.ending.dropping)
+    c.discard_unspent-left.new.recording c.into_history.result.events (rw (← history.is_script) discarded.ending.dropping)
     (discarded.script ∙ history.is_script) (ap (λ h. h.events) c.into_history.ensures)
 
 pub returns-clause-unstopped : goal.returns-clause-unstopped
@@ -28,19 +28,19 @@ returns-clause-unstopped g c none =
 
 pub returns-clause-rose : goal.returns-clause-rose
 returns-clause-rose g c =
-    rose_at_end c.self.invariant.history c.self.invariant.reactor c.discard_unspent-left.new.record c.into_history.result.events
+    rose_at_end c.self.invariant.history c.self.invariant.reactor c.discard_unspent-left.new.recording c.into_history.result.events
     (ap (λ h. h.events) c.into_history.ensures) c.discard_unspent-left.ensures.faults c.into_reactor.result
     c.into_reactor.ensures.reactor
 
 pub returns-clause-stood : goal.returns-clause-stood
 returns-clause-stood g c =
-    stood_at_end c.self.invariant.history c.self.invariant.reactor c.discard_unspent-left.new.record
+    stood_at_end c.self.invariant.history c.self.invariant.reactor c.discard_unspent-left.new.recording
     c.into_history.result.events (ap (λ h. h.events) c.into_history.ensures) c.discard_unspent-left.ensures.faults
     c.into_reactor.result c.into_reactor.ensures.reactor
 
 pub returns-clause-sent : goal.returns-clause-sent
 returns-clause-sent g c =
     let discarded = c.discard_unspent-left.ensures in
-    sent_at_end c.self.invariant.history c.self.invariant.reactor c.discard_unspent-left.new.record c.into_history.result.events
+    sent_at_end c.self.invariant.history c.self.invariant.reactor c.discard_unspent-left.new.recording c.into_history.result.events
     (ap (λ h. h.events) c.into_history.ensures) discarded.faults c.into_reactor.result c.into_reactor.ensures.stands
     (discarded.script ∙ c.self.invariant.history.is_script) discarded.half

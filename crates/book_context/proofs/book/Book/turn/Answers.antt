@@ -42,7 +42,7 @@ invariant_of-self g c =
     executed_book g.N.Session.script g.N.Session.told g.N.Session.run g.N.Session.drop g.N.Session.faults
     g.N.Session.outside g.H.CompletionHandler.marks g.X.Reactor.state g.X.Reactor.told g.X.Reactor.faults
     c.self.inside.record c.self.inside.hands c.self.inside.proactor c.self.invariant
-    (sym c.stopped.ensures ∙ c.if-stopped.false) c.execute_next.new.record c.execute_next.new.hands
+    (sym c.stopped.ensures ∙ c.if-stopped.false) c.execute_next.new.recording c.execute_next.new.hands
     (c.execute_next.ensures.executed c.if-execute_next.true)
 
 pub returns-then-execute_next : goal.returns-then-execute_next
@@ -51,7 +51,7 @@ returns-then-execute_next g c =
     g.N.Session.faults g.N.Session.outside g.H.CompletionHandler.marks g.X.Reactor.state g.X.Reactor.told
     g.X.Reactor.faults c.self.inside.record c.self.inside.hands c.self.inside.proactor c.self.invariant
     c.openings_are_recorded.ensures.rounds (sym c.stopped.ensures ∙ c.if-stopped.false)
-    (round_open c.self.inside.record (sym c.is_open.ensures ∙ c.if-not-is_open.false)) c.execute_next.new.record
+    (round_open c.self.inside.record (sym c.is_open.ensures ∙ c.if-not-is_open.false)) c.execute_next.new.recording
     c.execute_next.new.hands (c.execute_next.ensures.executed c.if-execute_next.true))
 
 pub take_next-requires-clause-history : goal.take_next-requires-clause-history
@@ -83,17 +83,17 @@ invariant_of-self-in-Some g c =
     (λ r.
     HasTakenNext g.X.Reactor.state g.X.Reactor.told g.X.Reactor.faults g.N.Session.script g.N.Session.told
     g.N.Session.run g.N.Session.drop g.N.Session.faults g.N.Session.outside c.in-Some.turn r
-    c.take_next.new.record c.self.inside.proactor c.take_next.new.proactor)
+    c.take_next.new.recording c.self.inside.proactor c.take_next.new.proactor)
     (c.execute_next.ensures.same c.if-execute_next.false) c.in-Some.ensures.taken) in
     subst
     (λ h.
     IsBook g.N.Session.script g.N.Session.told g.N.Session.run g.N.Session.drop g.N.Session.faults
     g.N.Session.outside g.H.CompletionHandler.marks g.X.Reactor.state g.X.Reactor.told g.X.Reactor.faults
-    c.take_next.new.record h c.take_next.new.proactor)
+    c.take_next.new.recording h c.take_next.new.proactor)
     (sym (c.execute_next.ensures.same_hands c.if-execute_next.false))
     (turned_book g.N.Session.script g.N.Session.told g.N.Session.run g.N.Session.drop g.N.Session.faults
     g.N.Session.outside g.H.CompletionHandler.marks g.X.Reactor.state g.X.Reactor.told g.X.Reactor.faults
-    c.self.inside.record c.self.inside.hands c.self.inside.proactor c.self.invariant c.take_next.new.record
+    c.self.inside.record c.self.inside.hands c.self.inside.proactor c.self.invariant c.take_next.new.recording
     c.take_next.new.proactor did.history did.reactor did.same_script did.spent)
 
 pub returns-in-Some : goal.returns-in-Some
@@ -104,11 +104,11 @@ returns-in-Some g c =
     c.self.inside.record c.self.inside.hands c.self.inside.proactor c.self.invariant
     c.openings_are_recorded.ensures.rounds (sym c.stopped.ensures ∙ c.if-stopped.false)
     (round_open c.self.inside.record (sym c.is_open.ensures ∙ c.if-not-is_open.false)) c.in-Some.turn
-    c.take_next.new.record c.take_next.new.proactor (subst
+    c.take_next.new.recording c.take_next.new.proactor (subst
     (λ r.
     HasTakenNext g.X.Reactor.state g.X.Reactor.told g.X.Reactor.faults g.N.Session.script g.N.Session.told
     g.N.Session.run g.N.Session.drop g.N.Session.faults g.N.Session.outside c.in-Some.turn r
-    c.take_next.new.record c.self.inside.proactor c.take_next.new.proactor)
+    c.take_next.new.recording c.self.inside.proactor c.take_next.new.proactor)
     (c.execute_next.ensures.same c.if-execute_next.false) c.in-Some.ensures.taken))
 
 pub wait_for_outside-requires-clause-history : goal.wait_for_outside-requires-clause-history
@@ -151,15 +151,15 @@ invariant_of-self-in-None g c =
     (λ h.
     IsBook g.N.Session.script g.N.Session.told g.N.Session.run g.N.Session.drop g.N.Session.faults
     g.N.Session.outside g.H.CompletionHandler.marks g.X.Reactor.state g.X.Reactor.told g.X.Reactor.faults
-    c.wait_for_outside.new.record h c.wait_for_outside.new.proactor)
+    c.wait_for_outside.new.recording h c.wait_for_outside.new.proactor)
     (sym (c.execute_next.ensures.same_hands c.if-execute_next.false))
     (turned_book g.N.Session.script g.N.Session.told g.N.Session.run g.N.Session.drop g.N.Session.faults
     g.N.Session.outside g.H.CompletionHandler.marks g.X.Reactor.state g.X.Reactor.told g.X.Reactor.faults
-    c.self.inside.record c.self.inside.hands c.self.inside.proactor c.self.invariant c.wait_for_outside.new.record
+    c.self.inside.record c.self.inside.hands c.self.inside.proactor c.self.invariant c.wait_for_outside.new.recording
     c.wait_for_outside.new.proactor c.wait_for_outside.ensures.history c.wait_for_outside.ensures.reactor
     (c.wait_for_outside.ensures.script
     ∙ ap (λ r. r.script) (c.in-None.ensures.same ∙ c.execute_next.ensures.same c.if-execute_next.false))
-    (subst (λ r. SpendsNone g.N.Session.told r c.wait_for_outside.new.record)
+    (subst (λ r. SpendsNone g.N.Session.told r c.wait_for_outside.new.recording)
     (c.in-None.ensures.same ∙ c.execute_next.ensures.same c.if-execute_next.false)
     c.wait_for_outside.ensures.spent))
 
@@ -171,12 +171,12 @@ returns-in-None g c =
     c.self.inside.record c.self.inside.hands c.self.inside.proactor c.self.invariant
     c.openings_are_recorded.ensures.rounds (sym c.stopped.ensures ∙ c.if-stopped.false)
     (round_open c.self.inside.record (sym c.is_open.ensures ∙ c.if-not-is_open.false)) c.wait_for_outside.result
-    c.wait_for_outside.new.record c.wait_for_outside.new.proactor (subst
+    c.wait_for_outside.new.recording c.wait_for_outside.new.proactor (subst
     (λ r.
-    Waits g.X.Reactor.faults g.N.Session.told c.wait_for_outside.result r c.wait_for_outside.new.record
+    Waits g.X.Reactor.faults g.N.Session.told c.wait_for_outside.result r c.wait_for_outside.new.recording
     c.self.inside.proactor c.wait_for_outside.new.proactor)
     (c.in-None.ensures.same ∙ c.execute_next.ensures.same c.if-execute_next.false) (subst
     (λ v.
-    Waits g.X.Reactor.faults g.N.Session.told c.wait_for_outside.result c.take_next.new.record
-    c.wait_for_outside.new.record v c.wait_for_outside.new.proactor) c.in-None.ensures.same_proactor
+    Waits g.X.Reactor.faults g.N.Session.told c.wait_for_outside.result c.take_next.new.recording
+    c.wait_for_outside.new.recording v c.wait_for_outside.new.proactor) c.in-None.ensures.same_proactor
     c.wait_for_outside.ensures.waits)))

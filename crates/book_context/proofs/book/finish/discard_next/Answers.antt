@@ -26,13 +26,13 @@ returns-then-not-is_op-clause-ending g c =
           cc (w.if-is_inline.true, w.is_inline.ensures) in
           inr (inl (subst (λ (script : ScriptModel). is_inline script c.args.op ≡ true) c.script-script.ensures is))
       | then-not-is_op-via-else-not-is_op+else-is_inline+then-not-was_called w ↦
-          let is : slice_index_or c.args.record.now.called c.args.op false ≡ false =
+          let is : slice_index_or c.args.recording.now.called c.args.op false ≡ false =
           cc (w.if-not-was_called.true, w.was_called.ensures) in
           inr (inr is)
     ])
 
 -- it was called
-called : (g : given.Over) (c : After-discard-rest g) → slice_index_or c.args.record.now.called c.args.op false ≡ true
+called : (g : given.Over) (c : After-discard-rest g) → slice_index_or c.args.recording.now.called c.args.op false ≡ true
 called g c = cc (c.if-not-was_called.false, c.was_called.ensures)
 
 pub push-requires : goal.push-requires
@@ -69,7 +69,7 @@ returns-in-Some-clause-faults g c =
     let at = (goal.at.returns-in-Some-clause-faults g c).After-discard-rest in
     let law = c.drops_are_recorded.ensures in
     let discarded = c.discard-rest.ensures in
-    subst (KeepsFaults c.args.record.now) (sym c.push.ensures)
+    subst (KeepsFaults c.args.recording.now) (sym c.push.ensures)
     (drop_faults c.requires.ending law.unspent c.discard-rest.result.0 discarded.script discarded.after law.drops (called g at)
     c.in-Some.mark (sym discarded.mark ∙ c.in-Some.is))
 

@@ -7,7 +7,7 @@ loop-init g c = record {
   history = c.requires.history;
   turn = c.requires.turn;
   reactor = refl;
-  told_so_far = told-none g.N.Session.told c.args.record.now;
+  told_so_far = told-none g.N.Session.told c.args.recording.now;
 }
 
 pub loop-preserved : goal.loop-preserved
@@ -16,11 +16,11 @@ loop-preserved g c = record {
   turn = c.tell_next.ensures.turn;
   reactor = c.tell_next.ensures.reactor ∙ c.loop.invariant.reactor;
   told_so_far =
-      told-more g.N.Session.told c.args.record.now c.loop.record c.tell_next.new.record c.loop.invariant.told_so_far
+      told-more g.N.Session.told c.args.recording.now c.loop.recording c.tell_next.new.recording c.loop.invariant.told_so_far
       c.tell_next.ensures.told;
 }
 
 pub returns-clause-told : goal.returns-clause-told
 returns-clause-told g c =
-    told-more g.N.Session.told c.args.record.now c.loop.record c.tell_next.new.record c.loop.invariant.told_so_far
+    told-more g.N.Session.told c.args.recording.now c.loop.recording c.tell_next.new.recording c.loop.invariant.told_so_far
     c.tell_next.ensures.told

@@ -11,11 +11,11 @@ use Rattle.book_context.proofs.book.turn_steps.begin_take.Goals as goal
 use Rattle.book_context.proofs.book.turn_steps.begin_take.Goals.{After-turns_are_recorded}
 
 did : (g : given.Over) (c : After-turns_are_recorded g) →
-    steps.HasTaken g.N.Session.told (with_request c.args.a c.args.record.now) c.args.a c.args.record.now.requests
+    steps.HasTaken g.N.Session.told (with_request c.args.a c.args.recording.now) c.args.a c.args.recording.now.requests
 did g c =
     let can = c.requires.can in
-    c.turns_are_recorded.ensures.takes g.N.Session.told (with_request c.args.a c.args.record.now) c.args.a
-    c.args.record.now.requests c.requires.history.recorded
+    c.turns_are_recorded.ensures.takes g.N.Session.told (with_request c.args.a c.args.recording.now) c.args.a
+    c.args.recording.now.requests c.requires.history.recorded
     (record {
       round = record { left = can.round.left; restarted = can.round.restarted };
       going = can.going;
@@ -32,15 +32,15 @@ returns-clause-history g c =
     subst (KeepsHistory g.N.Session.script g.N.Session.told g.N.Session.run g.N.Session.drop g.N.Session.outside)
     (sym c.push.ensures)
     (take_history g.N.Session.script g.N.Session.told g.N.Session.run g.N.Session.drop g.N.Session.outside
-    c.args.record.now c.args.a c.requires.history
+    c.args.recording.now c.args.a c.requires.history
     (did g (goal.at.returns-clause-history g c).After-turns_are_recorded))
 
 pub returns-clause-begun : goal.returns-clause-begun
 returns-clause-begun g c =
     subst
     (λ r.
-    HasBegun g.N.Session.told c.args.record.now r (reactor_after_take c.args.record.now.script g.N.Session.told
-    (recorded_half g.N.Session.told c.args.record.now) c.args.a)) (sym c.push.ensures)
+    HasBegun g.N.Session.told c.args.recording.now r (reactor_after_take c.args.recording.now.script g.N.Session.told
+    (recorded_half g.N.Session.told c.args.recording.now) c.args.a)) (sym c.push.ensures)
     (take_begun g.N.Session.script g.N.Session.told g.N.Session.run g.N.Session.drop g.N.Session.outside
-    c.args.record.now c.args.a c.requires.history
+    c.args.recording.now c.args.a c.requires.history
     (did g (goal.at.returns-clause-begun g c).After-turns_are_recorded) c.requires.can.round)

@@ -8,9 +8,9 @@ use Rattle.book_context.proofs.book.turn_steps.fail.Given as given
 use Rattle.book_context.proofs.book.turn_steps.fail.Goals as goal
 use Rattle.book_context.proofs.book.turn_steps.fail.Goals.{After-turns_are_recorded}
 
-did : (g : given.Over) (c : After-turns_are_recorded g) → steps.HasFailed g.N.Session.told c.args.record.now
+did : (g : given.Over) (c : After-turns_are_recorded g) → steps.HasFailed g.N.Session.told c.args.recording.now
 did g c =
-    c.turns_are_recorded.ensures.faults g.N.Session.told c.args.record.now c.requires.history.recorded c.requires.round
+    c.turns_are_recorded.ensures.faults g.N.Session.told c.args.recording.now c.requires.history.recorded c.requires.round
     c.requires.works c.requires.untold
 
 pub push_fault-requires : goal.push_fault-requires
@@ -21,13 +21,13 @@ returns-clause-history g c =
     subst (KeepsHistory g.N.Session.script g.N.Session.told g.N.Session.run g.N.Session.drop g.N.Session.outside)
     (sym c.push_fault.ensures)
     (fault_history g.N.Session.script g.N.Session.told g.N.Session.run g.N.Session.drop g.N.Session.outside
-    c.args.record.now c.requires.history c.requires.round
+    c.args.recording.now c.requires.history c.requires.round
     (did g (goal.at.returns-clause-history g c).After-turns_are_recorded) c.requires.some)
 
 pub returns-clause-broken : goal.returns-clause-broken
 returns-clause-broken g c =
     let failed = did g (goal.at.returns-clause-broken g c).After-turns_are_recorded in
-    subst (HasBroken g.N.Session.told c.args.record.now) (sym c.push_fault.ensures)
+    subst (HasBroken g.N.Session.told c.args.recording.now) (sym c.push_fault.ensures)
     (record {
       is = refl;
       script = refl;

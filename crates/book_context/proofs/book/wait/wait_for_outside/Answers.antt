@@ -9,10 +9,10 @@ use Rattle.book_context.proofs.book.wait.wait_for_outside.Goals as goal
 use Rattle.book_context.proofs.book.wait.wait_for_outside.Goals.{Start}
 
 turned : (g : given.Over) (c : Start g) →
-    IsTurned g.X.Reactor.state g.X.Reactor.told (recorded_half g.N.Session.told c.args.record.now) c.args.proactor.now
+    IsTurned g.X.Reactor.state g.X.Reactor.told (recorded_half g.N.Session.told c.args.recording.now) c.args.proactor.now
 turned g c =
     now_turned g.X.Reactor.state g.X.Reactor.told g.X.Reactor.faults g.N.Session.told g.N.Session.faults
-    c.args.record.now c.args.proactor.now c.requires.reactor c.requires.going
+    c.args.recording.now c.args.proactor.now c.requires.reactor c.requires.going
 
 pub has_work-requires-clause-sound : goal.has_work-requires-clause-sound
 has_work-requires-clause-sound g c = (turned g (goal.at.has_work-requires-clause-sound g c).Start).telling.sound
@@ -23,7 +23,7 @@ has_work-requires-clause-guards g c =
     sound_guards g.X.Reactor.state g.X.Reactor.told c.args.proactor.now
     (turned g (goal.at.has_work-requires-clause-guards g c).Start).telling.sound in
     let script = ap (λ s. s.guards) c.requires.reactor.script in
-    let few = few_guards c.args.record.now.script c.requires.history.recorded.script in
+    let few = few_guards c.args.recording.now.script c.requires.history.recorded.script in
     omega (arith, same, script, few)
 
 pub pending-requires : goal.pending-requires
