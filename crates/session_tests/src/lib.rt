@@ -1,9 +1,7 @@
-//! Tests that cross crates: what one crate does is judged by another that knows nothing of it; and
-//! whole sessions, by what they write. Nothing stands on it.
+//! Tests that cross crates: whole sessions, by what they write and by what the checker says of it.
+//! Nothing stands on it.
 #![tactic(auto)]
 
-#[cfg(test)]
-mod executions;
 #[cfg(test)]
 mod failing;
 #[cfg(test)]

@@ -6,6 +6,7 @@ ghost use Rattle.strand_core.specs.Hands.{same_lane};
 
 use crate::listing::Listing;
 use crate::noting::{Marks, Noting, hands_of, rack_of, script_of};
+use crate::wanted::{MEMORY, has_trace};
 use asio_types::{Code, Lane, OpNo};
 use op_handlers::{Call, Rack};
 use session_script::{Script, parents_come_first};
@@ -14,7 +15,7 @@ use std::cell::Cell;
 use std::process::Abort;
 use strand_core::{Execution, Hands, execute};
 
-const MARKS: Marks = [(7, 70), (8, 80), (9, 90), (0, 0)];
+const MARKS: Marks = [(7, 70), (8, 80), (9, 90), (0, 0), (0, 0)];
 
 /// An operation that completed, with its code and its size, and what its execution comes to.
 type Row = (OpNo, Code, u32, Execution);
@@ -22,7 +23,7 @@ type Row = (OpNo, Code, u32, Execution);
 /// Executes these operations in turn, each as its row says.
 fn execute_rows<'a, 'b, R: Abort>(
     rt: &R,
-    listing: &mut Listing<R>,
+    listing: &mut Listing<'_, R>,
     script: &Script,
     mut hands: Hands<'a, Noting<'b>>,
     rows: &[Row],
@@ -42,14 +43,14 @@ fn is_last<R: Abort>(rt: &R, last: &Cell<Option<Call>>, call: Option<Call>) {
 }
 
 /// Executes an operation with the hands of each of two lanes, as its row says, each time with this
-/// as the last call of a handler. All calls have this text.
+/// as the last call of a handler. All calls have this trace.
 fn execute_each<R: Abort + Copy>(
     rt: R,
     alloc: Global,
     text: &str,
     lanes: (Lane, Lane),
     rows: [(Row, Option<Call>); 2],
-    calls: &str,
+    trace: &str,
 )
     requires { same_lane lanes.0 lanes.1 ≡ false }
 {
@@ -58,13 +59,14 @@ fn execute_each<R: Abort + Copy>(
     let mut rack = rack_of(&rt, alloc, MARKS, &last);
     let (first, second) = hands_of(&rt, alloc, &script, lanes, &mut rack);
     rack.discard_all();
-    let mut listing = Listing::new(rt, alloc);
+    let mut listing = Listing::new(rt, alloc, &script);
     let [(one, one_call), (other, other_call)] = rows;
     execute_rows(&rt, &mut listing, &script, first, &[one]);
     is_last(&rt, &last, one_call);
     execute_rows(&rt, &mut listing, &script, second, &[other]);
     is_last(&rt, &last, other_call);
-    listing.is_text(alloc, &script, calls);
+    let events = listing.into_events();
+    has_trace(&rt, alloc, events.as_slice(), trace, text);
 }
 
 #[test]
@@ -97,15 +99,15 @@ fn a_handler_is_called_with_its_own_operation_and_size(rt: HostRuntime) {
         ((1, Code::Ok, 3, Execution::Whole(8)), Some(inner)),
         ((0, Code::Eof, 5, Execution::Whole(7)), Some(alone)),
     ];
-    let calls =
-        "begin 1 ok 3 / call 2 / begin 2 ok 0 / end 2 9 / back 2 / end 1 8 / begin 0 eof 5 / end 0 7 / ";
+    let trace =
+        "begin 1 ok 3\ncall 2\nbegin 2 ok 0\nend 2 9\nback 2\nend 1 8\nbegin 0 eof 5\nend 0 7\n";
     execute_each(
         rt,
         rt.alloc(),
         text,
         (Lane::Own(1), Lane::Own(0)),
         rows,
-        calls,
+        trace,
     );
 }
 
@@ -120,7 +122,7 @@ fn all_hands<'a, 'b, R: Abort>(
     requires enough { length script.now.acts ≤ length (handlers_in rack.old) }
     ensures { result.script ≡ script.now }
 {
-    Hands::of_script(alloc, script, rack).expect(rt, "memory for a test")
+    Hands::of_script(alloc, script, rack).expect(rt, MEMORY)
 }
 
 #[test]
@@ -131,15 +133,16 @@ fn the_hands_of_a_script_hold_the_handlers_of_each_lane(rt: HostRuntime) {
     let mut rack = rack_of(&rt, rt.alloc(), MARKS, &last);
     let hands = all_hands(&rt, rt.alloc(), &script, &mut rack);
     rack.discard_all();
-    let mut listing = Listing::new(rt, rt.alloc());
+    let mut listing = Listing::new(rt, rt.alloc(), &script);
     let rows = [
         (1, Code::Ok, 0, Execution::Whole(8)),
         (0, Code::Ok, 0, Execution::Whole(7)),
     ];
     execute_rows(&rt, &mut listing, &script, hands, &rows);
-    let calls =
-        "begin 1 ok 0 / call 2 / begin 2 ok 0 / end 2 9 / back 2 / end 1 8 / begin 0 ok 0 / end 0 7 / ";
-    listing.is_text(rt.alloc(), &script, calls);
+    let trace =
+        "begin 1 ok 0\ncall 2\nbegin 2 ok 0\nend 2 9\nback 2\nend 1 8\nbegin 0 ok 0\nend 0 7\n";
+    let events = listing.into_events();
+    has_trace(&rt, rt.alloc(), events.as_slice(), trace, text);
 }
 
 /// The handlers of a strand are taken out of the rack, and given back.
@@ -147,10 +150,7 @@ fn give_back<'a, R: Abort>(rt: &R, alloc: Global, script: &Script, rack: &mut Ra
     requires whole { IsWholeRack rack.old }
     requires enough { length script.now.acts ≤ length (handlers_in rack.old) }
 {
-    let hands = Hands::of_lane(alloc, script, Lane::Strand(0), rack).expect(
-        rt,
-        "memory for a test",
-    );
+    let hands = Hands::of_lane(alloc, script, Lane::Strand(0), rack).expect(rt, MEMORY);
     let whole = rack.is_whole();
     assert!(rt; !whole);
     hands.give_back(rack);

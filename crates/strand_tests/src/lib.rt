@@ -1,5 +1,5 @@
-//! Tests of one execution on a lane: what it posts for each body, which handlers are called, and
-//! what becomes of the others. Nothing stands on it.
+//! Tests of executions on a lane: what one posts for each body, which handlers are called, what
+//! becomes of the others, and that executions in turn make legal histories. Nothing stands on it.
 #![tactic(auto)]
 
 #[cfg(test)]
@@ -10,3 +10,5 @@ mod listing;
 mod noting;
 #[cfg(test)]
 mod strands;
+#[cfg(test)]
+mod wanted;

@@ -1,59 +1,79 @@
-//! The list of what executions posted, and its text.
+//! The list of what executions posted, and the history of which it is a part.
 
 ghost use Rattle.std.specs.Prelude.{◌≡◌, ◌∷◌, ◌++◌, []};
 
-use asio_types::{ActNo, Code, OpNo};
+use crate::wanted::MEMORY;
+use asio_types::{ActNo, Code, Event, OpNo};
 use op_handlers::Ran;
 use session_script::Script;
 use std::alloc::Global;
 use std::process::Abort;
 use strand_core::{Posted, Poster};
 
-/// Keeps the list of its calls.
-pub(crate) struct Listing<R> {
+/// Keeps the list of its calls until it is cleared, and the events of all.
+pub(crate) struct Listing<'a, R> {
     rt: R,
+    script: &'a Script,
     posted: Vec<Posted>,
+    events: Vec<Event>,
 }
 
-impl<R: Abort> Listing<R> {
+impl<'a, R: Abort> Listing<'a, R> {
     /// One that has no call.
-    pub(crate) fn new(rt: R, alloc: Global) -> Listing<R> {
+    pub(crate) fn new(rt: R, alloc: Global, script: &'a Script) -> Listing<'a, R> {
         Listing {
             rt,
+            script,
             posted: Vec::new(alloc),
+            events: Vec::new(alloc),
         }
     }
 
-    /// All calls so far.
+    /// The calls since it was cleared.
     pub(crate) fn posted(&self) -> &[Posted] {
         self.posted.as_slice()
+    }
+
+    /// Forgets the calls so far, and none of their events.
+    pub(crate) fn clear(&mut self) {
+        self.posted.clear();
+    }
+
+    /// An event behind those so far.
+    pub(crate) fn record(&mut self, event: Event)
+        ensures { self.new.posted.items ≡ self.old.posted.items }
+    {
+        self.events.push(event).expect(&self.rt, MEMORY);
     }
 
     fn push(&mut self, posted: Posted)
         ensures { self.new.posted.items ≡ self.old.posted.items ++ posted ∷ [] }
     {
-        self.posted
-            .push(posted)
-            .expect(&self.rt, "memory for a test");
+        self.posted.push(posted).expect(&self.rt, MEMORY);
     }
 }
 
-impl<R: Abort + Copy> Listing<R> {
-    /// All calls are these, as a trace has them with ` / ` behind each line.
-    pub(crate) fn is_text(self, alloc: Global, script: &Script, calls: &str) {
-        let Listing { rt, posted } = self;
-        let text = text_of(&rt, alloc, script, posted.as_slice());
-        assert_eq!(rt; text.as_str(), calls);
+impl<'a, R: Copy> Listing<'a, R> {
+    /// All events.
+    pub(crate) fn into_events(self) -> Vec<Event> {
+        let Listing {
+            rt: _,
+            script: _,
+            posted: _,
+            events,
+        } = self;
+        events
     }
 }
 
-impl<R: Abort> Poster for Listing<R> {
+impl<'a, R: Abort> Poster for Listing<'a, R> {
     ghost made = { λ p. p.posted.items };
 
     ghost takes = { λ p calls. Unit {0} };
 
     fn begin(&mut self, op: OpNo, code: Code, size: u32) -> u64 {
-        let begun = self.posted.len() as u64;
+        let begun = self.events.len() as u64;
+        self.record(Event::Begin { op, code, size });
         self.push(Posted::Begin {
             op,
             code,
@@ -64,53 +84,22 @@ impl<R: Abort> Poster for Listing<R> {
     }
 
     fn call(&mut self, act: ActNo) {
+        self.record(Event::Call { act });
+        if act < self.script.acts() && self.script.is_stop(act) {
+            self.record(Event::Stop { act: Some(act) });
+        }
         self.push(Posted::Call { act });
     }
 
     fn back(&mut self, act: ActNo) {
+        self.record(Event::Back { act });
         self.push(Posted::Back { act });
     }
 
     fn end(&mut self, op: OpNo, ran: Ran) {
+        self.record(Event::End { op, mark: ran.mark });
         self.push(Posted::End { op, ran });
     }
 
     ghost first_part = { λ p first rest taken. tt };
-}
-
-/// Writes a word and a number behind a text.
-fn push_number<R: Abort>(rt: &R, text: &mut String, word: &str, number: u64) {
-    write!(text, "{word} {number}").expect(rt, "memory for a test");
-}
-
-/// Writes a call behind a text, as a trace has it.
-fn push_call<R: Abort>(rt: &R, text: &mut String, script: &Script, call: Posted) {
-    match call {
-        Posted::Begin { op, code, size, .. } => {
-            push_number(rt, text, "begin", u64::from(op));
-            let word = if code == Code::Ok { " ok" } else { " eof" };
-            push_number(rt, text, word, u64::from(size));
-        }
-        Posted::Call { act } => {
-            push_number(rt, text, "call", u64::from(act));
-            if act < script.acts() && script.is_stop(act) {
-                push_number(rt, text, " / stop", u64::from(act));
-            }
-        }
-        Posted::Back { act } => push_number(rt, text, "back", u64::from(act)),
-        Posted::End { op, ran } => {
-            push_number(rt, text, "end", u64::from(op));
-            push_number(rt, text, "", ran.mark);
-        }
-    }
-}
-
-/// The lines of some calls.
-fn text_of<R: Abort>(rt: &R, alloc: Global, script: &Script, posted: &[Posted]) -> String {
-    let mut text = String::new(alloc);
-    for &call in posted {
-        push_call(rt, &mut text, script, call);
-        text.push_str(" / ").expect(rt, "memory for a test");
-    }
-    text
 }

@@ -4,6 +4,7 @@ ghost use Rattle.std.specs.Prelude.{◌≡◌, ◌≤◌, false, length, IsSome}
 ghost use Rattle.op_handlers.specs.Rack.{IsWholeRack, handlers_in};
 ghost use Rattle.strand_core.specs.Hands.{same_lane};
 
+use crate::wanted::MEMORY;
 use asio_types::{Lane, class_of};
 use op_handlers::{Call, CompletionHandler, Rack, Ran};
 use session_script::{Script, read_script};
@@ -13,7 +14,7 @@ use std::process::Abort;
 use strand_core::Hands;
 
 /// The run mark and the drop mark of each handler.
-pub(crate) type Marks = [(u64, u64); 4];
+pub(crate) type Marks = [(u64, u64); 5];
 
 /// A handler with its two marks, which notes its call.
 #[derive(Clone, Copy)]
@@ -49,7 +50,7 @@ fn handler_of<'a>(marks: (u64, u64), last: &'a Cell<Option<Call>>) -> Option<Not
     Some(Noting { run, drop, last })
 }
 
-/// A whole rack of four handlers with these marks.
+/// A whole rack of five handlers with these marks.
 pub(crate) fn rack_of<'a, R: Abort>(
     rt: &R,
     alloc: Global,
@@ -57,26 +58,27 @@ pub(crate) fn rack_of<'a, R: Abort>(
     last: &'a Cell<Option<Call>>,
 ) -> Rack<Noting<'a>>
     ensures whole { IsWholeRack result }
-    ensures count { length (handlers_in result) ≡ 4 }
+    ensures count { length (handlers_in result) ≡ 5 }
 {
-    let [first, second, third, fourth] = marks;
+    let [first, second, third, fourth, fifth] = marks;
     let handlers = vec![in alloc;
         handler_of(first, last),
         handler_of(second, last),
         handler_of(third, last),
         handler_of(fourth, last),
+        handler_of(fifth, last),
     ]
-    .expect(rt, "memory for a test");
+    .expect(rt, MEMORY);
     Rack::of(handlers)
 }
 
-/// The script of this text, which has at most four acts.
+/// The script of this text, which has at most five acts.
 pub(crate) fn script_of<R: Abort>(rt: &R, alloc: Global, text: &str) -> Script
-    ensures { length result.acts ≤ 4 }
+    ensures { length result.acts ≤ 5 }
 {
     let script = read_script(alloc, text.as_bytes()).expect(rt, "a script");
     let acts = script.acts();
-    assert!(rt; acts <= 4);
+    assert!(rt; acts <= 5);
     script
 }
 
@@ -95,7 +97,7 @@ pub(crate) fn hands_of<'a, 'b, R: Abort>(
     ensures second { result.1.script ≡ script.now }
 {
     let (first, second) = lanes;
-    let one = Hands::of_lane(alloc, script, first, rack).expect(rt, "memory for a test");
-    let other = Hands::of_lane(alloc, script, second, rack).expect(rt, "memory for a test");
+    let one = Hands::of_lane(alloc, script, first, rack).expect(rt, MEMORY);
+    let other = Hands::of_lane(alloc, script, second, rack).expect(rt, MEMORY);
     (one, other)
 }

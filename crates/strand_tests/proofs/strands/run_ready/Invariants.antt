@@ -5,6 +5,6 @@ abbrev pub invariant-loop : goal.invariant-loop
 invariant-loop g l =
     record {
       ready : l.ready.acts ≡ l.fn.ready.acts;
-      first : l.first.script ≡ l.fn.script;
-      second : l.second.script ≡ l.fn.script;
+      first : l.hands.0.script ≡ l.fn.script;
+      second : l.hands.1.script ≡ l.fn.script;
     }
