@@ -13,7 +13,7 @@ use Rattle.history_book.specs.State.{ReactorHalf, State}
 use Rattle.history_book.specs.Time.{next_time}
 use Rattle.proactor_core.specs.Proactor.{after_point}
 use Rattle.book_context.specs.Book.{KeepsHistory}
-use Rattle.book_context.specs.BookSteps.{BeginsTurn, passed}
+use Rattle.book_context.specs.BookSteps.{BeginsTurn, passed_event}
 use Rattle.book_context.specs.InTurn.{HasBegun}
 use Rattle.book_context.specs.Oldest.{with_request}
 use Rattle.book_context.specs.Recorded.{IsRecorded, recorded_half, recorded_state}
@@ -71,24 +71,24 @@ module _ (script : ScriptModel) (told : Bool) (run drop : ℕ → ℕ) (outside 
       faults = faults-plain run drop r.events (event ∷ []) plain;
     }
 
-    point_plain : (point : Point) → IsPlain run drop (passed point ∷ [])
+    point_plain : (point : Point) → IsPlain run drop (passed_event point ∷ [])
     point_plain (point.Time now) = record { marked = (tt, tt); working = refl; inside = refl }
     point_plain point.Last = record { marked = (tt, tt); working = refl; inside = refl }
 
     pub point_turned : steps.TicksAreRecorded → steps.LastIsRecorded → IsRecorded told r → steps.IsWaiting told r →
         (point : Point) → next_time r.script (recorded_half told r) ≡ point →
-        steps.TurnIsBegun told r (passed point) (with_event (passed point) r)
+        steps.TurnIsBegun told r (passed_event point) (with_event (passed_event point) r)
     point_turned ticks last recorded waiting (point.Time now) next = ticks told r now recorded waiting next
     point_turned ticks last recorded waiting point.Last next = last told r recorded waiting next
 
-    pub tick_history : (point : Point) → steps.TurnIsBegun told r (passed point) (with_event (passed point) r) →
-        KeepsHistory script told run drop outside (with_event (passed point) r)
+    pub tick_history : (point : Point) → steps.TurnIsBegun told r (passed_event point) (with_event (passed_event point) r) →
+        KeepsHistory script told run drop outside (with_event (passed_event point) r)
     tick_history point did =
-        history-plain script told run drop outside r (with_event (passed point) r) (passed point ∷ []) keeps
+        history-plain script told run drop outside r (with_event (passed_event point) r) (passed_event point ∷ []) keeps
         did.goes.recorded refl refl (point_plain point)
 
-    pub tick_begun : (point : Point) → steps.TurnIsBegun told r (passed point) (with_event (passed point) r) →
-        HasBegun told r (with_event (passed point) r) (after_point r.script told point (recorded_half told r))
+    pub tick_begun : (point : Point) → steps.TurnIsBegun told r (passed_event point) (with_event (passed_event point) r) →
+        HasBegun told r (with_event (passed_event point) r) (after_point r.script told point (recorded_half told r))
     tick_begun (point.Time now) did = point_begun (event.Tick now) (point_plain (point.Time now)) tt _ refl did
     tick_begun point.Last did = point_begun event.Last (point_plain point.Last) tt _ refl did
 

@@ -12,7 +12,7 @@ use Rattle.book_context.specs.declared.answer.BookTurn.{BookTurn}
 use Rattle.book_context.specs.declared.answer.BookTurn.TheVariants as turn
 use Rattle.book_context.specs.Book.{BookView, HoldsUnspent, IsBook, ReactorKeepsTime, IsTurned, KeepsHistory, KeepsReactor, unless_spent}
 use Rattle.book_context.specs.BookSteps.{TurnAnswers, IsGoing, IsIdleRound, is_round_open}
-use Rattle.book_context.specs.InTurn.{HasExecutedNext, HasTakenNext, SpendsNone, TurnsReactor, Waits}
+use Rattle.book_context.specs.InTurn.{HasExecutedNext, HasTakenNext, SpendsNone, TurnsReactor, WaitsForOutside}
 use Rattle.book_context.specs.Recorded.{is_spent_at, recorded_state}
 use Rattle.book_context.specs.Recording.{Recording}
 use Rattle.book_context.specs.Steps.{IsRoundOpen, OpenRoundsAreKnown}
@@ -84,7 +84,7 @@ module _ {H X : Type 0} (script : ScriptModel) (told : Bool) (run drop : ℕ →
     taken_answer answer t left did = turned_answer answer t left did.turned
 
     pub waited_answer : (answer : BookTurn) (t : Recording) (left : ProactorView X) →
-        Waits faults told answer r t view left → TurnAnswers faults script told run answer (shown r view) (shown t left)
+        WaitsForOutside faults told answer r t view left → TurnAnswers faults script told run answer (shown r view) (shown t left)
     waited_answer turn.Did t left did = turned_answer turn.Did t left did
     waited_answer turn.Fault t left did = turned_answer turn.Fault t left did
     waited_answer turn.Ended t left did = (same_shown r t view left did.0 did.1, is_going, did.2)

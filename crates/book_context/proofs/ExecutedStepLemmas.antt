@@ -11,7 +11,7 @@ use Rattle.asio_types.specs.declared.code.Code.TheVariants as code
 use Rattle.session_script.specs.Script.{ScriptModel, is_op, parent_of}
 use Rattle.session_script.specs.Lanes.{is_inline}
 use Rattle.strand_core.specs.Execution.{AnyMark, AreCalls, IsWholeExecution, no_act, outside, inside, events_of, execution_of}
-use Rattle.strand_core.specs.Hands.{begins}
+use Rattle.strand_core.specs.Hands.{begins_among}
 use Rattle.strand_core.specs.declared.posted.Posted.{Posted}
 use Rattle.strand_core.specs.declared.posted.Posted.TheVariants as posted
 use Rattle.history_book.specs.Executions.{MayBeginOutside}
@@ -49,12 +49,12 @@ use Rattle.book_context.proofs.RestLemmas.{is_within}
 use Rattle.book_context.proofs.SummingLemmas.{one_if, only, summed, summed-both, summed-only, weigh, weigh-same}
 use Rattle.book_context.proofs.WorkLemmas.{ready_count, request_count}
 
-begins-append : (n : ℕ) (xs ys : List Posted) → begins n (xs ++ ys) ≡ (begins n xs || begins n ys)
+begins-append : (n : ℕ) (xs ys : List Posted) → begins_among n (xs ++ ys) ≡ (begins_among n xs || begins_among n ys)
 begins-append n [] ys = refl
 begins-append n (posted.Begin op code size begun ∷ xs) ys = by_test (op == n) (begins-append n xs ys)
   where
-    by_test : (b : Bool) → begins n (xs ++ ys) ≡ (begins n xs || begins n ys) →
-        cond b true (begins n (xs ++ ys)) ≡ (cond b true (begins n xs) || begins n ys)
+    by_test : (b : Bool) → begins_among n (xs ++ ys) ≡ (begins_among n xs || begins_among n ys) →
+        cond b true (begins_among n (xs ++ ys)) ≡ (cond b true (begins_among n xs) || begins_among n ys)
     by_test true rest = refl
     by_test false rest = rest
 begins-append n (posted.Call act ∷ xs) ys = begins-append n xs ys
@@ -66,9 +66,9 @@ or_none true = refl
 or_none false = refl
 
 pub begins-execution : (n op : ℕ) (code : Code) (size begun mark : ℕ) (body : List Posted) →
-    begins n (execution_of op code size begun mark body) ≡ cond (op == n) true (begins n body)
+    begins_among n (execution_of op code size begun mark body) ≡ cond (op == n) true (begins_among n body)
 begins-execution n op code size begun mark body =
-    ap (λ b. cond (op == n) true b) (begins-append n body _ ∙ or_none (begins n body))
+    ap (λ b. cond (op == n) true b) (begins-append n body _ ∙ or_none (begins_among n body))
 
 outside_by : (here called inline began : Bool) → (here ≡ true → inline ≡ false) → began ≡ (called && inline) →
     began ≡ (cond here true called && inline)
@@ -90,21 +90,21 @@ inside_by false false false false first second is one two = ap (λ b. b || secon
 
 -- what begins among calls is what is called and executes inside its call
 pub begins-calls : (script : ScriptModel) {HasMark : ℕ → ℕ → Type 0} {acts : List ℕ} {calls : List Posted} (n : ℕ) →
-    AreCalls script HasMark acts calls → begins n calls ≡ (is_called n calls && is_inline script n)
+    AreCalls script HasMark acts calls → begins_among n calls ≡ (is_called n calls && is_inline script n)
 begins-calls script n no_act = refl
 begins-calls script n (outside {act} {acts} {calls} isnt more) =
-    outside_by (act == n) (is_called n calls) (is_inline script n) (begins n calls)
+    outside_by (act == n) (is_called n calls) (is_inline script n) (begins_among n calls)
     (λ same. ap (is_inline script) (sym (eqb-true act n same)) ∙ isnt) (begins-calls script n more)
 begins-calls script n (inside {act} {begun} {mark} {acts} {body} {calls} is marked inner more) =
     let execution : List Posted = execution_of act code.Ok 0 begun mark body in
     let began =
     begins-append n execution (posted.Back act ∷ calls)
-    ∙ ap (λ b. b || begins n calls) (begins-execution n act code.Ok 0 begun mark body) in
+    ∙ ap (λ b. b || begins_among n calls) (begins-execution n act code.Ok 0 begun mark body) in
     let called : is_called n (execution ++ posted.Back act ∷ calls) ≡ (is_called n body || is_called n calls) =
     called-append n execution (posted.Back act ∷ calls)
     ∙ ap (λ b. b || is_called n calls) (called-execution n act code.Ok 0 begun mark body) in
     began
-    ∙ (inside_by (act == n) (is_called n body) (is_called n calls) (is_inline script n) (begins n body) (begins n calls)
+    ∙ (inside_by (act == n) (is_called n body) (is_called n calls) (is_inline script n) (begins_among n body) (begins_among n calls)
     (λ same. ap (is_inline script) (sym (eqb-true act n same)) ∙ is) (begins-calls script n inner)
     (begins-calls script n more) ∙ ap (λ b. cond (act == n) true b && is_inline script n) (sym called))
 
@@ -380,30 +380,30 @@ module _ (told : Bool) (r : Recording) (op : ℕ) (given : Code) (size : ℕ) (n
           (λ same. knows.kinds.inline n is);
     }
 
-    began : (n : ℕ) → begins n calls ≡ cond (op == n) true (is_called n calls && is_inline r.script n)
-    began n = ap (begins n) whole.is
+    began : (n : ℕ) → begins_among n calls ≡ cond (op == n) true (is_called n calls && is_inline r.script n)
+    began n = ap (begins_among n) whole.is
         ∙ (begins-execution n op given size whole.begun whole.mark whole.body
         ∙ ap (λ b. cond (op == n) true b) (begins-calls r.script n whole.acts ∙ ap (λ b. b && is_inline r.script n) (sym (in_body n))))
 
-    spent_now : (n : ℕ) → is_spent (phase_at t.context n) ≡ (is_spent (phase_at s.context n) || begins n calls)
+    spent_now : (n : ℕ) → is_spent (phase_at t.context n) ≡ (is_spent (phase_at s.context n) || begins_among n calls)
     spent_now n = elim (cases_Bool (is_called n calls)) [
       | inl is ↦
           let absent : is_spent (phase_at s.context n) ≡ false =
           ap is_spent (knows.kept.orderly.uncalled n (uncalled n is)) in
-          let begin : begins n calls ≡ is_inline r.script n =
+          let begin : begins_among n calls ≡ is_inline r.script n =
           began n
           ∙ (ap (λ b. cond b true (is_called n calls && is_inline r.script n))
           (ne_eqb op n (λ same. differs n is (sym same))) ∙ ap (λ b. b && is_inline r.script n) is) in
           ap is_spent (called_phase n is)
-          ∙ (settled_spent r.script n ∙ (sym begin ∙ ap (λ b. b || begins n calls) (sym absent)))
+          ∙ (settled_spent r.script n ∙ (sym begin ∙ ap (λ b. b || begins_among n calls) (sym absent)))
       | inr isnt ↦ elim (cases_eq n op) [
         | inl same ↦
-            let begin : begins n calls ≡ true =
+            let begin : begins_among n calls ≡ true =
             began n ∙ ap (λ b. cond b true (is_called n calls && is_inline r.script n)) (eq-eqb op n (sym same)) in
             ap is_spent (ended_phase n same)
             ∙ (sym (or_true (is_spent (phase_at s.context n))) ∙ ap (λ b. is_spent (phase_at s.context n) || b) (sym begin))
         | inr differ ↦
-            let begin : begins n calls ≡ false =
+            let begin : begins_among n calls ≡ false =
             began n
             ∙ (ap (λ b. cond b true (is_called n calls && is_inline r.script n))
             (ne_eqb op n (λ same. differ (sym same))) ∙ ap (λ b. b && is_inline r.script n) isnt) in

@@ -15,7 +15,7 @@ use Rattle.strand_core.specs.declared.posted.Posted.{Posted}
 use Rattle.strand_core.specs.declared.posted.Posted.TheVariants as posted
 use Rattle.strand_core.specs.Answer.{CanExecute}
 use Rattle.strand_core.specs.Execution.{AnyMark, AreCalls, no_act, outside, inside, IsWholeExecution, events_of, execution_of}
-use Rattle.strand_core.specs.Hands.{Held, begins, held_at, left_at}
+use Rattle.strand_core.specs.Hands.{Held, begins_among, held_at, left_at}
 use Rattle.book_context.specs.Book.{HoldsUnspent, KeepsHistory, unless_spent}
 use Rattle.book_context.specs.BookSteps.{HasGoneOn}
 use Rattle.book_context.specs.InTurn.{KeepsFaults}
@@ -209,7 +209,7 @@ module _ {H : Type 0} (marks : H → Marks) (script : ScriptModel) (told : Bool)
           script = did.script ∙ holds.script;
           each = λ n.
               ap (option_map marks) (did.spent n)
-              ∙ held_after marks (begins n did.calls) (held_at held n) (not (is_op r.script n))
+              ∙ held_after marks (begins_among n did.calls) (held_at held n) (not (is_op r.script n))
               (is_spent_at told (with_ready (op, code, size) r) n) (record { run = run n; drop = drop n })
               (holds.each n)
               ∙ ap (λ b. unless_spent (not (is_op r.script n) || b) (record { run = run n; drop = drop n }))

@@ -10,7 +10,7 @@ use Rattle.session_script.specs.Script.{ScriptModel}
 use Rattle.history_book.specs.Legal.{IsLegal, state_of}
 use Rattle.history_book.specs.State.{ReactorHalf}
 use Rattle.reactor_trait.specs.Reactor.{Outside, ReactorState}
-use Rattle.proactor_core.specs.Proactor.{Follows, IsSound, ProactorView, StandsAt, sent_of}
+use Rattle.proactor_core.specs.Proactor.{Follows, IsSound, ProactorView, StandsAt, sent_to_peer}
 use Rattle.strand_core.specs.Hands.{Held}
 use Rattle.book_context.specs.Book.{HoldsUnspent, KeepsHistory, KeepsReactor}
 use Rattle.book_context.specs.BookSteps.{IsBookOver}
@@ -39,7 +39,7 @@ half_at_end script told r t events same is half =
 
 -- the bytes sent are those of this half
 abbrev SentAs : ReactorHalf → Outside → Type 0
-SentAs half outside = map sent_of outside.streams ≡ map sent_of half.streams
+SentAs half outside = map sent_to_peer outside.streams ≡ map sent_to_peer half.streams
 
 module _ {X : Type 0} {state : X → ReactorState} {tells_of : X → Option Outside} {faults : X → ℕ}
     {script : ScriptModel} {told : Bool} {run drop : ℕ → ℕ} {named : ℕ} {outside : Bool} {r : Recording} {view : ProactorView X}

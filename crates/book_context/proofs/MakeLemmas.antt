@@ -13,7 +13,7 @@ use Rattle.session_script.specs.WellFormed.{IsWellFormed}
 use Rattle.history_book.specs.FromOutside.{has_fault, has_outside_stop, is_fault, is_outside_stop}
 use Rattle.history_book.specs.State.{ReactorHalf, first_reactor}
 use Rattle.reactor_trait.specs.Reactor.{Outside, ReactorState}
-use Rattle.proactor_core.specs.Proactor.{SetupIsRefused, ProactorView, tells}
+use Rattle.proactor_core.specs.Proactor.{SetupIsRefused, ProactorView}
 use Rattle.strand_core.specs.Execution.{events_of}
 use Rattle.strand_core.specs.Hands.{Held, taken_at}
 use Rattle.book_context.specs.Begun.{HoldsAll, IsStarted}

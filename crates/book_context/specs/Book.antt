@@ -69,8 +69,8 @@ pub record IsTurned {X : Type 0} (state : X → ReactorState) (told : X → Opti
   pub none_due : half.due ≡ []
   pub drained : IsDrained half
 
--- a proactor between its turns; the reactor's count of faults is the one that is named, and above it
--- where it has failed
+-- a proactor between its turns; the reactor's count of faults is the one that is named, and above
+-- it where it has failed
 pub record KeepsReactor {X : Type 0} (state : X → ReactorState) (told : X → Option Outside)
     (faults : X → ℕ) (tells_bytes : Bool) (named : ℕ) (r : Recording) (view : ProactorView X)
     : Type 0 where

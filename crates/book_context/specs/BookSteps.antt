@@ -50,9 +50,9 @@ IsDone (event.Done op code size) = ⊤
 IsDone _ = ⊥
 
 -- a time point has passed
-abbrev pub passed : Point → Event
-passed (point.Time now) = event.Tick now
-passed point.Last = event.Last
+abbrev pub passed_event : Point → Event
+passed_event (point.Time now) = event.Tick now
+passed_event point.Last = event.Last
 
 -- what begins a turn of the reactor
 abbrev pub BeginsTurn : Event → Type 0

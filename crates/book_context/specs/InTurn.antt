@@ -92,13 +92,13 @@ TurnsReactor turn.Fault old new before after = HasFaulted old new × Rose before
 TurnsReactor _ old new before after = ⊥
 
 -- and where there may be none
-abbrev pub Waits : {X : Type 0} → (X → ℕ) → Bool → BookTurn → Recording → Recording →
+abbrev pub WaitsForOutside : {X : Type 0} → (X → ℕ) → Bool → BookTurn → Recording → Recording →
     ProactorView X → ProactorView X → Type 0
-Waits faults told turn.Ended old new view left =
+WaitsForOutside faults told turn.Ended old new view left =
     (new ≡ old) × (left ≡ view) × (outstanding_work (recorded_state told old) ≡ 0)
-Waits faults told turn.Idle old new view left =
+WaitsForOutside faults told turn.Idle old new view left =
     (new ≡ old) × (left ≡ view) × IsIdleRound old.script (recorded_state told old)
-Waits faults told answer old new view left =
+WaitsForOutside faults told answer old new view left =
     TurnsReactor answer old new (faults view.reactor) (faults left.reactor)
 
 -- the oldest ready operation was executed

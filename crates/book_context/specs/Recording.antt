@@ -9,7 +9,7 @@ use Rattle.session_script.specs.Script.{ScriptModel, opening_of}
 use Rattle.strand_core.specs.declared.posted.Posted.{Posted}
 use Rattle.strand_core.specs.declared.posted.Posted.TheVariants as posted
 use Rattle.strand_core.specs.Execution.{AnyMark, AreCalls, IsWholeExecution, events_of}
-use Rattle.strand_core.specs.Hands.{HasRunMark, Held, begins, held_at, left_at}
+use Rattle.strand_core.specs.Hands.{HasRunMark, Held, begins_among, held_at, left_at}
 use Rattle.book_context.specs.Called.{are_stopping}
 use Rattle.book_context.specs.Order.{postings_of, requests_of}
 
@@ -114,5 +114,5 @@ pub record HasRecorded {H : Type 0} (marks : H → Marks) (op : ℕ) (code : Cod
   pub calls : List Posted
   pub whole : IsWholeExecution old.script (HasRunMark marks held) op code size calls
   pub script : left.script ≡ held.script
-  pub spent : (n : ℕ) → held_at left n ≡ left_at (begins n calls) (held_at held n)
+  pub spent : (n : ℕ) → held_at left n ≡ left_at (begins_among n calls) (held_at held n)
   pub is : new ≡ with_calls calls old

@@ -11,7 +11,7 @@ use Rattle.history_book.specs.Rounds.{RoundIsOpen, restarts}
 use Rattle.history_book.specs.State.{first_reactor}
 use Rattle.strand_core.specs.declared.posted.Posted.{Posted}
 use Rattle.strand_core.specs.Execution.{AnyMark, AreCalls, IsWholeExecution, events_of}
-use Rattle.strand_core.specs.Hands.{IsInlineOf, begins}
+use Rattle.strand_core.specs.Hands.{IsInlineOf, begins_among}
 use Rattle.book_context.specs.Left.{most_history}
 use Rattle.book_context.specs.Order.{postings_of, requests_of}
 use Rattle.book_context.specs.Recorded.{IsRecorded, is_spent_at, recorded_half, recorded_state}
@@ -86,7 +86,7 @@ pub record ExecutionIsRecorded (told : Bool) (r : Recording) (newer : List (ℕ 
   pub reactor : recorded_half told (executed_recording r newer calls) ≡ recorded_half told r
   pub spent : (n : ℕ) →
       is_spent_at told (executed_recording r newer calls) n
-      ≡ (is_spent_at told r n || begins n calls)
+      ≡ (is_spent_at told r n || begins_among n calls)
 
 -- the oldest ready operation, in an open round of a context that isn't stopped
 abbrev pub OldestMayExecute : Type 0

@@ -10,7 +10,7 @@ use Rattle.stream_rules.specs.Moving.{moved_count}
 use Rattle.stream_rules.specs.Serving.{Outcome, after_reading, all_of, ended_by, read_code, some_of}
 use Rattle.stream_rules.specs.declared.serving.Served.{Served}
 use Rattle.stream_rules.specs.Stream.{Stream}
-use Rattle.composed_ops.specs.Asking.{Asking}
+use Rattle.composed_ops.specs.StreamOperation.{StreamOperation}
 use Rattle.composed_ops.specs.Feeding.{IsAnswer, IsAllThere, MayCome, held_after, held_with, stream_after}
 use Rattle.composed_ops.specs.Step.{told_code}
 use Rattle.composed_ops.specs.Want.{counted_want}
@@ -96,7 +96,7 @@ counted-comes missing (byte ∷ held) stream answer some comes =
     rw comes (least, most, within)
 
 -- the stream with the held bytes in front, once some of them or some behind them were consumed
-pub counted-left : (asks : Asking) → ((held piece : List ℕ) → held_with asks held piece ≡ held) →
+pub counted-left : (asks : StreamOperation) → ((held piece : List ℕ) → held_with asks held piece ≡ held) →
     (missing : ℕ) (held : List ℕ) (stream : Stream) (answer : Moved) →
     MayCome stream (counted_want missing held) answer →
     (let left = stream_after asks (counted_want missing held) (moved_count answer) stream in

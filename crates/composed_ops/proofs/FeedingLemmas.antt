@@ -16,7 +16,7 @@ use Rattle.stream_rules.specs.declared.serving.Served.{Served}
 use Rattle.stream_rules.specs.Stream.{Stream}
 use Rattle.composed_ops.specs.declared.want.Want.{Want}
 use Rattle.composed_ops.specs.declared.want.Want.TheVariants as want
-use Rattle.composed_ops.specs.Asking.{Asking, Reads, Writes}
+use Rattle.composed_ops.specs.StreamOperation.{StreamOperation, Reads, Writes}
 use Rattle.composed_ops.specs.Feeding.{Exchange, MayBeAsked, MayAnswer, MayCome, GoesOn, MachinesGoOn, MachinesComplete, course_at, course_of, exchange_answered, whole_stream, wanted_in}
 use Rattle.composed_ops.specs.Progress.{before_latest, newest}
 use Rattle.composed_ops.specs.Step.{outcome_by, told_code}
@@ -25,7 +25,7 @@ use Rattle.composed_ops.proofs.AnswerLemmas.{all-by, all-on, counted-comes, coun
 use Rattle.composed_ops.proofs.CourseLemmas.{held-left, read-all-on, read-none-on, read_course, write-all-on, write-none-on, write_course}
 use Rattle.composed_ops.proofs.WantLemmas.{IsUnfound, until-ended, until-open}
 
-abbrev pub exchange_with : Asking → ℕ → Option ℕ → List ℕ → Stream → Exchange
+abbrev pub exchange_with : StreamOperation → ℕ → Option ℕ → List ℕ → Stream → Exchange
 exchange_with asks before latest held stream =
     record { progress = record { asks = asks; moved = before; latest = latest }; held = held; stream = stream }
 
@@ -285,7 +285,7 @@ until-read delimiter held max before latest stream answer o None = λ found come
     until-step delimiter held max before latest stream answer o
     (until-open (first_end delimiter (take max held)) max (length held) None found) comes ready is
 
-step-is : (asks : Asking) (before : ℕ) (latest : Option ℕ) (held : List ℕ) (stream : Stream) (answer : Moved)
+step-is : (asks : StreamOperation) (before : ℕ) (latest : Option ℕ) (held : List ℕ) (stream : Stream) (answer : Moved)
     (o : Option Outcome) →
     (let exchange = exchange_with asks before latest held stream in
     MayBeAsked exchange → MayAnswer exchange answer → outcome_by exchange.progress answer ≡ o →

@@ -16,7 +16,7 @@ use Rattle.stream_rules.specs.Serving.{Reading, Some_bytes, All_bytes, Until, Wr
 use Rattle.stream_rules.specs.declared.serving.Served.{Served}
 use Rattle.stream_rules.specs.Stream.{Stream}
 use Rattle.composed_ops.specs.declared.want.Want.TheVariants as want
-use Rattle.composed_ops.specs.Asking.{Asking, Reads, Writes, size_of}
+use Rattle.composed_ops.specs.StreamOperation.{StreamOperation, Reads, Writes, most_moved}
 use Rattle.composed_ops.specs.Feeding.{ComesWhole, HasNothing, HeldMayBeConsumed, IsAnswer, IsFilled, MayBeAsked, IsToldAnswer, IsAllThere, MayCome, ReadsMayBeAnswered, WritesMayBeAnswered, bytes_from, whole_stream, wanted_in}
 use Rattle.composed_ops.specs.Progress.{MovedBefore}
 use Rattle.composed_ops.specs.Want.{asking_want, counted_want, until_want}
@@ -107,7 +107,7 @@ counted-some : (missing most : ℕ) (held : List ℕ) → 1 ≤ missing → coun
 counted-some missing most [] some is = let same : missing ≡ most = cc in omega arith
 counted-some missing most (b ∷ held) some is = absurd (cc)
 
-asks-some : (asks : Asking) (before most : ℕ) (held : List ℕ) → before < size_of asks →
+asks-some : (asks : StreamOperation) (before most : ℕ) (held : List ℕ) → before < most_moved asks →
     asking_want asks before held ≡ want.Read most → 1 ≤ most
 asks-some (Reads (Some_bytes size)) before most held missing is =
     counted-some (size - before) most held (omega arith) is
@@ -126,7 +126,7 @@ some-whole size before most [] stream answer fresh is whole =
     rw all at whole
 some-whole size before most (b ∷ held) stream answer fresh is whole = absurd (cc)
 
-read-whole : (asks : Asking) (before most : ℕ) (latest : Option ℕ) (held : List ℕ) (stream : Stream) (answer : Moved) →
+read-whole : (asks : StreamOperation) (before most : ℕ) (latest : Option ℕ) (held : List ℕ) (stream : Stream) (answer : Moved) →
     MovedBefore asks before → asking_want asks before held ≡ want.Read most →
     IsAllThere most (length stream.arrived) answer →
     ComesWhole asks (whole_stream (exchange_with asks before latest held stream)) answer
@@ -178,7 +178,7 @@ write-whole (Some_of bytes) before most latest held stream answer fresh same who
     let all : most ≡ length bytes = omega arith in subst (λ n. IsAllThere n stream.room answer) all whole
 write-whole (All_of bytes) before most latest held stream answer fresh same whole = tt
 
-write-answered : (asks : Asking) (before from most : ℕ) (latest : Option ℕ) (held : List ℕ) (stream : Stream) →
+write-answered : (asks : StreamOperation) (before from most : ℕ) (latest : Option ℕ) (held : List ℕ) (stream : Stream) →
     (let exchange = exchange_with asks before latest held stream in
     MayBeAsked exchange → wanted_in exchange ≡ want.Write from most →
     IsToldAnswer exchange (write_answer (bytes_from asks from most) stream))
@@ -226,7 +226,7 @@ some-held size before count (b ∷ held) stream fresh filled is =
       | inr none ↦ let nothing : length stream.arrived ≡ 0 = ap length none in omega (arith, all, taken, nothing)
     ]
 
-held-whole : (asks : Asking) (before count : ℕ) (latest : Option ℕ) (held : List ℕ) (stream : Stream) →
+held-whole : (asks : StreamOperation) (before count : ℕ) (latest : Option ℕ) (held : List ℕ) (stream : Stream) →
     MovedBefore asks before → IsFilled asks held stream → asking_want asks before held ≡ want.Held count →
     ComesWhole asks (whole_stream (exchange_with asks before latest held stream)) (moved.Took count)
 held-whole (Reads (Some_bytes size)) before count latest held stream fresh filled is =

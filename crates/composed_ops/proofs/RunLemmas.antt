@@ -12,7 +12,7 @@ use Rattle.stream_rules.specs.Stream.{Stream}
 use Rattle.stream_rules.proofs.CuttingLemmas.{read-complete}
 use Rattle.stream_rules.proofs.DelimiterLemmas.{first_end-ends}
 use Rattle.composed_ops.specs.declared.want.Want.TheVariants as want
-use Rattle.composed_ops.specs.Asking.{Asking, Reads, Writes, IsSizedAsking}
+use Rattle.composed_ops.specs.StreamOperation.{StreamOperation, Reads, Writes, IsSizedAsking}
 use Rattle.composed_ops.specs.Feeding.{MayBeAsked, HasNothing, HoldingKeeps, MachinesBegin, MachinesFinish, MachinesWait, RunsAreByTheRules, asking_course, completes, course_at, course_of, finishes, goes_on, exchange_after, exchange_finished, whole_stream, waits, wanted_in}
 use Rattle.composed_ops.specs.Want.{counted_want, until_want}
 use Rattle.composed_ops.proofs.CountLemmas.{all-nothing, some-nothing}
@@ -91,7 +91,7 @@ counted-open : (missing : ℕ) (held : List ℕ) (size : ℕ) (ended : Code) (P 
 counted-open missing [] size ended P is = absurd (cc)
 counted-open missing (b ∷ held) size ended P is = absurd (cc)
 
-finish-is : (asks : Asking) (before : ℕ) (latest : Option ℕ) (held : List ℕ) (stream : Stream) (ended : Code)
+finish-is : (asks : StreamOperation) (before : ℕ) (latest : Option ℕ) (held : List ℕ) (stream : Stream) (ended : Code)
     (size : ℕ) →
     (let exchange = exchange_with asks before latest held stream in
     wanted_in exchange ≡ want.Finish ended size →
@@ -178,7 +178,7 @@ until-wait delimiter held max before latest stream None is nothing =
     (served_read (Until delimiter max) before (held ++ stream.arrived) stream.read_mark)
     (until-nothing delimiter held max stream None None unfound nothing.0 (ap (option_map read_code) nothing.1) refl)
 
-wait-is : (asks : Asking) (before : ℕ) (latest : Option ℕ) (held : List ℕ) (stream : Stream) →
+wait-is : (asks : StreamOperation) (before : ℕ) (latest : Option ℕ) (held : List ℕ) (stream : Stream) →
     (let exchange = exchange_with asks before latest held stream in
     MayBeAsked exchange → HasNothing stream (wanted_in exchange) → course_of exchange ≡ course_at exchange None)
 wait-is (Reads (Some_bytes size)) before latest held stream = λ ready nothing.
@@ -225,7 +225,7 @@ runs-by_rules exchange course ready (completes answer outcome may is) =
 runs-by_rules exchange course ready (finishes ended size is) = sym (machines-finish exchange ended size ready is)
 runs-by_rules exchange course ready (waits nothing) = sym (machines-wait exchange ready nothing)
 
-begins : (asks : Asking) (held : List ℕ) (stream : Stream) → IsSizedAsking asks →
+begins : (asks : StreamOperation) (held : List ℕ) (stream : Stream) → IsSizedAsking asks →
     MayBeAsked (exchange_with asks 0 None held stream)
 begins (Reads (Some_bytes size)) held stream sized = record {
   under_way = record { missing = omega (arith, sized.0); counted = sized.1; before = refl };

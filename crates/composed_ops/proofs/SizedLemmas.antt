@@ -5,7 +5,7 @@ use Rattle.session_script.specs.declared.act.Act.TheVariants as act
 use Rattle.session_script.specs.Limits.{limits_of}
 use Rattle.session_script.specs.Script.{ScriptModel}
 use Rattle.session_script.specs.WellFormed.{FitsAct, IsSize, header_of}
-use Rattle.composed_ops.specs.Asking.{IsSizedAct, asking_of}
+use Rattle.composed_ops.specs.StreamOperation.{IsSizedAct, asking_of}
 
 either : (first : Bool) → cond first 4096 16384 < 2 ^ 32
 either true = omega arith

@@ -14,15 +14,15 @@ use Rattle.stream_rules.specs.Serving.{Some_bytes, All_bytes, Until, Some_of, Al
 use Rattle.stream_rules.specs.Stream.{Stream}
 use Rattle.composed_ops.specs.declared.want.Want.{Want}
 use Rattle.composed_ops.specs.declared.want.Want.TheVariants as want
-use Rattle.composed_ops.specs.Asking.{Asking, Reads, Writes, IsSizedAsking}
-use Rattle.composed_ops.specs.Progress.{Progress, IsSearched, IsUnderWay, new_progress, progress_after}
+use Rattle.composed_ops.specs.StreamOperation.{StreamOperation, Reads, Writes, IsSizedAsking}
+use Rattle.composed_ops.specs.Progress.{StreamProgress, IsSearched, IsUnderWay, new_progress, progress_after}
 use Rattle.composed_ops.specs.Step.{outcome_by}
 use Rattle.composed_ops.specs.Want.{wanted as want_of}
 
 -- an operation under way, the bytes that were read for it and not consumed, and its stream behind
 -- them
 pub record Exchange : Type 0 where
-  pub progress : Progress
+  pub progress : StreamProgress
   pub held : List ℕ
   pub stream : Stream
 
@@ -40,7 +40,7 @@ abbrev pub whole_stream : Exchange → Stream
 whole_stream exchange =
     record exchange.stream { arrived = exchange.held ++ exchange.stream.arrived }
 
-abbrev pub asking_course : Asking → ℕ → Stream → Course
+abbrev pub asking_course : StreamOperation → ℕ → Stream → Course
 asking_course (Reads reading) before stream = served_on reading_side reading before stream None
 asking_course (Writes writing) before stream = served_on writing_side writing before stream None
 
@@ -83,7 +83,7 @@ IsAllThere size there moved.NotYet = ⊤
 IsAllThere size there moved.Reset = ⊤
 
 -- an operation that completes with what is there gets all of it; the others may get it in pieces
-abbrev pub ComesWhole : Asking → Stream → Moved → Type 0
+abbrev pub ComesWhole : StreamOperation → Stream → Moved → Type 0
 ComesWhole (Reads (Some_bytes size)) stream answer = IsAllThere size (length stream.arrived) answer
 ComesWhole (Reads (All_bytes size)) stream answer = ⊤
 ComesWhole (Reads (Until delimiter max)) stream answer = ⊤
@@ -95,23 +95,23 @@ pub record MayAnswer (exchange : Exchange) (answer : Moved) : Type 0 where
   pub whole : ComesWhole exchange.progress.asks (whole_stream exchange) answer
 
 -- a read until a delimiter holds what it gets; the others consume it
-abbrev pub held_with : Asking → List ℕ → List ℕ → List ℕ
+abbrev pub held_with : StreamOperation → List ℕ → List ℕ → List ℕ
 held_with (Reads (Some_bytes size)) held piece = held
 held_with (Reads (All_bytes size)) held piece = held
 held_with (Reads (Until delimiter max)) held piece = held ++ piece
 held_with (Writes writing) held piece = held
 
-abbrev pub held_after : Asking → Want → ℕ → List ℕ → Stream → List ℕ
+abbrev pub held_after : StreamOperation → Want → ℕ → List ℕ → Stream → List ℕ
 held_after asks (want.Held most) count held stream = drop count held
 held_after asks (want.Read most) count held stream = held_with asks held (take count stream.arrived)
 held_after asks (want.Write from most) count held stream = held
 held_after asks (want.Finish code size) count held stream = held
 
-abbrev pub written_after : Asking → ℕ → ℕ → Stream → Stream
+abbrev pub written_after : StreamOperation → ℕ → ℕ → Stream → Stream
 written_after (Reads reading) from count stream = stream
 written_after (Writes writing) from count stream = after_writing writing from count stream
 
-abbrev pub stream_after : Asking → Want → ℕ → Stream → Stream
+abbrev pub stream_after : StreamOperation → Want → ℕ → Stream → Stream
 stream_after asks (want.Held most) count stream = stream
 stream_after asks (want.Read most) count stream = after_reading count stream
 stream_after asks (want.Write from most) count stream = written_after asks from count stream
@@ -146,7 +146,7 @@ HasNothing stream (want.Finish code size) = ⊥
 -- before its first step a machine may be asked, whatever is held
 abbrev pub MachinesBegin : Type 0
 MachinesBegin =
-    (asks : Asking) (held : List ℕ) (stream : Stream) → IsSizedAsking asks →
+    (asks : StreamOperation) (held : List ℕ) (stream : Stream) → IsSizedAsking asks →
     MayBeAsked (record { progress = new_progress asks; held = held; stream = stream })
 
 -- a step after which it goes on leaves what the rules give as it was, and the machine may be asked
@@ -224,7 +224,7 @@ pub record IsToldAnswer (exchange : Exchange) (answer : Moved) : Type 0 where
 
 -- a read of some bytes consumes held ones only where they are as many as it asks for, or nothing is
 -- there behind them
-abbrev pub IsFilled : Asking → List ℕ → Stream → Type 0
+abbrev pub IsFilled : StreamOperation → List ℕ → Stream → Type 0
 IsFilled (Reads (Some_bytes size)) held stream = (size ≤ length held) ⊎ (stream.arrived ≡ [])
 IsFilled (Reads (All_bytes size)) held stream = ⊤
 IsFilled (Reads (Until delimiter max)) held stream = ⊤
@@ -242,7 +242,7 @@ ReadsMayBeAnswered =
     IsToldAnswer exchange (read_answer most exchange.stream)
 
 -- the bytes that an operation writes next
-abbrev pub bytes_from : Asking → ℕ → ℕ → List ℕ
+abbrev pub bytes_from : StreamOperation → ℕ → ℕ → List ℕ
 bytes_from (Reads reading) from count = []
 bytes_from (Writes writing) from count = take count (drop from (bytes_of writing))
 

@@ -1,6 +1,6 @@
-pub mod Asking
 pub mod Feeding
 pub mod Machine
 pub mod Progress
 pub mod Step
+pub mod StreamOperation
 pub mod Want

@@ -3,10 +3,10 @@ use Rattle.std.specs.Prelude.{None}
 use Rattle.stream_rules.specs.Serving.{Some_bytes, All_bytes, Until, Some_of, All_of}
 use Rattle.composed_ops.specs.declared.machine.Machine.{Machine}
 use Rattle.composed_ops.specs.declared.machine.Machine.TheVariants as machine
-use Rattle.composed_ops.specs.Asking.{Reads, Writes}
-use Rattle.composed_ops.specs.Progress.{Progress}
+use Rattle.composed_ops.specs.StreamOperation.{Reads, Writes}
+use Rattle.composed_ops.specs.Progress.{StreamProgress}
 
-abbrev pub progress_of : Machine → Progress
+abbrev pub progress_of : Machine → StreamProgress
 progress_of (machine.ReadSome size moved) = record {
   asks = Reads (Some_bytes size);
   moved = moved;

@@ -7,10 +7,10 @@ use Rattle.asio_types.specs.declared.outside.Moved.{Moved}
 use Rattle.asio_types.specs.declared.outside.Moved.TheVariants as moved
 use Rattle.stream_rules.specs.Moving.{moved_count}
 use Rattle.stream_rules.specs.Serving.{Reading, Some_bytes, All_bytes, Until, Writing, Some_of, All_of, Outcome, all_of, ended_by, some_of}
-use Rattle.composed_ops.specs.declared.step.Step.{Step}
-use Rattle.composed_ops.specs.declared.step.Step.TheVariants as step
-use Rattle.composed_ops.specs.Asking.{Asking, Reads, Writes}
-use Rattle.composed_ops.specs.Progress.{Progress}
+use Rattle.composed_ops.specs.declared.step.MachineStep.{MachineStep}
+use Rattle.composed_ops.specs.declared.step.MachineStep.TheVariants as step
+use Rattle.composed_ops.specs.StreamOperation.{StreamOperation, Reads, Writes}
+use Rattle.composed_ops.specs.Progress.{StreamProgress}
 
 -- the mark that an answer tells, where `End` stands for this code
 abbrev pub told_code : Code → Moved → Option Code
@@ -35,14 +35,14 @@ writing_outcome (Some_of bytes) before answer =
 writing_outcome (All_of bytes) before answer =
     (all_of (length bytes) before (moved_count answer) (told_code code.Broken answer)).outcome
 
-abbrev pub asking_outcome : Asking → ℕ → Moved → Option Outcome
+abbrev pub asking_outcome : StreamOperation → ℕ → Moved → Option Outcome
 asking_outcome (Reads reading) before answer = reading_outcome reading before answer
 asking_outcome (Writes writing) before answer = writing_outcome writing before answer
 
 -- how it completes by an answer, unless it goes on
-abbrev pub outcome_by : Progress → Moved → Option Outcome
+abbrev pub outcome_by : StreamProgress → Moved → Option Outcome
 outcome_by progress answer = asking_outcome progress.asks progress.moved answer
 
-abbrev pub step_of : Option Outcome → Step
+abbrev pub step_of : Option Outcome → MachineStep
 step_of None = step.Again
 step_of (Some (code, size)) = step.Done code size

@@ -4,8 +4,8 @@ use Rattle.asio_types.specs.declared.outside.Moved.TheVariants as moved
 use Rattle.stream_rules.specs.Serving.{Reading, Some_bytes, All_bytes, Until, Outcome, bytes_of, served_read}
 use Rattle.composed_ops.specs.declared.want.Want.{Want}
 use Rattle.composed_ops.specs.declared.want.Want.TheVariants as want
-use Rattle.composed_ops.specs.Asking.{Asking, Reads, Writes, size_of}
-use Rattle.composed_ops.specs.Progress.{Progress, IsSearched, progress_after}
+use Rattle.composed_ops.specs.StreamOperation.{StreamOperation, Reads, Writes, most_moved}
+use Rattle.composed_ops.specs.Progress.{StreamProgress, IsSearched, progress_after}
 
 -- held bytes first, as many as are missing; further ones where none is held
 abbrev pub counted_want : ℕ → List ℕ → Want
@@ -23,12 +23,12 @@ reading_want (All_bytes size) moved held = counted_want (size - moved) held
 reading_want (Until delimiter max) moved held =
     until_want (served_read (Until delimiter max) moved held None).outcome (max - length held)
 
-abbrev pub asking_want : Asking → ℕ → List ℕ → Want
+abbrev pub asking_want : StreamOperation → ℕ → List ℕ → Want
 asking_want (Reads reading) moved held = reading_want reading moved held
 asking_want (Writes writing) moved held = want.Write moved (length (bytes_of writing) - moved)
 
 -- what it asks for next
-abbrev pub wanted : Progress → List ℕ → Want
+abbrev pub wanted : StreamProgress → List ℕ → Want
 wanted progress held = asking_want progress.asks progress.moved held
 
 -- at least one byte and at most so many are asked for, and held ones only where they are there
@@ -39,11 +39,11 @@ IsWithin missing held (want.Write from count) = (1 ≤ count) × (count ≤ miss
 IsWithin missing held (want.Finish code size) = size ≤ held
 
 -- no more is asked for than is missing
-abbrev pub AsksWithin : Progress → List ℕ → Want → Type 0
-AsksWithin progress held = IsWithin (size_of progress.asks - progress.moved) (length held)
+abbrev pub AsksWithin : StreamProgress → List ℕ → Want → Type 0
+AsksWithin progress held = IsWithin (most_moved progress.asks - progress.moved) (length held)
 
 -- where further bytes are asked for, it may be asked again once a piece of them is held too
-abbrev pub MayAskAgain : Progress → List ℕ → Want → Type 0
+abbrev pub MayAskAgain : StreamProgress → List ℕ → Want → Type 0
 MayAskAgain progress held (want.Held count) = ⊤
 MayAskAgain progress held (want.Read count) =
     (piece : List ℕ) →

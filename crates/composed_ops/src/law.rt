@@ -3,7 +3,7 @@
 ghost use Rattle.std.specs.Prelude.{◌≡◌, ℕ, Some};
 ghost use Rattle.session_script.specs.Script.{act_of};
 ghost use Rattle.session_script.specs.declared.act.Act.{Act};
-ghost use Rattle.composed_ops.specs.Asking.{asking_of, IsSizedAct};
+ghost use Rattle.composed_ops.specs.StreamOperation.{asking_of, IsSizedAct};
 ghost use Rattle.composed_ops.specs.Feeding.{HeldMayBeConsumed, HoldingKeeps, MachinesBegin, MachinesComplete, MachinesFinish, MachinesGoOn, MachinesWait, ReadsMayBeAnswered, RunsAreByTheRules, WritesMayBeAnswered};
 
 use session_script::{Script, acts_fit};

@@ -14,5 +14,5 @@ pub use law::{
     told_answers_may_come,
 };
 pub use machine::Machine;
-pub use step::Step;
+pub use step::MachineStep;
 pub use want::Want;

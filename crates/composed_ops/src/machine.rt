@@ -1,11 +1,11 @@
 ghost use Rattle.std.specs.Prelude.{◌≡◌, IfSome, option_map};
-ghost use Rattle.composed_ops.specs.Asking.{asking_of, IsSizedAct};
+ghost use Rattle.composed_ops.specs.StreamOperation.{asking_of, IsSizedAct};
 ghost use Rattle.composed_ops.specs.Machine.{progress_of};
 ghost use Rattle.composed_ops.specs.Progress.{new_progress, progress_after, FitsMove, IsSearched, IsUnderWay};
 ghost use Rattle.composed_ops.specs.Step.{outcome_by, step_of};
 ghost use Rattle.composed_ops.specs.Want.{wanted, AsksWithin, MayAskAgain};
 
-use crate::step::{Step, all_step, some_step, until_step};
+use crate::step::{MachineStep, all_step, some_step, until_step};
 use crate::want::{Want, counted_want, until_want};
 use asio_types::{Code, Moved};
 use session_script::Act;
@@ -109,12 +109,12 @@ impl<'a> Machine<'a> {
     /// Takes what a call on its stream answered; consuming n held bytes is answered by `Took(n)`.
     /// It completes exactly where the rules of streams say so of all that it got, and by `End` and
     /// `Reset`. Constant cost.
-    pub fn got(&mut self, moved: Moved) -> Step
+    pub fn got(&mut self, moved: Moved) -> MachineStep
         requires under_way { IsUnderWay (progress_of self.old) }
         requires fits { FitsMove (progress_of self.old) moved }
         ensures step { result ≡ step_of (outcome_by (progress_of self.old) moved) }
         ensures progress { progress_of self.new ≡ progress_after (progress_of self.old) moved }
-        ensures under_way { result ≡ Step.Again → IsUnderWay (progress_of self.new) }
+        ensures under_way { result ≡ MachineStep.Again → IsUnderWay (progress_of self.new) }
     {
         match self {
             Machine::ReadSome {

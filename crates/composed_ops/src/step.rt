@@ -9,7 +9,7 @@ use asio_types::{Code, Moved};
 
 /// What an operation on a stream does once a call was answered.
 #[derive(Clone, Copy, Debug, PartialEq, Eq)]
-pub enum Step {
+pub enum MachineStep {
     /// It goes on.
     Again,
     /// It completes with this code and size.
@@ -18,81 +18,81 @@ pub enum Step {
 
 /// A step of an operation that completes with what it gets; `end` is its code where nothing more
 /// will come.
-pub(crate) fn some_step(size: u32, so_far: &mut u32, answer: Moved, end: Code) -> Step
+pub(crate) fn some_step(size: u32, so_far: &mut u32, answer: Moved, end: Code) -> MachineStep
     requires missing { so_far.old < size }
     requires fits { IsCountWithin (size - so_far.old) answer }
     ensures step { result
         ≡ step_of (some_of size (moved_count answer) (told_code end answer)).outcome }
     ensures counted { so_far.new ≡ so_far.old + moved_count answer }
-    ensures kept { result ≡ Step.Again → so_far.new ≡ so_far.old }
+    ensures kept { result ≡ MachineStep.Again → so_far.new ≡ so_far.old }
 {
     match answer {
         Moved::Took(count) => {
             *so_far += count;
-            Step::Done {
+            MachineStep::Done {
                 code: Code::Ok,
                 size: count,
             }
         }
-        Moved::End => Step::Done { code: end, size: 0 },
-        Moved::Reset => Step::Done {
+        Moved::End => MachineStep::Done { code: end, size: 0 },
+        Moved::Reset => MachineStep::Done {
             code: Code::Reset,
             size: 0,
         },
-        Moved::NotYet => Step::Again,
+        Moved::NotYet => MachineStep::Again,
     }
 }
 
 /// A step of an operation that completes with all that it asks for.
-pub(crate) fn all_step(size: u32, so_far: &mut u32, answer: Moved, end: Code) -> Step
+pub(crate) fn all_step(size: u32, so_far: &mut u32, answer: Moved, end: Code) -> MachineStep
     requires missing { so_far.old < size }
     requires fits { IsCountWithin (size - so_far.old) answer }
     ensures step { result
         ≡ step_of (all_of size so_far.old (moved_count answer) (told_code end answer)).outcome }
     ensures counted { so_far.new ≡ so_far.old + moved_count answer }
-    ensures missing { result ≡ Step.Again → so_far.new < size }
+    ensures missing { result ≡ MachineStep.Again → so_far.new < size }
 {
     match answer {
         Moved::Took(count) => {
             *so_far += count;
             if *so_far == size {
-                return Step::Done {
+                return MachineStep::Done {
                     code: Code::Ok,
                     size,
                 };
             }
-            Step::Again
+            MachineStep::Again
         }
-        Moved::End => Step::Done {
+        Moved::End => MachineStep::Done {
             code: end,
             size: *so_far,
         },
-        Moved::Reset => Step::Done {
+        Moved::Reset => MachineStep::Done {
             code: Code::Reset,
             size: *so_far,
         },
-        Moved::NotYet => Step::Again,
+        Moved::NotYet => MachineStep::Again,
     }
 }
 
 /// A step of an operation that holds what it gets.
-pub(crate) fn until_step(latest: &mut Option<u32>, answer: Moved) -> Step
+pub(crate) fn until_step(latest: &mut Option<u32>, answer: Moved) -> MachineStep
     ensures step { result ≡ step_of (ended_by (told_code Code.Eof answer) 0) }
     ensures latest { latest.new ≡ newest latest.old answer }
 {
     match answer {
         Moved::Took(count) => {
             *latest = Some(count);
-            Step::Again
+            MachineStep::Again
         }
-        Moved::End => Step::Done {
+        Moved::End => MachineStep::Done {
             code: Code::Eof,
             size: 0,
         },
-        Moved::Reset => Step::Done {
+        Moved::Reset => MachineStep::Done {
             code: Code::Reset,
             size: 0,
         },
-        Moved::NotYet => Step::Again,
+        Moved::NotYet => MachineStep::Again,
     }
 }

@@ -3,7 +3,7 @@
 
 ghost use Rattle.std.specs.Prelude.{◌≡◌, ◌≤◌, IfOk, length};
 ghost use Rattle.std.specs.VecDeque.{deque_len};
-ghost use Rattle.stream_rules.specs.Asked.{writing_of, IsCountable};
+ghost use Rattle.stream_rules.specs.Asked.{writing_view, IsCountable};
 
 use asio_types::{Code, NoMemory, OpNo, ReadMark, WriteMark};
 use std::alloc::Global;
@@ -70,7 +70,7 @@ fn write_cut(
     mark: Option<WriteMark>,
 ) -> Result<(Option<(Code, u32)>, usize), NoMemory>
     requires cut { cut ≤ room }
-    requires countable { IsCountable (writing_of writing) }
+    requires countable { IsCountable (writing_view writing) }
 {
     let mut pipe = Pipe::make(alloc, 0, room)?;
     pipe.outbound.add_room(cut);

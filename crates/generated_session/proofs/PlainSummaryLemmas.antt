@@ -14,7 +14,7 @@ use Rattle.history_book.specs.State.{first_reactor, first_state, fresh}
 use Rattle.history_book.specs.declared.phase.ActState.{ActState}
 use Rattle.generated_session.specs.Generator.{acts_from, generated, most_size, session_of}
 use Rattle.generated_session.specs.PlainSummary.{plain_aborted, plain_marks, plain_summary, plain_tally, plain_time}
-use Rattle.generated_session.specs.Summary.{Tally, is_abort, is_call, is_end, lines_of, run_mark, summary_of, tally_of, text_of_line, time_from}
+use Rattle.generated_session.specs.Summary.{SummaryTally, is_abort, is_call, is_end, lines_of, run_mark, summary_of, tally_of, text_of_line, time_from}
 use Rattle.generated_session.specs.declared.tally.Closing.TheVariants as closing
 use Rattle.generated_session.proofs.FitLemmas.{is_called, operates}
 use Rattle.generated_session.proofs.FutureLemmas.{aborts_plain, asked, lasts_plain, to_abort, to_last}
@@ -163,5 +163,5 @@ pub summary_is : (start size : ℕ) → size ≤ most_size → (told : Bool) (ev
 summary_is start size few told events legal fine goes run drop marks =
     let acts : List Entry = acts_from size 0 start in
     let short : length acts ≤ 1024 = let same = length-acts_from size 0 start in omega (arith, same, few) in
-    ap (λ (tally : Tally). flat_map text_of_line (lines_of start size tally))
+    ap (λ (tally : SummaryTally). flat_map text_of_line (lines_of start size tally))
     (tally_is acts (are_items size 0 start) told short events legal fine goes run drop marks)

@@ -11,7 +11,7 @@ use Rattle.history_book.specs.Legal.{IsLegal}
 use Rattle.history_book.specs.Marks.{HasMarks}
 use Rattle.generated_session.specs.declared.tally.Closing.TheVariants as closing
 use Rattle.generated_session.specs.Generator.{acts_from, generated, most_size}
-use Rattle.generated_session.specs.Summary.{Tally, lines_of, summary_of, text_of_line}
+use Rattle.generated_session.specs.Summary.{SummaryTally, lines_of, summary_of, text_of_line}
 
 -- the act sets the expiry of this timer (Asio reference, steady_timer::expires_after)
 abbrev pub is_expiry_of : ℕ → Act → Bool
@@ -54,7 +54,7 @@ plain_marks run n (entry ∷ later) =
     (if is_operation entry.act then run n else 0) + plain_marks run (n + 1) later
 
 -- what a summary says of a session with these acts: each is called and each operation executed
-abbrev pub plain_tally : (ℕ → ℕ) → List Entry → Tally
+abbrev pub plain_tally : (ℕ → ℕ) → List Entry → SummaryTally
 plain_tally run acts = record {
   acts = length acts;
   executed = count_by (λ entry. is_operation entry.act) acts;

@@ -9,13 +9,13 @@ use Rattle.asio_types.specs.declared.event.Event.{Event}
 use Rattle.asio_types.specs.declared.event.Event.TheVariants as event
 use Rattle.history_book.specs.FromOutside.{has_fault}
 use Rattle.history_book.specs.Trace.{space, line_end}
-use Rattle.generated_session.specs.declared.line.Line.{Line}
-use Rattle.generated_session.specs.declared.line.Line.TheVariants as line
+use Rattle.generated_session.specs.declared.line.SummaryLine.{SummaryLine}
+use Rattle.generated_session.specs.declared.line.SummaryLine.TheVariants as line
 use Rattle.generated_session.specs.declared.tally.Closing.{Closing}
 use Rattle.generated_session.specs.declared.tally.Closing.TheVariants as closing
 -- what a summary says of a history: its numbers, whether the reactor failed, and how the last round
 -- closed
-pub use Rattle.generated_session.specs.declared.tally.Tally.{Tally}
+pub use Rattle.generated_session.specs.declared.tally.SummaryTally.{SummaryTally}
 
 abbrev pub is_call : Event → Bool
 is_call (event.Call a) = true
@@ -61,7 +61,7 @@ abbrev pub closing_from : Closing → List Event → Closing
 closing_from last [] = last
 closing_from last (event ∷ events) = closing_from (closing_after last event) events
 
-abbrev pub tally_of : List Event → Tally
+abbrev pub tally_of : List Event → SummaryTally
 tally_of events = record {
   acts = count_by is_call events;
   executed = count_by is_end events;
@@ -89,7 +89,7 @@ fault_after failed event.Fault = true
 fault_after failed _ = failed
 
 -- what a summary says, one event later
-abbrev pub tally_after : Tally → Event → Tally
+abbrev pub tally_after : SummaryTally → Event → SummaryTally
 tally_after tally event = record {
   acts = plus_one_if (is_call event) tally.acts;
   executed = plus_one_if (is_end event) tally.executed;
@@ -111,7 +111,7 @@ word_of_closing closing.Polled = codes "polled"
 abbrev pub number_line : List ℕ → ℕ → List ℕ
 number_line word number = word ++ decimal number ++ line_end
 
-abbrev pub text_of_line : Line → List ℕ
+abbrev pub text_of_line : SummaryLine → List ℕ
 text_of_line (line.Made start size) = codes "gen " ++ decimal start ++ space ++ number_line [] size
 text_of_line (line.Acts number) = number_line (codes "acts ") number
 text_of_line (line.Executed number) = number_line (codes "executed ") number
@@ -123,11 +123,11 @@ text_of_line line.Fault = codes "fault" ++ line_end
 text_of_line (line.Closed last) = word_of_closing last ++ line_end
 
 -- the last line: a fault of the reactor, else how the last round closed
-abbrev pub last_line : Tally → Line
+abbrev pub last_line : SummaryTally → SummaryLine
 last_line tally = if tally.fault then line.Fault else line.Closed tally.closing
 
 -- the eight lines
-abbrev pub lines_of : ℕ → ℕ → Tally → List Line
+abbrev pub lines_of : ℕ → ℕ → SummaryTally → List SummaryLine
 lines_of start size tally =
     line.Made start size ∷ line.Acts tally.acts ∷ line.Executed tally.executed
     ∷ line.Dropped tally.dropped

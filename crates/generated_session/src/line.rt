@@ -4,13 +4,13 @@ ghost use Rattle.asio_types.specs.Faults.{CountsFaults};
 ghost use Rattle.asio_types.specs.Sink.{Extends, ExtendsByPart};
 ghost use Rattle.generated_session.specs.Summary.{last_line, lines_of, text_of_line};
 
-use crate::tally::{Closing, Tally};
+use crate::tally::{Closing, SummaryTally};
 use asio_types::{Failed, Sink, write_all};
 use itoa::Buffer;
 
 /// One line of a summary.
 #[derive(Clone, Copy)]
-pub(crate) enum Line {
+pub(crate) enum SummaryLine {
     /// From which number the session was made, and how many acts it has.
     Made { start: u32, size: u32 },
     /// The calls.
@@ -31,30 +31,30 @@ pub(crate) enum Line {
     Closed(Closing),
 }
 
-impl Line {
+impl SummaryLine {
     /// The eight lines of a summary.
-    pub(crate) fn all(start: u32, size: u32, tally: Tally) -> [Line; 8]
+    pub(crate) fn all(start: u32, size: u32, tally: SummaryTally) -> [SummaryLine; 8]
         ensures { result ≡ lines_of start size tally }
     {
         [
-            Line::Made { start, size },
-            Line::Acts(tally.acts),
-            Line::Executed(tally.executed),
-            Line::Dropped(tally.dropped),
-            Line::Aborted(tally.aborted),
-            Line::Marks(tally.marks),
-            Line::Time(tally.time),
-            Line::last(tally),
+            SummaryLine::Made { start, size },
+            SummaryLine::Acts(tally.acts),
+            SummaryLine::Executed(tally.executed),
+            SummaryLine::Dropped(tally.dropped),
+            SummaryLine::Aborted(tally.aborted),
+            SummaryLine::Marks(tally.marks),
+            SummaryLine::Time(tally.time),
+            SummaryLine::last(tally),
         ]
     }
 
-    fn last(tally: Tally) -> Line
+    fn last(tally: SummaryTally) -> SummaryLine
         ensures { result ≡ last_line tally }
     {
         if tally.fault {
-            Line::Fault
+            SummaryLine::Fault
         } else {
-            Line::Closed(tally.closing)
+            SummaryLine::Closed(tally.closing)
         }
     }
 
@@ -68,25 +68,30 @@ impl Line {
         ensures later { K.faults sink.old ≤ K.faults sink.new }
     {
         match self {
-            Line::Made { start, size } => {
+            SummaryLine::Made { start, size } => {
                 write_number(sink, b"gen ", start as u128, b" ")?;
                 write_number(sink, b"", size as u128, b"\n")
             }
-            Line::Acts(number) => write_number(sink, b"acts ", number as u128, b"\n"),
-            Line::Executed(number) => write_number(sink, b"executed ", number as u128, b"\n"),
-            Line::Dropped(number) => write_number(sink, b"dropped ", number as u128, b"\n"),
-            Line::Aborted(number) => write_number(sink, b"aborted ", number as u128, b"\n"),
-            Line::Marks(sum) => write_number(sink, b"marks ", sum, b"\n"),
-            Line::Time(now) => write_number(sink, b"time ", now as u128, b"\n"),
-            Line::Fault => write_all(sink, b"fault\n"),
-            Line::Closed(closing) => write_all(sink, line_of_closing(closing)),
+            SummaryLine::Acts(number) => write_number(sink, b"acts ", number as u128, b"\n"),
+            SummaryLine::Executed(number) => write_number(
+                sink,
+                b"executed ",
+                number as u128,
+                b"\n",
+            ),
+            SummaryLine::Dropped(number) => write_number(sink, b"dropped ", number as u128, b"\n"),
+            SummaryLine::Aborted(number) => write_number(sink, b"aborted ", number as u128, b"\n"),
+            SummaryLine::Marks(sum) => write_number(sink, b"marks ", sum, b"\n"),
+            SummaryLine::Time(now) => write_number(sink, b"time ", now as u128, b"\n"),
+            SummaryLine::Fault => write_all(sink, b"fault\n"),
+            SummaryLine::Closed(closing) => write_all(sink, line_of_closing(closing)),
         }
     }
 }
 
 /// The line of how the last round closed.
 fn line_of_closing(closing: Closing) -> &'static [u8]
-    ensures { result.now ≡ text_of_line (Line.Closed closing) }
+    ensures { result.now ≡ text_of_line (SummaryLine.Closed closing) }
 {
     match closing {
         Closing::Open => b"\n",

@@ -3,8 +3,8 @@ ghost use Rattle.asio_types.specs.Faults.{CountsFaults};
 ghost use Rattle.asio_types.specs.Sink.{Extends, ExtendsByPart};
 ghost use Rattle.generated_session.specs.Summary.{summary_of};
 
-use crate::line::Line;
-use crate::tally::Tally;
+use crate::line::SummaryLine;
+use crate::tally::SummaryTally;
 use asio_types::{Failed, Sink};
 use history_book::History;
 
@@ -27,7 +27,7 @@ pub fn write_summary<K: Sink>(
     ensures counts { CountsFaults result (K.faults sink.old) (K.faults sink.new) }
     ensures later { K.faults sink.old ≤ K.faults sink.new }
 {
-    let lines = Line::all(start, size, Tally::of(history.events()));
+    let lines = SummaryLine::all(start, size, SummaryTally::of(history.events()));
     for line in lines.as_slice() {
         line.write(sink)?;
     }

@@ -18,7 +18,7 @@ pub(crate) enum Closing {
 
 /// What a summary says of a history.
 #[derive(Clone, Copy)]
-pub(crate) struct Tally {
+pub(crate) struct SummaryTally {
     // the calls
     pub(crate) acts: u64,
     // the handlers that ran
@@ -37,22 +37,22 @@ pub(crate) struct Tally {
     pub(crate) closing: Closing,
 }
 
-impl Tally {
+impl SummaryTally {
     /// What a summary says of these events.
-    pub(crate) fn of(events: &[Event]) -> Tally
+    pub(crate) fn of(events: &[Event]) -> SummaryTally
         ensures { result ≡ tally_of events.now }
     {
-        let mut tally = Tally::empty();
+        let mut tally = SummaryTally::empty();
         for event in events {
             tally = tally.with(*event);
         }
         tally
     }
 
-    fn empty() -> Tally
+    fn empty() -> SummaryTally
         ensures { result ≡ tally_of [] }
     {
-        Tally {
+        SummaryTally {
             acts: 0,
             executed: 0,
             dropped: 0,
@@ -65,7 +65,7 @@ impl Tally {
     }
 
     /// One event later.
-    fn with(self, event: Event) -> Tally
+    fn with(self, event: Event) -> SummaryTally
         requires acts { self.acts + 1 < 2 ^ 64 }
         requires executed { self.executed + 1 < 2 ^ 64 }
         requires dropped { self.dropped + 1 < 2 ^ 64 }

@@ -8,11 +8,11 @@ use Rattle.asio_types.specs.declared.outside.Point.{Point}
 use Rattle.asio_types.specs.declared.outside.Point.TheVariants as point
 use Rattle.asio_types.specs.declared.world.Line.{Line}
 use Rattle.asio_types.specs.declared.world.World.{World}
-use Rattle.stream_rules.specs.Stream.{Stream, new_stream, performed}
+use Rattle.stream_rules.specs.Stream.{Stream, new_stream, line_performed}
 use Rattle.stream_rules.specs.World.{changed_at, lines_at, lines_after, perform_line, perform_lines, stream_at, next_point, times_after}
 use Rattle.stream_rules.specs.Timetable.{Timetable, time_at}
 use Rattle.stream_rules.specs.declared.pipe.Pipe.{Pipe}
-use Rattle.stream_rules.specs.Pipes.{stream_of, HasRoom, UsesRoom, KeepsRoom}
+use Rattle.stream_rules.specs.Pipes.{pipe_stream, HasRoom, UsesRoom, KeepsRoom}
 use Rattle.stream_rules.proofs.PipeLemmas.{changed-set, HasRoom-at, HasRoom-after, HasRoom-keeps}
 use Rattle.stream_rules.proofs.WorldLemmas.{next_point-later, lines_at-later, lines_after-later}
 use Rattle.history_book.specs.Played.{IsPlayed, Played, first_played, played_at, played_over}
@@ -30,12 +30,12 @@ pub within-at : (time n : ℕ) (lines : List Line) → All (λ (line : Line). li
 within-at time n lines all = All-filter (λ (line : Line). line.time == time) (λ line. line.stream < n) lines all
 
 -- new streams are as many as were asked for
-pub new-count : (n : ℕ) (pipes : List Pipe) → map stream_of pipes ≡ replicate n new_stream → length pipes ≡ n
-new-count n pipes streams = sym (length-map pipes stream_of) ∙ ap length streams ∙ length-replicate n new_stream
+pub new-count : (n : ℕ) (pipes : List Pipe) → map pipe_stream pipes ≡ replicate n new_stream → length pipes ≡ n
+new-count n pipes streams = sym (length-map pipes pipe_stream) ∙ ap length streams ∙ length-replicate n new_stream
 
 -- a world that is new
 pub IsPlayed-first : (table : Timetable) (n : ℕ) (pipes after : List Pipe) → table.time ≡ 0 →
-    All (λ (line : Line). line.stream < n) table.lines → map stream_of pipes ≡ replicate n new_stream →
+    All (λ (line : Line). line.stream < n) table.lines → map pipe_stream pipes ≡ replicate n new_stream →
     HasRoom table.lines pipes → UsesRoom (lines_at table.time table.lines) pipes after → length after ≡ length pipes →
     IsPlayed true table after
 IsPlayed-first table n pipes after is all streams has uses long =
@@ -93,16 +93,16 @@ IsPlayed-keeps told table pipes after played keeps long = record {
 
 -- one stream changed
 pub played-changed : (f : Stream → Stream) (told : Bool) (table : Timetable) (pipes : List Pipe) (d : ℕ)
-    (any new : Pipe) → d < length pipes → any ≡ get_or pipes d any → stream_of new ≡ f (stream_of any) →
+    (any new : Pipe) → d < length pipes → any ≡ get_or pipes d any → pipe_stream new ≡ f (pipe_stream any) →
     played_over told table (set pipes d new)
-    ≡ record (played_over told table pipes) { streams = changed_at d f (map stream_of pipes) }
+    ≡ record (played_over told table pipes) { streams = changed_at d f (map pipe_stream pipes) }
 played-changed f told table pipes d any new b is same =
     ap (λ (streams : List Stream).
     let played : Played = record { told = told; now = table.time; lines = table.lines; streams = streams } in
-    played) (changed-set f pipes d any new b (same ∙ ap (λ p. f (stream_of p)) is))
+    played) (changed-set f pipes d any new b (same ∙ ap (λ p. f (pipe_stream p)) is))
 
 length-perform_line : (streams : List Stream) (line : Line) → length (perform_line streams line) ≡ length streams
-length-perform_line streams line = length-set streams line.stream (performed line.what (stream_at streams line.stream))
+length-perform_line streams line = length-set streams line.stream (line_performed line.what (stream_at streams line.stream))
 
 -- lines change no number of streams
 pub length-perform_lines : (lines : List Line) (streams : List Stream) →

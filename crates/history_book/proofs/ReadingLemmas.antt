@@ -40,15 +40,15 @@ code_of bytes =
     else (if bytes_eq bytes (codes "broken") then code.Broken
     else code.Reset)))))
 
-abbrev act_of : List ℕ → Option ℕ
-act_of bytes = if bytes_eq bytes (codes "-") then None else Some (digits_value 10 bytes)
+abbrev act_in_word : List ℕ → Option ℕ
+act_in_word bytes = if bytes_eq bytes (codes "-") then None else Some (digits_value 10 bytes)
 
 -- the event of a line that begins with this word, and what follows the line
 abbrev event_by : List ℕ → List ℕ → Event × List ℕ
 event_by first bytes =
     if bytes_eq first (codes "call") then (event.Call (number bytes), rest bytes)
     else (if bytes_eq first (codes "back") then (event.Back (number bytes), rest bytes)
-    else (if bytes_eq first (codes "stop") then (event.Stop (act_of (word bytes)), rest bytes)
+    else (if bytes_eq first (codes "stop") then (event.Stop (act_in_word (word bytes)), rest bytes)
     else (if bytes_eq first (codes "begin") then (event.Begin (number bytes) (code_of (word (rest bytes))) (number (rest (rest bytes))), rest (rest (rest bytes)))
     else (if bytes_eq first (codes "end") then (event.End (number bytes) (number (rest bytes)), rest (rest bytes))
     else (if bytes_eq first (codes "take") then (event.Take (number bytes), rest bytes)
@@ -184,16 +184,16 @@ no_dash : (digits : List ℕ) → AllDigits 10 digits → bytes_eq digits (codes
 no_dash [] h = refl
 no_dash (digit ∷ digits) h = grind (arith, nat_tests)
 
-act_back : (n : ℕ) → n < 2 ^ 64 → act_of (decimal n) ≡ Some n
+act_back : (n : ℕ) → n < 2 ^ 64 → act_in_word (decimal n) ≡ Some n
 act_back n h =
     ap (λ b. cond b None (Some (digits_value 10 (decimal n)))) (no_dash (decimal n) (decimal_is_IsNumeral n h).0.1)
     ∙ ap (λ x. Some x) (value_back n h)
 
 one_act : {A : Type 0} (f : Option ℕ → List ℕ → A) (n : ℕ) (more : List ℕ) → n < 2 ^ 64
-    → f (act_of (word ((decimal n ++ line_end) ++ more))) (rest ((decimal n ++ line_end) ++ more)) ≡ f (Some n) more
+    → f (act_in_word (word ((decimal n ++ line_end) ++ more))) (rest ((decimal n ++ line_end) ++ more)) ≡ f (Some n) more
 one_act f n more h =
-    ap (λ t. f (act_of (word t)) (rest t)) (append_assoc (decimal n) line_end more)
-    ∙ one_word (λ v r. f (act_of v) r) (decimal n) more (decimal-IsWord n h)
+    ap (λ t. f (act_in_word (word t)) (rest t)) (append_assoc (decimal n) line_end more)
+    ∙ one_word (λ v r. f (act_in_word v) r) (decimal n) more (decimal-IsWord n h)
     ∙ ap (λ x. f x more) (act_back n h)
 
 wide : (n : ℕ) → n < 2 ^ 32 → n < 2 ^ 64

@@ -3,7 +3,7 @@ use Rattle.std.specs.Prelude.{ℕ, ◌≡◌, ◌<◌, Bool, true, List, All, le
 use Rattle.asio_types.specs.declared.world.Line.{Line}
 use Rattle.asio_types.specs.declared.world.World.{World}
 use Rattle.stream_rules.specs.declared.pipe.Pipe.{Pipe}
-use Rattle.stream_rules.specs.Pipes.{HasRoom, stream_of}
+use Rattle.stream_rules.specs.Pipes.{HasRoom, pipe_stream}
 use Rattle.stream_rules.specs.Stream.{Stream, new_stream}
 use Rattle.stream_rules.specs.Timetable.{Timetable}
 use Rattle.stream_rules.specs.World.{first_streams, lines_after, lines_at, perform_lines, streams_at_last}
@@ -20,7 +20,7 @@ played_over told table pipes = record {
   told = told;
   now = table.time;
   lines = table.lines;
-  streams = map stream_of pipes;
+  streams = map pipe_stream pipes;
 }
 
 -- where bytes are told the lines name streams that are there, with memory for what is to come

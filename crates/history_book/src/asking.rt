@@ -1,5 +1,5 @@
 ghost use Rattle.std.specs.Prelude.{◌≡◌};
-ghost use Rattle.stream_rules.specs.Asked.{reading_of, writing_of, IsCountable};
+ghost use Rattle.stream_rules.specs.Asked.{reading_view, writing_view, IsCountable};
 ghost use Rattle.history_book.specs.Asking.{IsReading, IsWriting, asked_reading, asked_writing};
 
 use asio_types::OpNo;
@@ -36,7 +36,7 @@ impl<'a> Asks for Asking<'a> {
 
     fn reading(&self, op: OpNo) -> Reading<'_>
         requires { IsReading self.now.script.now op }
-        ensures { reading_of result ≡ asked_reading self.now.script.now op }
+        ensures { reading_view result ≡ asked_reading self.now.script.now op }
     {
         match self.script.act(op) {
             Act::ReadSome { size, .. } => Reading::Some { size: *size },
@@ -51,8 +51,8 @@ impl<'a> Asks for Asking<'a> {
 
     fn writing(&self, op: OpNo) -> Writing<'_>
         requires { IsWriting self.now.script.now op }
-        ensures bytes { writing_of result ≡ asked_writing self.now.script.now op }
-        ensures countable { IsCountable (writing_of result) }
+        ensures bytes { writing_view result ≡ asked_writing self.now.script.now op }
+        ensures countable { IsCountable (writing_view result) }
     {
         acts_fit(self.script);
         match self.script.act(op) {

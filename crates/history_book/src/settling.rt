@@ -1,7 +1,7 @@
 ghost use Rattle.std.specs.Prelude.{◌≡◌, ◌+◌, ◌<◌, ◌≤◌, ◌++◌, All, length, true};
 ghost use Rattle.std.specs.Vec.{vec_capacity, vec_len};
 ghost use Rattle.std.specs.VecDeque.{deque_capacity, deque_len};
-ghost use Rattle.stream_rules.specs.Pipes.{stream_of};
+ghost use Rattle.stream_rules.specs.Pipes.{pipe_stream};
 ghost use Rattle.history_book.specs.Asking.{IsReading, IsWriting, queues_of};
 ghost use Rattle.history_book.specs.Settling.{served_at, served_stream, settled, with_streams_served, with_waits_served, AreDueTogether};
 
@@ -26,12 +26,13 @@ pub(crate) fn serve_stream(
         ≤ vec_capacity due.old }
     ensures completed { due.new.items
         ≡ due.old.items
-        ++ (served_stream (stream_of pipe.old)
+        ++ (served_stream (pipe_stream pipe.old)
         (queues_of asking.now.script.now queues.old)).completed }
     ensures staying { queues_of asking.now.script.now queues.new ≡
-        (served_stream (stream_of pipe.old) (queues_of asking.now.script.now queues.old)).queues }
-    ensures stream { stream_of pipe.new
-        ≡ (served_stream (stream_of pipe.old) (queues_of asking.now.script.now queues.old)).stream }
+        (served_stream (pipe_stream pipe.old) (queues_of asking.now.script.now queues.old)).queues }
+    ensures stream { pipe_stream pipe.new
+        ≡ (served_stream (pipe_stream pipe.old)
+        (queues_of asking.now.script.now queues.old)).stream }
     ensures reads { All (λ queued. IsReading asking.now.script.now queued.op)
         queues.new.reads.items }
     ensures writes { All (λ queued. IsWriting asking.now.script.now queued.op)

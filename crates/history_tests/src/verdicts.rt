@@ -5,7 +5,7 @@ use asio_types::{Code, Event};
 use session_script::read_script;
 use std::alloc::Global;
 use std::test::Fail;
-use trace_check::{CheckStatus, Form, Verdict, check};
+use trace_check::{CheckForm, CheckStatus, Verdict, check};
 
 const CALL: Event = Event::Call { act: 0 };
 
@@ -72,5 +72,5 @@ fn statuses_have_their_numbers_and_notes(rt: HostRuntime) {
     ] {
         assert_eq!(rt; (status.number(), status.note()), (number, note));
     }
-    assert!(rt; Form::Told.tells() && !Form::Untold.tells());
+    assert!(rt; CheckForm::Told.tells() && !CheckForm::Untold.tells());
 }

@@ -5,13 +5,13 @@ use Rattle.std.proofs.lemmas.Bool.{cases_lt}
 use mathlib.Core.Option.{some, some-injective, some-ne-none}
 use lib.ListN.{get_elem?}
 use Rattle.atomic_table.specs.Table.{State, opening, Final, Seen}
-use Rattle.lane_clock.specs.declared.step.Step.{Step}
+use Rattle.lane_clock.specs.declared.step.ClockStep.{ClockStep}
 use Rattle.lane_clock.specs.declared.step.Known.{Known}
 use Rattle.lane_clock.specs.declared.step.View.{View}
 use Rattle.lane_clock.specs.Layout.{Layout, total, place_word, cell_word}
 use Rattle.lane_clock.specs.Knowledge.{known, unknown, known_at, steps_at, owns_below}
-use Rattle.lane_clock.specs.Rule.{Words, ClockRule}
-use Rattle.lane_clock.specs.History.{Event, steps_under, IsSoundHistory, AreWords, KnowsHistory, HasOneHistory, giver, words_after, first_words}
+use Rattle.lane_clock.specs.Rule.{ClockWords, ClockRule}
+use Rattle.lane_clock.specs.History.{ClockEvent, steps_under, IsSoundHistory, AreWords, KnowsHistory, HasOneHistory, giver, words_after, first_words}
 use Rattle.lane_clock.proofs.KnownLemmas.{mine_within, under_other}
 use Rattle.lane_clock.proofs.ClockLemmas.{word_bounded}
 use Rattle.lane_clock.proofs.PartLemmas.{rule_of}
@@ -74,7 +74,7 @@ starts plan few small = record {
 }
 
 -- nobody steps under a number that isn't a seat's
-none_under : (guards seats : ℕ) (es : List Event) → IsSoundHistory guards seats es → (n : ℕ) → seats ≤ n →
+none_under : (guards seats : ℕ) (es : List ClockEvent) → IsSoundHistory guards seats es → (n : ℕ) → seats ≤ n →
     steps_under n es ≡ []
 none_under g s [] sound n h = refl
 none_under g s (e ∷ es) sound n h =
@@ -84,7 +84,7 @@ none_under g s (e ∷ es) sound n h =
 pub all_known : (plan : Layout) {S : Type 0} (id n : ℕ) (v : View) (s : State S View)
     (kept : HasOneHistory plan {S = S} s) → get_elem? s.views id ≡ some v → (known_at v.known n).mine ≡ true →
     ((m : ℕ) → m < v.plan.seats → (known_at v.known m).mine ≡ true) →
-    ◌≡◌ {A = ℕ → List Step} (λ m. steps_at v.known m) (λ m. steps_under m kept.history)
+    ◌≡◌ {A = ℕ → List ClockStep} (λ m. steps_at v.known m) (λ m. steps_under m kept.history)
 all_known plan id n v s kept at mine all = λ i m. each m i
   where
     knows : KnowsHistory plan kept.history v
@@ -103,7 +103,7 @@ all_known plan id n v s kept at mine all = λ i m. each m i
 pub closes : (plan : Layout) {S : Type 0} (id n : ℕ) (v : View) (ws : List ℕ) (xs : List S) →
     Final (Seen (λ s. HasOneHistory plan {S = S} s) id v) ws xs → (known_at v.known n).mine ≡ true →
     ((m : ℕ) → m < v.plan.seats → (known_at v.known m).mine ≡ true) →
-    (words : Words) × (words.clock_word ≡ slice_index ws 0) × (words.clock_word < 2 ^ 64)
+    (words : ClockWords) × (words.clock_word ≡ slice_index ws 0) × (words.clock_word < 2 ^ 64)
     × ClockRule (λ m. steps_at v.known m) words plan.guards × (plan.guards < 2 ^ 15)
 closes plan {S} id n v ws xs final mine all =
     let s = final.0 in

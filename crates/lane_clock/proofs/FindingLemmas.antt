@@ -4,25 +4,25 @@ use mathlib.Core.Option.{some}
 use lib.ListN.{get_elem?}
 use Rattle.lane_clock.specs.declared.found.Found.{Found}
 use Rattle.lane_clock.specs.declared.found.Change.{Change}
-use Rattle.lane_clock.specs.declared.step.Step.{Step}
-use Rattle.lane_clock.specs.declared.step.Step.TheVariants.{Draw, Load}
+use Rattle.lane_clock.specs.declared.step.ClockStep.{ClockStep}
+use Rattle.lane_clock.specs.declared.step.ClockStep.TheVariants.{Draw, Load}
 use Rattle.lane_clock.specs.ClockWord.{found_of}
 use Rattle.lane_clock.specs.Rule.{clock_in, IsFinding, by_draw, by_load, Draws, Finds, Precedes}
-use Rattle.lane_clock.specs.History.{Event, steps_under, word_after, drawn, IsSoundHistory, words_after}
+use Rattle.lane_clock.specs.History.{ClockEvent, steps_under, word_after, drawn, IsSoundHistory, words_after}
 use Rattle.lane_clock.proofs.KnownLemmas.{event}
 use Rattle.lane_clock.proofs.MomentLemmas.{Tail, tail_more, tail_trans, sound_tail, Moment, moment_of, One, Before, order_of, in_order}
 use Rattle.lane_clock.proofs.ClockLemmas.{drawn_grows, clock_is, found_clock}
 
-module _ (guards seats : ℕ) (small : guards < 2 ^ 15) (few : seats ≤ 2 ^ 15) (es : List Event)
+module _ (guards seats : ℕ) (small : guards < 2 ^ 15) (few : seats ≤ 2 ^ 15) (es : List ClockEvent)
     (sound : IsSoundHistory guards seats es) where
-  abbrev pub lists : ℕ → List Step
+  abbrev pub lists : ℕ → List ClockStep
   lists n = steps_under n es
 
   -- at each moment the history was sound, and the step fitted it
-  pub sound_at : (m i : ℕ) (st : Step) (p : Moment es m i st) → IsSoundHistory guards seats (event m st ∷ p.older)
+  pub sound_at : (m i : ℕ) (st : ClockStep) (p : Moment es m i st) → IsSoundHistory guards seats (event m st ∷ p.older)
   sound_at m i st p = sound_tail guards seats (event m st ∷ p.older) es p.tail sound
 
-  pub older_tail : (m i : ℕ) (st : Step) (p : Moment es m i st) → Tail p.older es
+  pub older_tail : (m i : ℕ) (st : ClockStep) (p : Moment es m i st) → Tail p.older es
   older_tail m i st p = tail_more p.older (event m st) es p.tail
 
   pub draw_clock : (m i : ℕ) (c : Change) (f : Found) (p : Moment es m i (Draw c f)) → f.clock ≡ drawn p.older
@@ -33,7 +33,7 @@ module _ (guards seats : ℕ) (small : guards < 2 ^ 15) (few : seats ≤ 2 ^ 15)
 
   -- a step that finds the clock word, when it was made
   pub record Finding (m i : ℕ) (f : Found) : Type 0 where
-    pub step : Step
+    pub step : ClockStep
     pub moment : Moment es m i step
     pub found : f ≡ found_of (word_after guards moment.older)
     pub clock : f.clock ≡ drawn moment.older
@@ -41,7 +41,7 @@ module _ (guards seats : ℕ) (small : guards < 2 ^ 15) (few : seats ≤ 2 ^ 15)
   pub finding : (m i : ℕ) (f : Found) → Finds lists m i f → Finding m i f
   finding m i f h = go h.0 h.1 f h.2
     where
-      go : (st : Step) → get_elem? (lists m) i ≡ some st → (g : Found) → IsFinding st g → Finding m i g
+      go : (st : ClockStep) → get_elem? (lists m) i ≡ some st → (g : Found) → IsFinding st g → Finding m i g
       go _ e _ (by_draw c g) =
           let p = moment_of es m i (Draw c g) e in
           record { step = Draw c g; moment = p; found = (sound_at m i (Draw c g) p).2.0; clock = draw_clock m i c g p }
@@ -50,7 +50,7 @@ module _ (guards seats : ℕ) (small : guards < 2 ^ 15) (few : seats ≤ 2 ^ 15)
           record { step = Load g; moment = p; found = (sound_at m i (Load g) p).2; clock = load_clock m i g p }
 
   -- what was drawn before a moment is below what is found after a later one
-  pub precedes_by : (m i n j : ℕ) (t : Step) (q : Moment es n j t)
+  pub precedes_by : (m i n j : ℕ) (t : ClockStep) (q : Moment es n j t)
       → ((a : ℕ) (c : Change) (d : Found) → a < i → (p : Moment es m a (Draw c d)) → Before es m a n j (Draw c d) t p q)
       → Precedes lists m i n j
   precedes_by m i n j t q before a b c d f lt gt draws finds =
@@ -63,7 +63,7 @@ module _ (guards seats : ℕ) (small : guards < 2 ^ 15) (few : seats ≤ 2 ^ 15)
       let l : f.clock ≡ drawn r.moment.older = r.clock in
       omega arith
 
-  pub precedes : (m i n j : ℕ) (s t : Step) (p : Moment es m i s) (q : Moment es n j t) → Tail p.older q.older →
+  pub precedes : (m i n j : ℕ) (s t : ClockStep) (p : Moment es m i s) (q : Moment es n j t) → Tail p.older q.older →
       Precedes lists m i n j
   precedes m i n j s t p q h =
       precedes_by m i n j t q (λ a c d lt r. tail_trans _ p.older q.older (in_order es m a i (Draw c d) s r p lt) h)

@@ -9,33 +9,33 @@ use native.Mathlib.Decide.{ℕ_discrete}
 use lib.ListN.{get_elem?}
 use Rattle.atomic_table.specs.Table.{State, Joins}
 use Rattle.atomic_table.proofs.Lists.{at_set, set_here, set_else}
-use Rattle.lane_clock.specs.declared.step.Step.{Step}
-use Rattle.lane_clock.specs.declared.step.Step.TheVariants.{Join}
+use Rattle.lane_clock.specs.declared.step.ClockStep.{ClockStep}
+use Rattle.lane_clock.specs.declared.step.ClockStep.TheVariants.{Join}
 use Rattle.lane_clock.specs.declared.step.Known.{Known}
 use Rattle.lane_clock.specs.declared.step.View.{View}
 use Rattle.lane_clock.specs.Layout.{Layout}
 use Rattle.lane_clock.specs.Knowledge.{known, unknown, known_at, steps_at, more_of, joined, counts}
-use Rattle.lane_clock.specs.History.{Event, steps_under, StartOf, KnowsHistory, HasOneHistory}
-use Rattle.lane_clock.specs.Plays.{view_with, join_view, spent}
+use Rattle.lane_clock.specs.History.{ClockEvent, steps_under, StartOf, KnowsHistory, HasOneHistory}
+use Rattle.lane_clock.specs.Plays.{view_with, join_view, spent_view}
 use Rattle.lane_clock.proofs.KnownLemmas.{at_within, mine_within, stepped_mine}
 use Rattle.lane_clock.proofs.KeepLemmas.{steps_keep}
 use Rattle.lane_clock.proofs.WordLemmas.{joined_words}
 
-abbrev longer : List Step → List Step → List Step
+abbrev longer : List ClockStep → List ClockStep → List ClockStep
 longer xs ys = if ltb (length xs) (length ys) then ys else xs
 
-abbrev steps_of_more : Bool → Bool → List Step → List Step → List Step
+abbrev steps_of_more : Bool → Bool → List ClockStep → List ClockStep → List ClockStep
 steps_of_more a b xs ys = if a then xs else if b then ys else longer xs ys
 
-nothing_longer : (ys : List Step) → longer [] ys ≡ ys
+nothing_longer : (ys : List ClockStep) → longer [] ys ≡ ys
 nothing_longer [] = refl
 nothing_longer (y ∷ ys) = rw (lt-ltb 0 (suc (length ys)) (omega arith)) refl
 
-nothing_more : (b : Bool) (ys : List Step) → steps_of_more false b [] ys ≡ ys
+nothing_more : (b : Bool) (ys : List ClockStep) → steps_of_more false b [] ys ≡ ys
 nothing_more true ys = refl
 nothing_more false ys = nothing_longer ys
 
-kept_steps : (a : Bool) (xs : List Step) → steps_of_more a false xs [] ≡ xs
+kept_steps : (a : Bool) (xs : List ClockStep) → steps_of_more a false xs [] ≡ xs
 kept_steps true xs = refl
 kept_steps false xs = rw (le-ltb (length xs) 0 (omega arith)) refl
 
@@ -53,7 +53,7 @@ joined_at (a ∷ as_) (b ∷ bs) zero = refl
 joined_at (a ∷ as_) (b ∷ bs) (suc n) = joined_at as_ bs n
 
 -- the more of two starts is a start, and all where one of them is
-more_told : (a b : Bool) (xs ys all : List Step) → StartOf xs all → StartOf ys all →
+more_told : (a b : Bool) (xs ys all : List ClockStep) → StartOf xs all → StartOf ys all →
     StartOf (steps_of_more a b xs ys) all
 more_told true b xs ys all hx hy = hx
 more_told false true xs ys all hx hy = hy
@@ -63,13 +63,13 @@ more_told false false xs ys all hx hy = go (ltb (length xs) (length ys))
     go true = hy
     go false = hx
 
-start_bound : (xs all : List Step) → StartOf xs all → length xs ≤ length all
+start_bound : (xs all : List ClockStep) → StartOf xs all → length xs ≤ length all
 start_bound xs all h =
     let e : length all ≡ length xs + length h.0 = ap length h.1 ∙ Rattle.std.proofs.Common.length-append xs h.0 in
     omega arith
 
-more_whole : (a b : Bool) (xs ys all : List Step) → (a || b) ≡ true → (a ≡ true → xs ≡ all) → (b ≡ true → ys ≡ all) →
-    steps_of_more a b xs ys ≡ all
+more_whole : (a b : Bool) (xs ys all : List ClockStep) → (a || b) ≡ true → (a ≡ true → xs ≡ all) →
+    (b ≡ true → ys ≡ all) → steps_of_more a b xs ys ≡ all
 more_whole true b xs ys all h hx hy = hx refl
 more_whole false true xs ys all h hx hy = hy refl
 more_whole false false xs ys all h hx hy = absurd (false≢true h)
@@ -91,7 +91,7 @@ joined_long [] bs = omega arith
 joined_long (a ∷ as_) [] = omega arith
 joined_long (a ∷ as_) (b ∷ bs) = let h : length as_ ≤ length (joined as_ bs) = joined_long as_ bs in omega arith
 
-module _ (plan : Layout) (es : List Event) (v w : View) (kv : KnowsHistory plan es v) (kw : KnowsHistory plan es w)
+module _ (plan : Layout) (es : List ClockEvent) (v w : View) (kv : KnowsHistory plan es v) (kw : KnowsHistory plan es w)
     (own : v.plan ≡ plan) (wide : length v.known ≡ plan.seats) where
   abbrev both : View
   both = view_with v (joined v.known w.known)
@@ -119,7 +119,7 @@ module _ (plan : Layout) (es : List Event) (v w : View) (kv : KnowsHistory plan 
             (⊎_elim (λ h. (kv.width n h).0) (λ h. (kw.width n h).0) (from_either _ _ (mine_of n m)), long, own);
       }
 
-spent_knows : (plan : Layout) (es : List Event) → KnowsHistory plan es spent
+spent_knows : (plan : Layout) (es : List ClockEvent) → KnowsHistory plan es spent_view
 spent_knows plan es = record {
   short = omega arith;
   told = λ n. (steps_under n es, refl);
@@ -134,7 +134,7 @@ module _ (plan : Layout) {S : Type 0} (id : ℕ) (v : View) (other : ℕ) (w : V
   together = view_with v (joined v.known w.known)
 
   abbrev merged : List View
-  merged = set (set s.views id together) other spent
+  merged = set (set s.views id together) other spent_view
 
   -- whose numbers the first takes over
   abbrev heir : ℕ → ℕ
@@ -155,18 +155,18 @@ module _ (plan : Layout) {S : Type 0} (id : ℕ) (v : View) (other : ℕ) (w : V
       dite_no (no n) = refl
 
   cases : (j : ℕ) (u : View) → get_elem? merged j ≡ some u →
-      ((j ≡ other) × (spent ≡ u))
+      ((j ≡ other) × (spent_view ≡ u))
       ⊎ (((j ≡ id) × (together ≡ u)) ⊎ ((j ≢ other) × (j ≢ id) × (get_elem? s.views j ≡ some u)))
   cases j u e = ⊎_elim (λ h. inl h)
       (λ (h : (j ≢ other) × (get_elem? (set s.views id together) j ≡ some u)).
       ⊎_elim (λ x. inr (inl x)) (λ (x : (j ≢ id) × (get_elem? s.views j ≡ some u)). inr (inr (h.0, x.0, x.1)))
       (at_set s.views id j together u h.1))
-      (at_set (set s.views id together) other j spent u e)
+      (at_set (set s.views id together) other j spent_view u e)
 
   was : (j n : ℕ) (u : View) → get_elem? merged j ≡ some u → (known_at u.known n).mine ≡ true
       → (i : ℕ) × (o : View) × (get_elem? s.views i ≡ some o) × ((known_at o.known n).mine ≡ true) × (j ≡ heir i)
   was j n u e m = ⊎_elim
-      (λ (h : (j ≡ other) × (spent ≡ u)). absurd (false≢true (ap (λ (x : View). (known_at x.known n).mine) h.1 ∙ m)))
+      (λ (h : (j ≡ other) × (spent_view ≡ u)). absurd (false≢true (ap (λ (x : View). (known_at x.known n).mine) h.1 ∙ m)))
       (λ more. ⊎_elim
       (λ (h : (j ≡ id) × (together ≡ u)). ⊎_elim
       (λ a. (id, v, at, a, h.0 ∙ sym (heir_self id (λ q. apart (sym q)))))
@@ -184,7 +184,8 @@ module _ (plan : Layout) {S : Type 0} (id : ℕ) (v : View) (other : ℕ) (w : V
         sound = kept.sound;
         words = kept.words;
         each = λ j u e. ⊎_elim
-            (λ (h : (j ≡ other) × (spent ≡ u)). subst (KnowsHistory plan kept.history) h.1 (spent_knows plan kept.history))
+            (λ (h : (j ≡ other) × (spent_view ≡ u)).
+            subst (KnowsHistory plan kept.history) h.1 (spent_knows plan kept.history))
             (λ more. ⊎_elim
             (λ (h : (j ≡ id) × (together ≡ u)).
             subst (KnowsHistory plan kept.history) h.1
@@ -199,15 +200,15 @@ module _ (plan : Layout) {S : Type 0} (id : ℕ) (v : View) (other : ℕ) (w : V
 
 pub may_join : (plan : Layout) {S : Type 0} (id : ℕ) (v : View) (other : ℕ) (w : View) →
     (known_at v.known v.number).mine ≡ true →
-    Joins (λ s. HasOneHistory plan {S = S} s) id v other w (join_view v w.known) spent
+    Joins (λ s. HasOneHistory plan {S = S} s) id v other w (join_view v w.known) spent_view
 may_join plan {S} id v other w mine s kept at apart later =
     let there : get_elem? s.views other ≡ some w =
     sym (set_else s.views id other (join_view v w.known) apart) ∙ later in
     let v' : View = view_with v (joined v.known w.known) in
-    let merged : List View = set (set s.views id v') other spent in
+    let merged : List View = set (set s.views id v') other spent_view in
     let kept' = merge_keeps plan id v other w mine s kept at apart there in
     let here : get_elem? merged id ≡ some v' =
-    set_else (set s.views id v') other id spent (λ q. apart (sym q))
+    set_else (set s.views id v') other id spent_view (λ q. apart (sym q))
     ∙ set_here s.views id v' (at_within s.views id v at) in
     let mine' : (known_at v'.known v'.number).mine ≡ true =
     ap (λ (x : Known). x.mine) (joined_at v.known w.known v.number)
@@ -220,10 +221,10 @@ may_join plan {S} id v other w mine s kept at apart later =
     let done =
     steps_keep plan record { words = s.words; homes = s.homes; views = merged } kept' id v' here (Join (counts w.known))
     s.words s.homes mine' fits (joined_words plan kept.history s.words kept.words v.number (counts w.known)) in
-    let views : set merged id (join_view v w.known) ≡ set (set s.views id (join_view v w.known)) other spent
+    let views : set merged id (join_view v w.known) ≡ set (set s.views id (join_view v w.known)) other spent_view
     =
-    set_comm (set s.views id v') other id spent (join_view v w.known) apart
-    ∙ ap (λ vs. set vs other spent) (set-set s.views id v' (join_view v w.known)) in
+    set_comm (set s.views id v') other id spent_view (join_view v w.known) apart
+    ∙ ap (λ vs. set vs other spent_view) (set-set s.views id v' (join_view v w.known)) in
     subst (λ (vs : List View). HasOneHistory plan {S = S} record { words = s.words; homes = s.homes; views = vs }) views done
 
 -- the seat that takes in another keeps its own number

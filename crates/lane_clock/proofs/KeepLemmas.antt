@@ -7,31 +7,31 @@ use native.Mathlib.Decide.{ℕ_discrete}
 use lib.ListN.{get_elem?}
 use Rattle.atomic_table.specs.Table.{State}
 use Rattle.atomic_table.proofs.Lists.{at_set}
-use Rattle.lane_clock.specs.declared.step.Step.{Step}
+use Rattle.lane_clock.specs.declared.step.ClockStep.{ClockStep}
 use Rattle.lane_clock.specs.declared.step.Known.{Known}
 use Rattle.lane_clock.specs.declared.step.View.{View}
 use Rattle.lane_clock.specs.Layout.{Layout}
 use Rattle.lane_clock.specs.Knowledge.{known_at, steps_at, stepped_at}
-use Rattle.lane_clock.specs.History.{Event, steps_under, Fits, StartOf, AreWords, KnowsHistory, HasOneHistory}
+use Rattle.lane_clock.specs.History.{ClockEvent, steps_under, Fits, StartOf, AreWords, KnowsHistory, HasOneHistory}
 use Rattle.lane_clock.specs.Plays.{step_view}
 use Rattle.lane_clock.proofs.KnownLemmas.{mine_within, stepped_here, stepped_other, stepped_mine, event, under_same, under_other}
 
 -- a start of all is a start of more
-pub start_longer : (xs all : List Step) (x : Step) → StartOf xs all → StartOf xs (all ++ x ∷ [])
+pub start_longer : (xs all : List ClockStep) (x : ClockStep) → StartOf xs all → StartOf xs (all ++ x ∷ [])
 start_longer xs all x h = (h.0 ++ x ∷ [], ap (λ ys. ys ++ x ∷ []) h.1 ∙ append_assoc xs h.0 (x ∷ []))
 
-pub start_same : (xs all : List Step) → xs ≡ all → StartOf xs all
+pub start_same : (xs all : List ClockStep) → xs ≡ all → StartOf xs all
 start_same xs all e = ([], sym e ∙ sym (append-nil xs))
 
-pub start_under : (xs : List Step) (es : List Event) (n m : ℕ) (st : Step) → StartOf xs (steps_under n es) →
-    StartOf xs (steps_under n (event m st ∷ es))
+pub start_under : (xs : List ClockStep) (es : List ClockEvent) (n m : ℕ) (st : ClockStep) →
+    StartOf xs (steps_under n es) → StartOf xs (steps_under n (event m st ∷ es))
 start_under xs es n m st h = dite (ℕ_discrete n m)
     (λ (e : n ≡ m).
     subst (λ (k : ℕ). StartOf xs (steps_under n (event k st ∷ es))) e
     (subst (StartOf xs) (sym (under_same es n st)) (start_longer xs (steps_under n es) st h)))
     (λ ne. subst (StartOf xs) (sym (under_other es n m st ne)) h)
 
-module _ (plan : Layout) (es : List Event) (v : View) (st : Step) (knows : KnowsHistory plan es v) where
+module _ (plan : Layout) (es : List ClockEvent) (v : View) (st : ClockStep) (knows : KnowsHistory plan es v) where
   -- who made no step knows what it knew
   pub others_know : (n : ℕ) → ((known_at v.known n).mine ≡ true → ⊥) → KnowsHistory plan (event n st ∷ es) v
   others_know n not_mine = record {
@@ -80,7 +80,7 @@ module _ (plan : Layout) {S : Type 0} (s : State S View) (kept : HasOneHistory p
       (known_at u.known n).mine ≡ true → ⊥
   not_theirs j n u ne there mine theirs = ne (kept.apart j id n u v there at theirs mine)
 
-  pub steps_keep : (st : Step) (ws : List ℕ) (hs : List (Option S)) → (known_at v.known v.number).mine ≡ true
+  pub steps_keep : (st : ClockStep) (ws : List ℕ) (hs : List (Option S)) → (known_at v.known v.number).mine ≡ true
       → Fits plan.guards kept.history v.number st
       → AreWords plan (event v.number st ∷ kept.history) ws
       → HasOneHistory plan {S = S} record { words = ws; homes = hs; views = set s.views id (step_view v st) }

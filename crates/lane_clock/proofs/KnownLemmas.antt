@@ -5,10 +5,10 @@ use mathlib.Core.Option.{some, some-injective, some-ne-none}
 use mathlib.Core.Logic.{dite}
 use lib.ListN.{get_elem?}
 use native.Mathlib.Decide.{ℕ_discrete}
-use Rattle.lane_clock.specs.declared.step.Step.{Step}
+use Rattle.lane_clock.specs.declared.step.ClockStep.{ClockStep}
 use Rattle.lane_clock.specs.declared.step.Known.{Known}
 use Rattle.lane_clock.specs.Knowledge.{unknown, known_at, longer_by, stepped_at}
-use Rattle.lane_clock.specs.History.{Event, steps_under}
+use Rattle.lane_clock.specs.History.{ClockEvent, steps_under}
 
 module _ {A : Type 0} where
   pub at_within : (xs : List A) (i : ℕ) (x : A) → get_elem? xs i ≡ some x → i < length xs
@@ -30,15 +30,16 @@ mine_within [] n h = absurd (cc)
 mine_within (k ∷ ks) zero h = omega arith
 mine_within (k ∷ ks) (suc n) h = let i : n < length ks = mine_within ks n h in omega arith
 
-pub stepped_here : (ks : List Known) (n : ℕ) (st : Step) → n < length ks →
+pub stepped_here : (ks : List Known) (n : ℕ) (st : ClockStep) → n < length ks →
     known_at (stepped_at ks n st) n ≡ longer_by (known_at ks n) st
 stepped_here ks n st i = get_or-set_same ks n (longer_by (known_at ks n) st) unknown i
 
-pub stepped_other : (ks : List Known) (n m : ℕ) (st : Step) → m ≢ n → known_at (stepped_at ks n st) m ≡ known_at ks m
+pub stepped_other : (ks : List Known) (n m : ℕ) (st : ClockStep) → m ≢ n →
+    known_at (stepped_at ks n st) m ≡ known_at ks m
 stepped_other ks n m st ne = get_or-set_other ks n m (longer_by (known_at ks n) st) unknown ne
 
 -- one more step leaves what is one's own
-pub stepped_mine : (ks : List Known) (n m : ℕ) (st : Step) → n < length ks →
+pub stepped_mine : (ks : List Known) (n m : ℕ) (st : ClockStep) → n < length ks →
     (known_at (stepped_at ks n st) m).mine ≡ (known_at ks m).mine
 stepped_mine ks n m st i = dite (ℕ_discrete m n)
     (λ (e : m ≡ n).
@@ -46,11 +47,13 @@ stepped_mine ks n m st i = dite (ℕ_discrete m n)
     (ap (λ (k : Known). k.mine) (stepped_here ks n st i)))
     (λ ne. ap (λ (k : Known). k.mine) (stepped_other ks n m st ne))
 
-abbrev pub event : ℕ → Step → Event
+abbrev pub event : ℕ → ClockStep → ClockEvent
 event n st = record { by = n; step = st }
 
-pub under_same : (es : List Event) (n : ℕ) (st : Step) → steps_under n (event n st ∷ es) ≡ steps_under n es ++ st ∷ []
+pub under_same : (es : List ClockEvent) (n : ℕ) (st : ClockStep) →
+    steps_under n (event n st ∷ es) ≡ steps_under n es ++ st ∷ []
 under_same es n st = rw (eq-eqb n n refl) refl
 
-pub under_other : (es : List Event) (n m : ℕ) (st : Step) → n ≢ m → steps_under n (event m st ∷ es) ≡ steps_under n es
+pub under_other : (es : List ClockEvent) (n m : ℕ) (st : ClockStep) → n ≢ m →
+    steps_under n (event m st ∷ es) ≡ steps_under n es
 under_other es n m st ne = rw (ne_eqb n m ne) refl

@@ -6,7 +6,7 @@ use lib.ListN.{get_elem?}
 use Rattle.lane_clock.specs.declared.found.Found.{Found}
 use Rattle.lane_clock.specs.declared.found.Change.{Change}
 use Rattle.lane_clock.specs.declared.found.Change.TheVariants.{Same, Up, Down, DownTwo, Stop}
-use Rattle.lane_clock.specs.declared.step.Step.{Step}
+use Rattle.lane_clock.specs.declared.step.ClockStep.{ClockStep}
 use Rattle.lane_clock.specs.ClockWord.{amount, word_of, IsParted}
 use Rattle.lane_clock.specs.Rule.{clock_in, IsFinding, by_draw, by_load, Draws, Loads, Finds, Closed}
 use Rattle.lane_clock.specs.Changes.{sum_below, up_of, down_of, stop_of, ups_below, downs_below, stops_below, ChangesAre, ChangesFit, AddsUp}
@@ -25,7 +25,7 @@ holds_between plan s kept = record {
 }
 
 -- the clock at the end
-last_clock : (lists : ℕ → List Step) (guards : ℕ) (last : Found) (c : Closed lists guards last) →
+last_clock : (lists : ℕ → List ClockStep) (guards : ℕ) (last : Found) (c : Closed lists guards last) →
     clock_in c.words ≡ last.clock
 last_clock lists guards last c = let w = c.word in let a : last.clock < 2 ^ 32 = c.parts.0 in omega arith
 
@@ -98,7 +98,8 @@ parted clock work stops n guards amount ups downs halts borrows is sum at a b c 
     let same : clock + 2 ^ 32 * work + 2 ^ 48 * stops ≡ whole = omega arith in
     (omega arith, omega arith)
 
-module _ (lists : ℕ → List Step) (guards : ℕ) (last : Found) (c : Closed lists guards last) (changes : ℕ → Change) where
+module _ (lists : ℕ → List ClockStep) (guards : ℕ) (last : Found) (c : Closed lists guards last)
+    (changes : ℕ → Change) where
   abbrev whole : ℕ → ℕ
   whole n = (guards * 2 ^ 32 + amounts changes n) % 2 ^ 64
 
@@ -144,7 +145,7 @@ module _ (lists : ℕ → List Step) (guards : ℕ) (last : Found) (c : Closed l
           c.rule.loads_agree.standing m i g at (q ∙ (sym same ∙ sym (last_clock lists guards last c)))
           ∙ (c.word ∙ end_sum n are same)
 
-      go : (st : Step) → get_elem? (lists m) i ≡ some st → (g : Found) → IsFinding st g → g.clock ≡ n →
+      go : (st : ClockStep) → get_elem? (lists m) i ≡ some st → (g : Found) → IsFinding st g → g.clock ≡ n →
           word_of g ≡ whole n
       go _ at _ (by_draw d g) q = draws_sum n are m i d g at q
       go _ at _ (by_load g) q = load g at q (cases_lt n last.clock)

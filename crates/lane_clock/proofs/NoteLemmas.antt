@@ -3,7 +3,7 @@ use Rattle.std.proofs.Common.{◌≡◌, ◌≢◌, ℕ, ◌+◌, ◌-◌, ◌*�
 use Rattle.asio_types.specs.declared.code.Code.{Code}
 use Rattle.asio_types.specs.declared.code.Code.TheVariants as code
 use Rattle.lane_clock.specs.declared.note.Note.{Note}
-use Rattle.lane_clock.specs.NoteWord.{code_number, code_of, IsNote, note_word, note_of}
+use Rattle.lane_clock.specs.NoteWord.{code_number, code_of, IsNote, note_word, note_in_word}
 
 code_small : (c : Code) → code_number c < 256
 code_small code.Ok = omega arith
@@ -28,8 +28,8 @@ parts : (op c size : ℕ) → op < 65535 → c < 256 → size < 2 ^ 32 → let w
     × ((w - 1) / 16777216 % 2 ^ 32 ≡ size)
 parts op c size ho hc hs = (omega arith, omega arith, omega arith)
 
-pub note_of-note_word : (note : Note) → IsNote note → note_of (note_word (Some note)) ≡ Some note
-note_of-note_word note h =
+pub note_in_word-note_word : (note : Note) → IsNote note → note_in_word (note_word (Some note)) ≡ Some note
+note_in_word-note_word note h =
     let c : ℕ = code_number note.code in
     let w : ℕ = 1 + note.op + 65536 * c + 16777216 * note.size in
     let p = parts note.op c note.size h.0 (code_small note.code) h.1 in
@@ -41,9 +41,9 @@ abbrev pub IsHeld : Option Note → Type 0
 IsHeld None = Unit {0}
 IsHeld (Some note) = IsNote note
 
-pub held_back : (held : Option Note) → IsHeld held → note_of (note_word held) ≡ held
+pub held_back : (held : Option Note) → IsHeld held → note_in_word (note_word held) ≡ held
 held_back None h = refl
-held_back (Some note) h = note_of-note_word note h
+held_back (Some note) h = note_in_word-note_word note h
 
 note_or : Note → Option Note → Note
 note_or d None = d

@@ -2,10 +2,10 @@
 use Rattle.std.proofs.Common.{◌≡◌, ℕ, ◌+◌, ◌^◌, ◌<◌, ◌≤◌, List, ◌∷◌, length, slice_index, sym, ap, ◌∙◌, ⊎_elim, arith, Option, Some, None}
 use Rattle.std.proofs.lemmas.Bool.{cases_lt}
 use Rattle.lane_clock.specs.declared.note.Note.{Note}
-use Rattle.lane_clock.specs.declared.step.Step.{Step}
-use Rattle.lane_clock.specs.declared.step.Step.TheVariants.{Draw, Place, Put, Look, Join}
+use Rattle.lane_clock.specs.declared.step.ClockStep.{ClockStep}
+use Rattle.lane_clock.specs.declared.step.ClockStep.TheVariants.{Draw, Place, Put, Look, Join}
 use Rattle.lane_clock.specs.Rule.{Puts, Looks, Precedes, PlacesOnce, CellsOnce, PlacesInOrder, JoinsBefore, EmptyLooks, ClockRule}
-use Rattle.lane_clock.specs.History.{Event, steps_under, places_after, cell_after, IsSoundHistory, words_after}
+use Rattle.lane_clock.specs.History.{ClockEvent, steps_under, places_after, cell_after, IsSoundHistory, words_after}
 use Rattle.lane_clock.proofs.KnownLemmas.{at_within, event}
 use Rattle.lane_clock.proofs.MomentLemmas.{Tail, tail_more, tail_trans, under_length, at_later, Moment, moment_of, moment_in, One, Before, order_of, within_before, in_order, before_index}
 use Rattle.lane_clock.proofs.FindingLemmas.{sound_at, older_tail, precedes_by, precedes}
@@ -16,9 +16,9 @@ use Rattle.lane_clock.proofs.CellLemmas.{places_grow, placed_here, put_here, cel
 put_or_look : (a b c d : ℕ) (x : Note) (y : Option Note) → Put a b x ≡ Look c d y → ⊥
 put_or_look a b c d x y h = cc
 
-module _ (guards seats : ℕ) (small : guards < 2 ^ 15) (few : seats ≤ 2 ^ 15) (es : List Event)
+module _ (guards seats : ℕ) (small : guards < 2 ^ 15) (few : seats ≤ 2 ^ 15) (es : List ClockEvent)
     (sound : IsSoundHistory guards seats es) where
-  abbrev lists : ℕ → List Step
+  abbrev lists : ℕ → List ClockStep
   lists n = steps_under n es
 
   -- a draw of a place found so many places
@@ -26,7 +26,7 @@ module _ (guards seats : ℕ) (small : guards < 2 ^ 15) (few : seats ≤ 2 ^ 15)
   place_is m i lane place p = (sound_at guards seats small few es sound m i (Place lane place) p).2.0
 
   -- and one more is drawn whenever it is over
-  place_over : (m i lane place : ℕ) (p : Moment es m i (Place lane place)) (xs : List Event) →
+  place_over : (m i lane place : ℕ) (p : Moment es m i (Place lane place)) (xs : List ClockEvent) →
       Tail (event m (Place lane place) ∷ p.older) xs → place < places_after lane xs
   place_over m i lane place p xs h =
       let a : places_after lane (event m (Place lane place) ∷ p.older) ≤ places_after lane xs =
@@ -76,7 +76,7 @@ module _ (guards seats : ℕ) (small : guards < 2 ^ 15) (few : seats ≤ 2 ^ 15)
       (tail_more x.older (event m (Place lane p)) y.older (place_order m i n j lane p q x y lt))
 
   -- once put, a cell holds its note
-  holds_at : (m i lane place : ℕ) (note : Note) (p : Moment es m i (Put lane place note)) (xs : List Event) →
+  holds_at : (m i lane place : ℕ) (note : Note) (p : Moment es m i (Put lane place note)) (xs : List ClockEvent) →
       Tail (event m (Put lane place note) ∷ p.older) xs → IsSoundHistory guards seats xs →
       cell_after lane place xs ≡ Some note
   holds_at m i lane place note p xs h s =
@@ -150,8 +150,8 @@ module _ (guards seats : ℕ) (small : guards < 2 ^ 15) (few : seats ≤ 2 ^ 15)
   }
 
   -- what was joined in was made before the join
-  joined_before : (n j m a : ℕ) (counts : List ℕ) (s : Step) (q : Moment es n j (Join counts)) (p : Moment es m a s) →
-      a < slice_index counts m → Before es m a n j s (Join counts) p q
+  joined_before : (n j m a : ℕ) (counts : List ℕ) (s : ClockStep) (q : Moment es n j (Join counts))
+      (p : Moment es m a s) → a < slice_index counts m → Before es m a n j s (Join counts) p q
   joined_before n j m a counts s q p lt =
       let b : slice_index counts m ≤ length (steps_under m q.older) =
       (sound_at guards seats small few es sound n j (Join counts) q).2 m in

@@ -5,23 +5,23 @@ use mathlib.Core.Option.{some, none, some-ne-none, some-injective}
 use lib.ListN.{get_elem?}
 use Rattle.std.proofs.lemmas.Bool.{false≢true}
 use Rattle.lane_clock.specs.declared.note.Note.{Note}
-use Rattle.lane_clock.specs.declared.step.Step as own
-use Rattle.lane_clock.specs.declared.step.Step.TheVariants.{Draw, Load, Place, Put, Look, Join}
+use Rattle.lane_clock.specs.declared.step.ClockStep.{ClockStep}
+use Rattle.lane_clock.specs.declared.step.ClockStep.TheVariants.{Draw, Load, Place, Put, Look, Join}
 use Rattle.lane_clock.specs.declared.step.View.{View}
-use Rattle.lane_clock.specs.NoteWord.{IsNote, note_word, note_of}
+use Rattle.lane_clock.specs.NoteWord.{IsNote, note_word, note_in_word}
 use Rattle.lane_clock.specs.Layout.{Layout, cell_word, lane_of_place, lane_of_cell, place_of_cell, slot, slot_lane, slot_place}
 use Rattle.lane_clock.specs.Knowledge.{known_at, steps_at}
-use Rattle.lane_clock.specs.Steps.{place_count, counted, is_place, is_put, has_drawn, has_put}
-use Rattle.lane_clock.specs.History.{Event, HasOneHistory, IsSoundHistory, Fits, cell_after, cell_with, places_after, steps_under}
+use Rattle.lane_clock.specs.Steps.{place_count, step_count, is_place, is_put, has_drawn, has_put}
+use Rattle.lane_clock.specs.History.{ClockEvent, HasOneHistory, IsSoundHistory, Fits, cell_after, cell_with, places_after, steps_under}
 use Rattle.lane_clock.specs.Plays.{step_view, places, puts, looks}
 use Rattle.lane_clock.proofs.KeepLemmas.{steps_keep}
 use Rattle.lane_clock.proofs.WordLemmas.{slot_lane-slot, slot_place-slot, placed_words, put_words, looked}
-use Rattle.lane_clock.proofs.NoteLemmas.{IsHeld, held_back, note_of-note_word}
+use Rattle.lane_clock.proofs.NoteLemmas.{IsHeld, held_back, note_in_word-note_word}
 use Rattle.lane_clock.proofs.CountLemmas.{few_placed}
 use Rattle.lane_clock.proofs.PartLemmas.{places_once, cells_once}
 
 -- what is drawn stands among the steps, and what is put is among what was put
-pub drawn_at : (lane place : ℕ) (ss : List own.Step) → has_drawn lane place ss ≡ true →
+pub drawn_at : (lane place : ℕ) (ss : List ClockStep) → has_drawn lane place ss ≡ true →
     (i : ℕ) × (get_elem? ss i ≡ some (Place lane place))
 drawn_at lane place [] h = absurd (false≢true h)
 drawn_at lane place (s ∷ ss) h = go (drawn_at lane place ss) s (is_place lane place s) refl h
@@ -31,7 +31,7 @@ drawn_at lane place (s ∷ ss) h = go (drawn_at lane place ss) s (is_place lane 
     same at p true false f g e = absurd (false≢true e)
     same at p false c f g e = absurd (false≢true e)
 
-    is_it : (t : own.Step) → is_place lane place t ≡ true → t ≡ Place lane place
+    is_it : (t : ClockStep) → is_place lane place t ≡ true → t ≡ Place lane place
     is_it (Draw c f) e = absurd (false≢true e)
     is_it (Load f) e = absurd (false≢true e)
     is_it (Place at p) e = same at p (eqb lane at) (eqb place p) refl refl e
@@ -40,16 +40,16 @@ drawn_at lane place (s ∷ ss) h = go (drawn_at lane place ss) s (is_place lane 
     is_it (Join counts) e = absurd (false≢true e)
 
     go : (has_drawn lane place ss ≡ true → (i : ℕ) × (get_elem? ss i ≡ some (Place lane place))) →
-        (t : own.Step) (b : Bool) → is_place lane place t ≡ b → (b || has_drawn lane place ss) ≡ true →
+        (t : ClockStep) (b : Bool) → is_place lane place t ≡ b → (b || has_drawn lane place ss) ≡ true →
         (i : ℕ) × (get_elem? (t ∷ ss) i ≡ some (Place lane place))
     go back t true e q = (0, ap some (is_it t e))
     go back t false e q = let r = back q in (suc r.0, r.1)
 
-pub put_seen : (lane place : ℕ) (note : Note) (ss : List own.Step) (i : ℕ) →
+pub put_seen : (lane place : ℕ) (note : Note) (ss : List ClockStep) (i : ℕ) →
     get_elem? ss i ≡ some (Put lane place note) → has_put lane place ss ≡ true
 put_seen lane place note [] i e = absurd (some-ne-none _ (sym e))
 put_seen lane place note (s ∷ ss) Prim.Native.Nat.zero e =
-    ap (λ (t : own.Step). is_put lane place t || has_put lane place ss) (some-injective s (Put lane place note) e)
+    ap (λ (t : ClockStep). is_put lane place t || has_put lane place ss) (some-injective s (Put lane place note) e)
     ∙ rw (eq-eqb lane lane refl, eq-eqb place place refl) refl
 put_seen lane place note (s ∷ ss) (suc i) e =
     ap (λ b. is_put lane place s || b) (put_seen lane place note ss i e) ∙ or_true (is_put lane place s)
@@ -58,7 +58,7 @@ put_seen lane place note (s ∷ ss) (suc i) e =
     or_true true = refl
     or_true false = refl
 
-pub put_at : (lane place : ℕ) (ss : List own.Step) → has_put lane place ss ≡ true →
+pub put_at : (lane place : ℕ) (ss : List ClockStep) → has_put lane place ss ≡ true →
     (i : ℕ) × (note : Note) × (get_elem? ss i ≡ some (Put lane place note))
 put_at lane place [] h = absurd (false≢true h)
 put_at lane place (s ∷ ss) h = go (put_at lane place ss) s (is_put lane place s) refl h
@@ -69,7 +69,7 @@ put_at lane place (s ∷ ss) h = go (put_at lane place ss) s (is_put lane place 
     same at p note true false f g e = absurd (false≢true e)
     same at p note false c f g e = absurd (false≢true e)
 
-    is_it : (t : own.Step) → is_put lane place t ≡ true → (note : Note) × (t ≡ Put lane place note)
+    is_it : (t : ClockStep) → is_put lane place t ≡ true → (note : Note) × (t ≡ Put lane place note)
     is_it (Draw c f) e = absurd (false≢true e)
     is_it (Load f) e = absurd (false≢true e)
     is_it (Place at p) e = absurd (false≢true e)
@@ -78,13 +78,13 @@ put_at lane place (s ∷ ss) h = go (put_at lane place ss) s (is_put lane place 
     is_it (Join counts) e = absurd (false≢true e)
 
     go : (has_put lane place ss ≡ true → (i : ℕ) × (note : Note) × (get_elem? ss i ≡ some (Put lane place note))) →
-        (t : own.Step) (b : Bool) → is_put lane place t ≡ b → (b || has_put lane place ss) ≡ true →
+        (t : ClockStep) (b : Bool) → is_put lane place t ≡ b → (b || has_put lane place ss) ≡ true →
         (i : ℕ) × (note : Note) × (get_elem? (t ∷ ss) i ≡ some (Put lane place note))
     go back t true e q = let r = is_it t e in (0, r.0, ap some r.1)
     go back t false e q = let r = back q in (suc r.0, r.1, r.2)
 
 -- a cell holds a note that it can hold
-pub held_is : (guards seats lane place : ℕ) (es : List Event) → IsSoundHistory guards seats es →
+pub held_is : (guards seats lane place : ℕ) (es : List ClockEvent) → IsSoundHistory guards seats es →
     IsHeld (cell_after lane place es)
 held_is g s lane place [] sound = tt
 held_is g s lane place (e ∷ es) sound = go e.step sound.2 (held_is g s lane place es sound.0)
@@ -94,7 +94,7 @@ held_is g s lane place (e ∷ es) sound = go e.step sound.2 (held_is g s lane pl
     either true note held h k = h
     either false note held h k = k
 
-    go : (st : own.Step) → Fits g es e.by st → IsHeld (cell_after lane place es) →
+    go : (st : ClockStep) → Fits g es e.by st → IsHeld (cell_after lane place es) →
         IsHeld (cell_with lane place st (cell_after lane place es))
     go (Draw c f) fits h = h
     go (Load f) fits h = h
@@ -134,7 +134,8 @@ module _ (plan : Layout) {S : Type 0} (s : State S View) (kept : HasOneHistory p
 
 module _ (plan : Layout) {S : Type 0} (slots id : ℕ) (me : Me S View)
     (mine : (known_at me.0.known me.0.number).mine ≡ true) where
-  pub may_place : (lane : ℕ) → lane < length plan.cells → counted place_count (steps_at me.0.known me.0.number) < 65536
+  pub may_place : (lane : ℕ) → lane < length plan.cells →
+      step_count place_count (steps_at me.0.known me.0.number) < 65536
       → Allows (λ s. HasOneHistory plan {S = S} s) slots id me (1 + lane) (λ n. (n + 1) % 2 ^ 64)
       (places (step slots (1 + lane) 1 0 none) me)
   may_place lane inside room s kept homes at small =
@@ -149,7 +150,7 @@ module _ (plan : Layout) {S : Type 0} (slots id : ℕ) (me : Me S View)
         keeps,
         tt,
         steps_keep plan s kept id me.0 at (Place lane found) (set s.words (1 + lane) ((found + 1) % 2 ^ 64)) s.homes mine
-            (kept.words.places lane inside, subst (λ ss. counted place_count ss < 65536) whole room)
+            (kept.words.places lane inside, subst (λ ss. step_count place_count ss < 65536) whole room)
             (placed_words plan kept.history s.words kept.words me.0.number lane found inside (omega arith)),
         (ap (λ x. (step_view me.0 (Place x found), me.1)) (sym back), fresh),
       )
@@ -175,19 +176,20 @@ module _ (plan : Layout) {S : Type 0} (slots id : ℕ) (me : Me S View)
       let found : ℕ = slice_index s.words word in
       let holds : found ≡ note_word (cell_after lane place kept.history) =
       ap (slice_index s.words) is ∙ kept.words.cells lane place inside in
-      let held : note_of found ≡ cell_after lane place kept.history =
-      ap note_of holds
+      let held : note_in_word found ≡ cell_after lane place kept.history =
+      ap note_in_word holds
       ∙ held_back (cell_after lane place kept.history) (held_is plan.guards plan.seats lane place kept.history kept.sound) in
       let l : lane_of_cell me.0.plan.cells word ≡ lane =
       (λ i. lane_of_cell (own i).cells (is i)) ∙ cell_lane lane place inside in
       let p : place_of_cell me.0.plan.cells word ≡ place =
       (λ i. place_of_cell (own i).cells (is i)) ∙ cell_place lane place inside in (
-        step_view me.0 (Look lane place (note_of found)),
+        step_view me.0 (Look lane place (note_in_word found)),
         keeps,
         tt,
-        steps_keep plan s kept id me.0 at (Look lane place (note_of found)) (set s.words word found) s.homes mine held
-            (looked plan kept.history s.words kept.words me.0.number word lane place (note_of found)),
-        (λ i. (step_view me.0 (Look (sym l i) (sym p i) (note_of found)), me.1)),
+        steps_keep plan s kept id me.0 at (Look lane place (note_in_word found))
+            (set s.words word found) s.homes mine held
+            (looked plan kept.history s.words kept.words me.0.number word lane place (note_in_word found)),
+        (λ i. (step_view me.0 (Look (sym l i) (sym p i) (note_in_word found)), me.1)),
       )
 
   pub may_put : (lane place word new : ℕ) (note : Note) → place < slice_index plan.cells lane →
@@ -222,7 +224,7 @@ module _ (plan : Layout) {S : Type 0} (slots id : ℕ) (me : Me S View)
             (put_words plan kept.history s.words kept.words me.0.number lane place note inside)),
         (
           note,
-          ap note_of made ∙ note_of-note_word note fine,
+          ap note_in_word made ∙ note_in_word-note_word note fine,
           (λ i. (step_view me.0 (Put (sym l i) (sym p i) note), me.1)),
         ),
       )

@@ -6,18 +6,18 @@ use Rattle.std.proofs.lemmas.Bool.{cases_lt}
 use Rattle.atomic_table.proofs.Lists.{at_last}
 use Rattle.lane_clock.specs.declared.found.Found.{Found}
 use Rattle.lane_clock.specs.declared.found.Change.{Change}
-use Rattle.lane_clock.specs.declared.step.Step.{Step}
-use Rattle.lane_clock.specs.declared.step.Step.TheVariants.{Draw, Load, Place, Put, Look, Join}
+use Rattle.lane_clock.specs.declared.step.ClockStep.{ClockStep}
+use Rattle.lane_clock.specs.declared.step.ClockStep.TheVariants.{Draw, Load, Place, Put, Look, Join}
 use Rattle.lane_clock.specs.ClockWord.{amount, found_of, word_of, IsParted}
 use Rattle.lane_clock.specs.Rule.{clock_in, Draws, DrawsOnce, ChangesAddUp, LoadsAgree}
-use Rattle.lane_clock.specs.History.{Event, steps_under, word_after, drawn, Fits, IsSoundHistory, words_after}
+use Rattle.lane_clock.specs.History.{ClockEvent, steps_under, word_after, drawn, Fits, IsSoundHistory, words_after}
 use Rattle.lane_clock.proofs.KnownLemmas.{event, under_same}
 use Rattle.lane_clock.proofs.MomentLemmas.{Tail, tail_refl, tail_more, at_later, Moment, moment_of, One, order_of, in_order}
 use Rattle.lane_clock.proofs.ClockLemmas.{drawn_grows, word_stays, found_clock, found_word, word_bounded}
 use Rattle.lane_clock.proofs.FindingLemmas.{sound_at, older_tail, draw_clock, load_clock, finding, the_clock, drawn_once}
 
 -- each clock below was drawn
-each_drawn : (guards seats : ℕ) → seats ≤ 2 ^ 15 → (es : List Event) → IsSoundHistory guards seats es → (k : ℕ) →
+each_drawn : (guards seats : ℕ) → seats ≤ 2 ^ 15 → (es : List ClockEvent) → IsSoundHistory guards seats es → (k : ℕ) →
     k < drawn es →
     (m : ℕ) × (i : ℕ) × (change : Change) × (found : Found) × Draws (λ n. steps_under n es) m i change found
     × (found.clock ≡ k)
@@ -31,7 +31,7 @@ each_drawn g s few (e ∷ es) sound k lt =
         × (found.clock ≡ k)
     lift h = (h.0, h.1, h.2, h.3, at_later h.0 es (e ∷ es) h.1 (Draw h.2 h.3) (inr (tail_refl es)) h.4, h.5)
 
-    go : (st : Step) → Fits g es e.by st
+    go : (st : ClockStep) → Fits g es e.by st
         → (k < drawn es →
         (m : ℕ) × (i : ℕ) × (change : Change) × (found : Found)
         × Draws (λ n. steps_under n (event e.by st ∷ es)) m i change found × (found.clock ≡ k))
@@ -56,7 +56,7 @@ each_drawn g s few (e ∷ es) sound k lt =
     go (Look lane place held) fits old l = old (omega arith)
     go (Join counts) fits old l = old (omega arith)
 
-module _ (guards seats : ℕ) (small : guards < 2 ^ 15) (few : seats ≤ 2 ^ 15) (es : List Event)
+module _ (guards seats : ℕ) (small : guards < 2 ^ 15) (few : seats ≤ 2 ^ 15) (es : List ClockEvent)
     (sound : IsSoundHistory guards seats es) where
   pub draws_once : DrawsOnce (λ n. steps_under n es) (words_after guards es)
   draws_once =
@@ -130,7 +130,7 @@ module _ (guards seats : ℕ) (small : guards < 2 ^ 15) (few : seats ≤ 2 ^ 15)
             ∙ ap (λ w. (w + amount c) % 2 ^ 64) (sym (word m i c f p));
       }
     where
-      nil_tail : (xs : List Event) → Tail [] xs
+      nil_tail : (xs : List ClockEvent) → Tail [] xs
       nil_tail [] = refl
       nil_tail (x ∷ xs) = inr (nil_tail xs)
 

@@ -4,13 +4,13 @@ use Rattle.std.proofs.lemmas.List.{length-replicate, length-reverse, reverse-app
 use mathlib.Core.Option.{some, some-injective, some-ne-none}
 use lib.ListN.{get_elem?}
 use Rattle.atomic_table.specs.Seated.{TableId}
-use Rattle.lane_clock.specs.declared.step.Step.{Step}
+use Rattle.lane_clock.specs.declared.step.ClockStep.{ClockStep}
 use Rattle.lane_clock.specs.declared.step.Known.{Known}
 use Rattle.lane_clock.specs.declared.step.View.{View}
 use Rattle.lane_clock.specs.Layout.{Layout, cell_word, slot, slot_lane, slot_place, lane_of_cell, place_of_cell}
-use Rattle.lane_clock.specs.declared.step.Step.TheVariants.{Place, Join}
+use Rattle.lane_clock.specs.declared.step.ClockStep.TheVariants.{Place, Join}
 use Rattle.lane_clock.specs.Knowledge.{known, unknown, known_at, steps_at, joined, counts, owns_only, owns_below}
-use Rattle.lane_clock.specs.Seats.{SeatView, ClockId, Owns, Keeps, own, seen_as, after_step, after_join, new_seat, new_seats}
+use Rattle.lane_clock.specs.Seats.{SeatView, ClockId, Owns, Keeps, own, seen_as, after_step, after_join, new_clock_seat, new_clock_seats}
 use Rattle.lane_clock.specs.Steps.{has_drawn, has_put, is_place, is_put}
 use Rattle.lane_clock.specs.Plays.{step_view, join_view, giver_after, given}
 use Rattle.lane_clock.proofs.KnownLemmas.{mine_within, stepped_here, stepped_other, stepped_mine}
@@ -18,7 +18,7 @@ use Rattle.lane_clock.proofs.WordLemmas.{slot_lane-slot, slot_place-slot}
 use Rattle.lane_clock.proofs.JoinLemmas.{joined_at}
 
 -- a step of the view is a step of the seat
-pub shown_step : (t t' : TableId) (v v' : View) (st st' : Step) (seat : SeatView) → t' ≡ t → v' ≡ step_view v st →
+pub shown_step : (t t' : TableId) (v v' : View) (st st' : ClockStep) (seat : SeatView) → t' ≡ t → v' ≡ step_view v st →
     st ≡ st' → seen_as t v ≡ seat → seen_as t' v' ≡ after_step seat st'
 shown_step t t' v v' st st' seat et ev es is = (λ i. seen_as (et i) (ev i)) ∙ (λ i. after_step (is i) (es i))
 
@@ -80,7 +80,7 @@ less_last plan n h =
     λ i. record { plan = plan; number = e i; known = ks i }
 
 gives_last : (table : TableId) (plan : Layout) (n : ℕ) → n < plan.seats →
-    seen_as table (given (giver_at plan (suc n))) ≡ new_seat record { table = table; plan = plan } n
+    seen_as table (given (giver_at plan (suc n))) ≡ new_clock_seat record { table = table; plan = plan } n
 gives_last table plan n h =
     let e : suc n - 1 ≡ n = omega arith in
     let a = length-replicate (suc n) (known true []) in
@@ -108,34 +108,36 @@ giver_less plan (suc n) h le =
     let e : n ≡ suc n - 1 = omega arith in less_last plan n (omega arith) ∙ ap (giver_at plan) e
 
 pub giver_gives : (table : TableId) (plan : Layout) (n : ℕ) → 0 < n → n ≤ plan.seats →
-    seen_as table (given (giver_at plan n)) ≡ new_seat record { table = table; plan = plan } (n - 1)
+    seen_as table (given (giver_at plan n)) ≡ new_clock_seat record { table = table; plan = plan } (n - 1)
 giver_gives table plan zero h le = absurd (omega arith)
 giver_gives table plan (suc n) h le =
     let e : n ≡ suc n - 1 = omega arith in
-    gives_last table plan n (omega arith) ∙ ap (new_seat record { table = table; plan = plan }) e
+    gives_last table plan n (omega arith) ∙ ap (new_clock_seat record { table = table; plan = plan }) e
 
 -- one seat more in front
-pub seats_more : (clock : ClockId) (n k : ℕ) (seats : List SeatView) → 0 < n → seats ≡ new_seats clock n k →
-    new_seat clock (n - 1) ∷ seats ≡ new_seats clock (n - 1) (k + 1)
+pub seats_more : (clock : ClockId) (n k : ℕ) (seats : List SeatView) → 0 < n → seats ≡ new_clock_seats clock n k →
+    new_clock_seat clock (n - 1) ∷ seats ≡ new_clock_seats clock (n - 1) (k + 1)
 seats_more clock n k seats h e =
     let a : n ≡ n - 1 + 1 = omega arith in
     let b : suc k ≡ k + 1 = omega arith in
-    ap (λ xs. new_seat clock (n - 1) ∷ xs) (e ∙ ap (λ m. new_seats clock m k) a) ∙ ap (new_seats clock (n - 1)) b
+    ap (λ xs. new_clock_seat clock (n - 1) ∷ xs) (e ∙ ap (λ m. new_clock_seats clock m k) a)
+    ∙ ap (new_clock_seats clock (n - 1)) b
 
 pub reverse_push : (xs : List SeatView) (x : SeatView) → reverse (xs ++ x ∷ []) ≡ x ∷ reverse xs
 reverse_push xs x = reverse-append xs (x ∷ [])
 
 -- a seat with its own steps has one more after a step
-pub own_step : (seat : SeatView) (st : Step) → Owns seat seat.number → own (after_step seat st) ≡ own seat ++ st ∷ []
+pub own_step : (seat : SeatView) (st : ClockStep) → Owns seat seat.number →
+    own (after_step seat st) ≡ own seat ++ st ∷ []
 own_step seat st mine =
     ap (λ (k : Known). k.steps) (stepped_here seat.known seat.number st (mine_within seat.known seat.number mine))
 
 -- and the others stay
-pub step_other : (seat : SeatView) (st : Step) (n : ℕ) → n ≢ seat.number →
+pub step_other : (seat : SeatView) (st : ClockStep) (n : ℕ) → n ≢ seat.number →
     known_at (after_step seat st).known n ≡ known_at seat.known n
 step_other seat st n ne = stepped_other seat.known seat.number n st ne
 
-pub owns_step : (seat : SeatView) (st : Step) (n : ℕ) → Owns seat seat.number → Owns seat n →
+pub owns_step : (seat : SeatView) (st : ClockStep) (n : ℕ) → Owns seat seat.number → Owns seat n →
     Owns (after_step seat st) n
 owns_step seat st n mine h = stepped_mine seat.known seat.number n st (mine_within seat.known seat.number mine) ∙ h
 
@@ -174,12 +176,12 @@ joined_steps seat ks n ne none all =
     ∙ rw (none, all) refl
 
 -- a new seat has its number and no steps
-pub new_owns : (clock : ClockId) (n : ℕ) → n < clock.plan.seats → Owns (new_seat clock n) n
+pub new_owns : (clock : ClockId) (n : ℕ) → n < clock.plan.seats → Owns (new_clock_seat clock n) n
 new_owns clock n h =
     ap (λ (k : Known). k.mine) (get_or-set_same (replicate clock.plan.seats unknown) n (known true []) unknown
     (subst (λ k. n < k) (sym (length-replicate clock.plan.seats unknown)) h))
 
-pub new_own : (clock : ClockId) (n : ℕ) → own (new_seat clock n) ≡ []
+pub new_own : (clock : ClockId) (n : ℕ) → own (new_clock_seat clock n) ≡ []
 new_own clock n = none_owned clock.plan.seats n
   where
     none_owned : (seats m : ℕ) → steps_at (set (replicate seats unknown) m (known true [])) m ≡ []
@@ -191,24 +193,24 @@ pub shown_join : (t t' : TableId) (v v' : View) (ks ks' : List Known) (seat : Se
     ks ≡ ks' → seen_as t v ≡ seat → seen_as t' v' ≡ after_join seat ks'
 shown_join t t' v v' ks ks' seat et ev ek is = (λ i. seen_as (et i) (ev i)) ∙ (λ i. after_join (is i) (ek i))
 
-length-new_seats : (clock : ClockId) (n k : ℕ) → length (new_seats clock n k) ≡ k
-length-new_seats clock n zero = refl
-length-new_seats clock n (suc k) = ap suc (length-new_seats clock (n + 1) k)
+length-new_clock_seats : (clock : ClockId) (n k : ℕ) → length (new_clock_seats clock n k) ≡ k
+length-new_clock_seats clock n zero = refl
+length-new_clock_seats clock n (suc k) = ap suc (length-new_clock_seats clock (n + 1) k)
 
 -- the seats in reverse order, all of them
-pub all_listed : (clock : ClockId) (seats : List SeatView) (k : ℕ) → reverse seats ≡ new_seats clock 0 k →
+pub all_listed : (clock : ClockId) (seats : List SeatView) (k : ℕ) → reverse seats ≡ new_clock_seats clock 0 k →
     length seats ≡ k
-all_listed clock seats k e = sym (length-reverse seats) ∙ (ap length e ∙ length-new_seats clock 0 k)
+all_listed clock seats k e = sym (length-reverse seats) ∙ (ap length e ∙ length-new_clock_seats clock 0 k)
 
 -- what one more step adds to what was drawn, put and counted
-pub has_drawn-push : (lane place : ℕ) (ss : List Step) (s : Step) →
+pub has_drawn-push : (lane place : ℕ) (ss : List ClockStep) (s : ClockStep) →
     has_drawn lane place (ss ++ s ∷ []) ≡ (has_drawn lane place ss || is_place lane place s)
 has_drawn-push lane place [] s = or_nothing (is_place lane place s)
 has_drawn-push lane place (x ∷ ss) s =
     ap (λ b. is_place lane place x || b) (has_drawn-push lane place ss s)
     ∙ or_assoc (is_place lane place x) (has_drawn lane place ss) (is_place lane place s)
 
-pub has_put-push : (lane place : ℕ) (ss : List Step) (s : Step) →
+pub has_put-push : (lane place : ℕ) (ss : List ClockStep) (s : ClockStep) →
     has_put lane place (ss ++ s ∷ []) ≡ (has_put lane place ss || is_put lane place s)
 has_put-push lane place [] s = or_nothing (is_put lane place s)
 has_put-push lane place (x ∷ ss) s =
@@ -216,17 +218,17 @@ has_put-push lane place (x ∷ ss) s =
     ∙ or_assoc (is_put lane place x) (has_put lane place ss) (is_put lane place s)
 
 -- a place that was drawn last
-pub drawn_last : (lane place : ℕ) (ss : List Step) → has_drawn lane place (ss ++ Place lane place ∷ []) ≡ true
+pub drawn_last : (lane place : ℕ) (ss : List ClockStep) → has_drawn lane place (ss ++ Place lane place ∷ []) ≡ true
 drawn_last lane place ss =
     has_drawn-push lane place ss (Place lane place)
     ∙ rw (eq-eqb lane lane refl, eq-eqb place place refl) (or_truth (has_drawn lane place ss))
 
-pub fresh_last : (lane place at p : ℕ) (ss : List Step) → has_put lane place ss ≡ false →
+pub fresh_last : (lane place at p : ℕ) (ss : List ClockStep) → has_put lane place ss ≡ false →
     has_put lane place (ss ++ Place at p ∷ []) ≡ false
 fresh_last lane place at p ss h = has_put-push lane place ss (Place at p) ∙ rw h refl
 
 -- a step and a join keep what is owned
-pub keeps_step : (seat after : SeatView) (st : Step) → Owns seat seat.number → after ≡ after_step seat st →
+pub keeps_step : (seat after : SeatView) (st : ClockStep) → Owns seat seat.number → after ≡ after_step seat st →
     Keeps seat after
 keeps_step seat after st mine e n h = subst (λ s. Owns s n) (sym e) (owns_step seat st n mine h)
 

@@ -9,16 +9,16 @@ use native.Mathlib.Decide.{ℕ_discrete}
 use lib.ListN.{get_elem?}
 use Rattle.atomic_table.specs.Table.{State, Splits}
 use Rattle.atomic_table.proofs.Lists.{at_set, at_snoc, set_again}
-use Rattle.lane_clock.specs.declared.step.Step.{Step}
+use Rattle.lane_clock.specs.declared.step.ClockStep.{ClockStep}
 use Rattle.lane_clock.specs.declared.step.Known.{Known}
 use Rattle.lane_clock.specs.declared.step.View.{View}
 use Rattle.lane_clock.specs.Layout.{Layout}
 use Rattle.lane_clock.specs.Knowledge.{unknown, known_at, steps_at, copied, copy_of}
-use Rattle.lane_clock.specs.History.{Event, steps_under, StartOf, KnowsHistory, HasOneHistory}
+use Rattle.lane_clock.specs.History.{ClockEvent, steps_under, StartOf, KnowsHistory, HasOneHistory}
 use Rattle.lane_clock.specs.Plays.{copy_view, giver_after, given}
 use Rattle.lane_clock.proofs.KnownLemmas.{mine_within, at_push}
 
-nothing_first : (xs : List Step) → StartOf [] xs
+nothing_first : (xs : List ClockStep) → StartOf [] xs
 nothing_first xs = (xs, refl)
 
 not_mine : false ≡ true → ⊥
@@ -27,7 +27,8 @@ not_mine e = false≢true e
 pub copied_at : (ks : List Known) (n : ℕ) → known_at (copy_of ks) n ≡ copied (known_at ks n)
 copied_at ks n = get_or-map copied ks n unknown
 
-copy_knows : (plan : Layout) (es : List Event) (v : View) → KnowsHistory plan es v → KnowsHistory plan es (copy_view v)
+copy_knows : (plan : Layout) (es : List ClockEvent) (v : View) → KnowsHistory plan es v →
+    KnowsHistory plan es (copy_view v)
 copy_knows plan es v k =
     let no : (n : ℕ) → (known_at (copy_of v.known) n).mine ≡ true → ⊥ = λ n h.
     not_mine (sym (ap (λ (x : Known). x.mine) (copied_at v.known n)) ∙ h) in
@@ -106,7 +107,7 @@ module _ (plan : Layout) (v : View) (k : ℕ) (mine : (known_at v.known k).mine 
   gone_mine n h =
       dite (ℕ_discrete n k) (λ (e : n ≡ k). e) (λ ne. absurd (not_mine (sym (ap (λ (x : Known). x.mine) (gone_other n ne)) ∙ h)))
 
-  left_knows : (es : List Event) (number : ℕ) → KnowsHistory plan es v →
+  left_knows : (es : List ClockEvent) (number : ℕ) → KnowsHistory plan es v →
       KnowsHistory plan es record { plan = v.plan; number = number; known = left_known }
   left_knows es number h = record {
     short = subst (λ n. n ≤ plan.seats) (sym (length-set v.known k unknown)) h.short;
@@ -120,7 +121,7 @@ module _ (plan : Layout) (v : View) (k : ℕ) (mine : (known_at v.known k).mine 
     width = λ n m. let w = h.width n (left_mine n m).1 in (w.0, length-set v.known k unknown ∙ w.1, w.2);
   }
 
-  gone_knows : (es : List Event) (number : ℕ) → KnowsHistory plan es v →
+  gone_knows : (es : List ClockEvent) (number : ℕ) → KnowsHistory plan es v →
       KnowsHistory plan es record { plan = v.plan; number = number; known = gone_known }
   gone_knows es number h =
       let long : length gone_known ≡ length v.known =

@@ -3,12 +3,12 @@ use Rattle.std.proofs.Common.{◌≡◌, ℕ, ◌+◌, ◌%◌, ◌^◌, ◌<◌
 use Rattle.atomic_table.specs.Table.{Me, keeps, step, Allows}
 use mathlib.Core.Option.{none}
 use Rattle.lane_clock.specs.declared.found.Change.{Change}
-use Rattle.lane_clock.specs.declared.step.Step.TheVariants.{Draw, Load}
+use Rattle.lane_clock.specs.declared.step.ClockStep.TheVariants.{Draw, Load}
 use Rattle.lane_clock.specs.declared.step.View.{View}
 use Rattle.lane_clock.specs.ClockWord.{amount, found_of}
 use Rattle.lane_clock.specs.Layout.{Layout}
 use Rattle.lane_clock.specs.Knowledge.{known_at, steps_at}
-use Rattle.lane_clock.specs.Steps.{draw_count, counted}
+use Rattle.lane_clock.specs.Steps.{draw_count, step_count}
 use Rattle.lane_clock.specs.History.{HasOneHistory}
 use Rattle.lane_clock.specs.Plays.{step_view, draws, loads}
 use Rattle.lane_clock.proofs.KeepLemmas.{steps_keep}
@@ -28,7 +28,7 @@ module _ (plan : Layout) {S : Type 0} (slots id : ℕ) (me : Me S View)
         refl,
       )
 
-  drawing : (c : Change) → counted draw_count (steps_at me.0.known me.0.number) < 65536 →
+  drawing : (c : Change) → step_count draw_count (steps_at me.0.known me.0.number) < 65536 →
       Allows (λ s. HasOneHistory plan {S = S} s) slots id me 0 (λ n. (n + amount c) % 2 ^ 64)
       (draws (step slots 0 (amount c) 0 none) me)
   drawing c few s kept homes at small =
@@ -39,12 +39,12 @@ module _ (plan : Layout) {S : Type 0} (slots id : ℕ) (me : Me S View)
         keeps,
         tt,
         steps_keep plan s kept id me.0 at st (set s.words 0 ((slice_index s.words 0 + amount c) % 2 ^ 64)) s.homes mine
-            (ap found_of kept.words.clock, subst (λ ss. counted draw_count ss < 65536) whole few)
+            (ap found_of kept.words.clock, subst (λ ss. step_count draw_count ss < 65536) whole few)
             (drawn_words plan kept.history s.words kept.words me.0.number c found),
         ap (λ (x : Change). (step_view me.0 (Draw x found), me.1)) (sym (change_of-amount c)),
       )
 
-  pub may_draw : (c : Change) (k : ℕ) → k ≡ amount c → counted draw_count (steps_at me.0.known me.0.number) < 65536
+  pub may_draw : (c : Change) (k : ℕ) → k ≡ amount c → step_count draw_count (steps_at me.0.known me.0.number) < 65536
       → Allows (λ s. HasOneHistory plan {S = S} s) slots id me 0 (λ n. (n + k) % 2 ^ 64) (draws (step slots 0 k 0 none) me)
   may_draw c k e few =
       subst

@@ -8,11 +8,11 @@ use Rattle.lane_clock.specs.declared.found.Found.{Found}
 use Rattle.lane_clock.specs.declared.found.Change.{Change}
 use Rattle.lane_clock.specs.declared.found.Change.TheVariants.{Same, Up, Down, DownTwo, Stop}
 use Rattle.lane_clock.specs.declared.note.Note.{Note}
-use Rattle.lane_clock.specs.declared.step.Step.TheVariants.{Draw, Load, Place, Put, Look, Join}
+use Rattle.lane_clock.specs.declared.step.ClockStep.TheVariants.{Draw, Load, Place, Put, Look, Join}
 use Rattle.lane_clock.specs.ClockWord.{amount, change_of}
 use Rattle.lane_clock.specs.NoteWord.{note_word}
 use Rattle.lane_clock.specs.Layout.{Layout, total, slot, slot_lane, slot_place, place_word, cell_word}
-use Rattle.lane_clock.specs.History.{Event, AreWords, places_after, cell_after}
+use Rattle.lane_clock.specs.History.{ClockEvent, AreWords, places_after, cell_after}
 use Rattle.lane_clock.proofs.KnownLemmas.{event}
 
 pub change_of-amount : (c : Change) → change_of (amount c) ≡ c
@@ -53,7 +53,7 @@ slot_place-slot (c ∷ cs) (suc lane) place h =
     let n : ltb (c + k) c ≡ false = le-ltb (c + k) c (omega arith) in
     rw (n, e) (slot_place-slot cs lane place h)
 
-module _ (plan : Layout) (es : List Event) (ws : List ℕ) (w : AreWords plan es ws) (n : ℕ) where
+module _ (plan : Layout) (es : List ClockEvent) (ws : List ℕ) (w : AreWords plan es ws) (n : ℕ) where
   -- a write of what was there
   pub written_back : (i : ℕ) → set ws i (slice_index ws i) ≡ ws
   written_back i = set-get_or ws i 0

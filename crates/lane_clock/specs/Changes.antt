@@ -3,7 +3,7 @@ use Rattle.std.specs.Prelude.{◌≡◌, ℕ, zero, suc, ◌+◌, ◌-◌, ◌^�
 use Rattle.lane_clock.specs.declared.found.Found.{Found}
 use Rattle.lane_clock.specs.declared.found.Change.{Change}
 use Rattle.lane_clock.specs.declared.found.Change.TheVariants.{Same, Up, Down, DownTwo, Stop}
-use Rattle.lane_clock.specs.declared.step.Step.{Step}
+use Rattle.lane_clock.specs.declared.step.ClockStep.{ClockStep}
 use Rattle.lane_clock.specs.Rule.{Draws}
 
 -- f 0 + .. + f (n - 1)
@@ -34,7 +34,7 @@ stop_of DownTwo = 0
 stop_of Stop = 1
 
 -- the draws of the clocks below n made these changes
-abbrev pub ChangesAre : (ℕ → List Step) → (ℕ → Change) → ℕ → Type 0
+abbrev pub ChangesAre : (ℕ → List ClockStep) → (ℕ → Change) → ℕ → Type 0
 ChangesAre lists changes n =
     (k : ℕ) → k < n →
     (m : ℕ) × (i : ℕ) × (found : Found) × Draws lists m i (changes k) found × (found.clock ≡ k)

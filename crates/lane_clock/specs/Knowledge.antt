@@ -1,10 +1,10 @@
 -- What seats know, this project's own: of each number the steps that were made under it, or the
 -- first of them.
 use Rattle.std.specs.Prelude.{ℕ, ◌-◌, List, [], ◌∷◌, ◌++◌, map, length, replicate, slice_index_or, slice_set, Bool, true, false, if◌then◌else◌, nat_lt, ◌||◌}
-use Rattle.lane_clock.specs.declared.step.Step.{Step}
+use Rattle.lane_clock.specs.declared.step.ClockStep.{ClockStep}
 use Rattle.lane_clock.specs.declared.step.Known.{Known}
 
-abbrev pub known : Bool → List Step → Known
+abbrev pub known : Bool → List ClockStep → Known
 known mine steps = record { mine = mine; steps = steps }
 
 -- nothing is known
@@ -15,14 +15,14 @@ unknown = known false []
 abbrev pub known_at : List Known → ℕ → Known
 known_at ks n = slice_index_or ks n unknown
 
-abbrev pub steps_at : List Known → ℕ → List Step
+abbrev pub steps_at : List Known → ℕ → List ClockStep
 steps_at ks n = (known_at ks n).steps
 
 -- one step more under a number
-abbrev pub longer_by : Known → Step → Known
+abbrev pub longer_by : Known → ClockStep → Known
 longer_by k step = known k.mine (k.steps ++ step ∷ [])
 
-abbrev pub stepped_at : List Known → ℕ → Step → List Known
+abbrev pub stepped_at : List Known → ℕ → ClockStep → List Known
 stepped_at ks n step = slice_set ks n (longer_by (known_at ks n) step)
 
 -- the same steps, with which nobody goes on

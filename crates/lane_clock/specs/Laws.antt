@@ -6,18 +6,18 @@ use Rattle.atomic_table.specs.Table.{State}
 use Rattle.lane_clock.specs.declared.found.Found.{Found}
 use Rattle.lane_clock.specs.declared.found.Change.{Change}
 use Rattle.lane_clock.specs.declared.note.Note.{Note}
-use Rattle.lane_clock.specs.declared.step.Step.{Step}
+use Rattle.lane_clock.specs.declared.step.ClockStep.{ClockStep}
 use Rattle.lane_clock.specs.declared.step.View.{View}
 use Rattle.lane_clock.specs.Layout.{Layout}
 use Rattle.lane_clock.specs.Knowledge.{known_at, steps_at}
-use Rattle.lane_clock.specs.Rule.{Words, Draws, Finds, Places, Puts, Looks, Joins, Precedes, ClockRule, Closed}
+use Rattle.lane_clock.specs.Rule.{ClockWords, Draws, Finds, Places, Puts, Looks, Joins, Precedes, ClockRule, Closed}
 use Rattle.lane_clock.specs.Changes.{ChangesAre, ChangesFit, AddsUp}
 use Rattle.lane_clock.specs.History.{HasOneHistory, AreHeld, StartOf}
 
 -- The rule holds of the steps made so far. Each seat knows the first of them, and all of its own
 pub record HoldsNow (plan : Layout) (s : State (Unit {0}) View) : Type 0 where
-  pub lists : ℕ → List Step
-  pub words : Words
+  pub lists : ℕ → List ClockStep
+  pub words : ClockWords
   pub held : AreHeld plan words s.words
   pub rule : ClockRule lists words plan.guards
   pub known : (i n : ℕ) (v : View) → get_elem? s.views i ≡ some v →
@@ -31,7 +31,7 @@ HoldsBetweenSteps =
     (plan : Layout) (s : State (Unit {0}) View) → HasOneHistory plan s → HoldsNow plan s
 
 -- The positions drawn are those below the clock at the end, each once
-pub record PositionsOnce (lists : ℕ → List Step) (last : Found) : Type 0 where
+pub record PositionsOnce (lists : ℕ → List ClockStep) (last : Found) : Type 0 where
   pub below : (m i : ℕ) (change : Change) (found : Found) → Draws lists m i change found →
       found.clock < last.clock
   pub each : (k : ℕ) → k < last.clock →
@@ -42,18 +42,19 @@ pub record PositionsOnce (lists : ℕ → List Step) (last : Found) : Type 0 whe
 
 abbrev pub PositionsAreOnce : Type 0
 PositionsAreOnce =
-    (lists : ℕ → List Step) (guards : ℕ) (last : Found) → Closed lists guards last →
+    (lists : ℕ → List ClockStep) (guards : ℕ) (last : Found) → Closed lists guards last →
     PositionsOnce lists last
 
 -- What a list drew before a place is below what is found after a later place of that lane
 abbrev pub PlacesKeepOrder : Type 0
-PlacesKeepOrder = (lists : ℕ → List Step) (guards : ℕ) (last : Found) → Closed lists guards last
+PlacesKeepOrder =
+    (lists : ℕ → List ClockStep) (guards : ℕ) (last : Found) → Closed lists guards last
     → (m i n j lane p q : ℕ) → p < q → Places lists m i lane p → Places lists n j lane q
     → Precedes lists m i n j
 
 -- The list that put a note drew its place before, and what it drew before it put is below what is
 -- found after the note was seen
-pub record Noted (lists : ℕ → List Step) (n j lane place : ℕ) (note : Note) : Type 0 where
+pub record Noted (lists : ℕ → List ClockStep) (n j lane place : ℕ) (note : Note) : Type 0 where
   pub by : ℕ
   pub drawn : ℕ
   pub put : ℕ
@@ -63,41 +64,41 @@ pub record Noted (lists : ℕ → List Step) (n j lane place : ℕ) (note : Note
   pub before : Precedes lists by put n j
 
 abbrev pub NotesAreOlder : Type 0
-NotesAreOlder = (lists : ℕ → List Step) (guards : ℕ) (last : Found) → Closed lists guards last
+NotesAreOlder = (lists : ℕ → List ClockStep) (guards : ℕ) (last : Found) → Closed lists guards last
     → (n j lane place : ℕ) (note : Note) → Looks lists n j lane place (Some note)
     → Noted lists n j lane place note
 
 -- What a list had drawn when it was joined in is below what is found afterwards
 abbrev pub JoinsAreBefore : Type 0
-JoinsAreBefore = (lists : ℕ → List Step) (guards : ℕ) (last : Found) → Closed lists guards last
+JoinsAreBefore = (lists : ℕ → List ClockStep) (guards : ℕ) (last : Found) → Closed lists guards last
     → (n j m : ℕ) (counts : List ℕ) → Joins lists n j counts
     → Precedes lists m (slice_index counts m) n j
 
 -- The changes of the positions below the clock at the end
 abbrev pub ChangesStand : Type 0
 ChangesStand =
-    (lists : ℕ → List Step) (guards : ℕ) (last : Found) → Closed lists guards last →
+    (lists : ℕ → List ClockStep) (guards : ℕ) (last : Found) → Closed lists guards last →
     (changes : ℕ → Change) × ChangesAre lists changes last.clock
 
 -- What finds the clock n finds work and stops of the first n changes, as long as these fit; the
 -- word at the end has those of all
-pub record FindsSums (lists : ℕ → List Step) (guards : ℕ) (last : Found) (changes : ℕ → Change)
+pub record FindsSums (lists : ℕ → List ClockStep) (guards : ℕ) (last : Found) (changes : ℕ → Change)
     (n : ℕ) : Type 0 where
   pub found : (m i : ℕ) (found : Found) → Finds lists m i found → found.clock ≡ n →
       AddsUp guards changes n found
   pub end : last.clock ≡ n → AddsUp guards changes n last
 
 abbrev pub WorkAddsUp : Type 0
-WorkAddsUp = (lists : ℕ → List Step) (guards : ℕ) (last : Found) → Closed lists guards last
+WorkAddsUp = (lists : ℕ → List ClockStep) (guards : ℕ) (last : Found) → Closed lists guards last
     → (changes : ℕ → Change) (n : ℕ) → ChangesAre lists changes n → n ≤ last.clock
     → ChangesFit guards changes n → FindsSums lists guards last changes n
 
 -- A cell that was seen empty is put later by the list that looked, and not by what it had joined in
-pub record EmptyYet (lists : ℕ → List Step) (n j lane place : ℕ) : Type 0 where
+pub record EmptyYet (lists : ℕ → List ClockStep) (n j lane place : ℕ) : Type 0 where
   pub own : (i : ℕ) (note : Note) → Puts lists n i lane place note → j < i
   pub joined : (h m i : ℕ) (counts : List ℕ) (note : Note) → Joins lists n h counts → h < j →
       Puts lists m i lane place note → slice_index counts m ≤ i
 
 abbrev pub EmptyIsUnput : Type 0
-EmptyIsUnput = (lists : ℕ → List Step) (guards : ℕ) (last : Found) → Closed lists guards last
+EmptyIsUnput = (lists : ℕ → List ClockStep) (guards : ℕ) (last : Found) → Closed lists guards last
     → (n j lane place : ℕ) → Looks lists n j lane place None → EmptyYet lists n j lane place

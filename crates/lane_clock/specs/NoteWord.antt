@@ -31,8 +31,8 @@ abbrev pub note_word : Option Note → ℕ
 note_word None = 0
 note_word (Some note) = 1 + note.op + 65536 * code_number note.code + 16777216 * note.size
 
-abbrev pub note_of : ℕ → Option Note
-note_of w =
+abbrev pub note_in_word : ℕ → Option Note
+note_in_word w =
     if w == 0 then None else
     Some record {
       op = (w - 1) % 65536;

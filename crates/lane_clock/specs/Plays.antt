@@ -2,12 +2,12 @@
 use Rattle.std.specs.Prelude.{true, ◌≡◌, ℕ, ◌-◌, List, [], length, replicate, slice_set, false, Some}
 use Rattle.atomic_table.specs.Table as table
 use Rattle.lane_clock.specs.declared.note.Note.{Note}
-use Rattle.lane_clock.specs.declared.step.Step.{Step}
-use Rattle.lane_clock.specs.declared.step.Step.TheVariants.{Draw, Load, Place, Put, Look, Join}
+use Rattle.lane_clock.specs.declared.step.ClockStep.{ClockStep}
+use Rattle.lane_clock.specs.declared.step.ClockStep.TheVariants.{Draw, Load, Place, Put, Look, Join}
 use Rattle.lane_clock.specs.declared.step.Known.{Known}
 use Rattle.lane_clock.specs.declared.step.View.{View}
 use Rattle.lane_clock.specs.ClockWord.{change_of, found_of}
-use Rattle.lane_clock.specs.NoteWord.{note_of}
+use Rattle.lane_clock.specs.NoteWord.{note_in_word}
 use Rattle.lane_clock.specs.Layout.{lane_of_place, lane_of_cell, place_of_cell}
 use Rattle.lane_clock.specs.Knowledge.{known_at, steps_at, unknown, stepped_at, joined, counts, copy_of}
 use Rattle.lane_clock.specs.Steps.{has_put}
@@ -16,7 +16,7 @@ abbrev pub view_with : View → List Known → View
 view_with v ks = record { plan = v.plan; number = v.number; known = ks }
 
 -- the view after one more step
-abbrev pub step_view : View → Step → View
+abbrev pub step_view : View → ClockStep → View
 step_view v step = view_with v (stepped_at v.known v.number step)
 
 -- the view after it took in what another knows
@@ -44,12 +44,12 @@ given v = record {
 }
 
 -- a seat that was taken in knows nothing
-abbrev pub spent : View
-spent = record { plan = record { guards = 0; seats = 0; cells = [] }; number = 0; known = [] }
+abbrev pub spent_view : View
+spent_view = record { plan = record { guards = 0; seats = 0; cells = [] }; number = 0; known = [] }
 
 module _ {S : Type 0} where
   -- the seat made this step, and holds what it held
-  abbrev pub Makes : table.Me S View → Step → table.Me S View → Type 0
+  abbrev pub Makes : table.Me S View → ClockStep → table.Me S View → Type 0
   Makes me step after = after ≡ (step_view me.0 step, me.1)
 
   abbrev pub draws : table.Step S → table.Me S View → ℕ → table.Me S View → Type 0
@@ -67,7 +67,7 @@ module _ {S : Type 0} where
   -- the number is the word that was stored
   abbrev pub puts : table.Step S → table.Me S View → ℕ → table.Me S View → Type 0
   puts st me n after =
-      (note : Note) × (note_of n ≡ Some note)
+      (note : Note) × (note_in_word n ≡ Some note)
       × Makes me
       (Put (lane_of_cell me.0.plan.cells st.word) (place_of_cell me.0.plan.cells st.word) note)
       after
@@ -76,7 +76,7 @@ module _ {S : Type 0} where
   looks st me n after =
       Makes me
       (Look (lane_of_cell me.0.plan.cells st.word) (place_of_cell me.0.plan.cells st.word)
-      (note_of n)) after
+      (note_in_word n)) after
 
 -- a seat of the table with no slot, whose own steps are all there are under its number
 pub record IsLive (me : table.Me (Unit {0}) View) : Type 0 where

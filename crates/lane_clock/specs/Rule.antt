@@ -6,13 +6,13 @@ use mathlib.Core.Option.{some}
 use Rattle.lane_clock.specs.declared.found.Found.{Found}
 use Rattle.lane_clock.specs.declared.found.Change.{Change}
 use Rattle.lane_clock.specs.declared.note.Note.{Note}
-use Rattle.lane_clock.specs.declared.step.Step.{Step}
-use Rattle.lane_clock.specs.declared.step.Step.TheVariants.{Draw, Load, Place, Put, Look, Join}
+use Rattle.lane_clock.specs.declared.step.ClockStep.{ClockStep}
+use Rattle.lane_clock.specs.declared.step.ClockStep.TheVariants.{Draw, Load, Place, Put, Look, Join}
 use Rattle.lane_clock.specs.Layout.{most_seats}
 use Rattle.lane_clock.specs.ClockWord.{amount, word_of, IsParted}
 
 -- What the words of a clock hold
-pub record Words : Type 0 where
+pub record ClockWords : Type 0 where
   pub clock_word : ℕ
   -- of each lane, how many places were drawn
   pub places : ℕ → ℕ
@@ -20,17 +20,17 @@ pub record Words : Type 0 where
   pub cells : ℕ → ℕ → Option Note
 
 -- how many positions were drawn
-abbrev pub clock_in : Words → ℕ
+abbrev pub clock_in : ClockWords → ℕ
 clock_in words = words.clock_word % 2 ^ 32
 
 -- the step finds the clock word
-pub data IsFinding : Step → Found → Type 0 where
+pub data IsFinding : ClockStep → Found → Type 0 where
   by_draw : (change : Change) (found : Found) → IsFinding (Draw change found) found
   by_load : (found : Found) → IsFinding (Load found) found
 
-module _ (lists : ℕ → List Step) where
+module _ (lists : ℕ → List ClockStep) where
   -- the i-th step under the number m
-  abbrev pub StepAt : ℕ → ℕ → Step → Type 0
+  abbrev pub StepAt : ℕ → ℕ → ClockStep → Type 0
   StepAt m i step = get_elem? (lists m) i ≡ some step
 
   abbrev pub Draws : ℕ → ℕ → Change → Found → Type 0
@@ -40,7 +40,7 @@ module _ (lists : ℕ → List Step) where
   Loads m i found = StepAt m i (Load found)
 
   abbrev pub Finds : ℕ → ℕ → Found → Type 0
-  Finds m i found = (step : Step) × StepAt m i step × IsFinding step found
+  Finds m i found = (step : ClockStep) × StepAt m i step × IsFinding step found
 
   abbrev pub Places : ℕ → ℕ → ℕ → ℕ → Type 0
   Places m i lane place = StepAt m i (Place lane place)
@@ -84,7 +84,7 @@ module _ (lists : ℕ → List Step) where
         Looks n j lane place None → Joins n h counts → h < j → Puts m i lane place note →
         slice_index counts m ≤ i
 
-  module _ (words : Words) where
+  module _ (words : ClockWords) where
     -- The draws found the numbers below the clock, each once; within a list clocks never fall, and
     -- rise after a draw
     pub record DrawsOnce : Type 0 where
@@ -152,9 +152,9 @@ module _ (lists : ℕ → List Step) where
       pub empty_looks : EmptyLooks
 
 -- A clock that is closed: its lists meet the rule, and in the end its word has these parts
-pub record Closed (lists : ℕ → List Step) (guards : ℕ) (last : Found) : Type 0 where
+pub record Closed (lists : ℕ → List ClockStep) (guards : ℕ) (last : Found) : Type 0 where
   pub few : guards < most_seats
-  pub words : Words
+  pub words : ClockWords
   pub word : words.clock_word ≡ word_of last
   pub parts : IsParted last
   pub rule : ClockRule lists words guards

@@ -1,8 +1,8 @@
 -- The seats of a clock as contracts see them, this project's own.
 use Rattle.std.specs.Prelude.{◌≡◌, ℕ, zero, suc, ◌+◌, ◌^◌, ◌<◌, ◌≤◌, List, [], ◌∷◌, ◌++◌, length, reverse, slice_index, true}
 use Rattle.atomic_table.specs.Seated.{TableId}
-use Rattle.lane_clock.specs.declared.step.Step.{Step}
-use Rattle.lane_clock.specs.declared.step.Step.TheVariants.{Place, Join}
+use Rattle.lane_clock.specs.declared.step.ClockStep.{ClockStep}
+use Rattle.lane_clock.specs.declared.step.ClockStep.TheVariants.{Place, Join}
 use Rattle.lane_clock.specs.declared.step.Known.{Known}
 use Rattle.lane_clock.specs.declared.step.View.{View}
 use Rattle.lane_clock.specs.Layout.{Layout}
@@ -27,13 +27,13 @@ seen_as table v = record {
   known = v.known;
 }
 
-abbrev pub new_seat : ClockId → ℕ → SeatView
-new_seat clock n = record { clock = clock; number = n; known = owns_only n clock.plan.seats }
+abbrev pub new_clock_seat : ClockId → ℕ → SeatView
+new_clock_seat clock n = record { clock = clock; number = n; known = owns_only n clock.plan.seats }
 
 -- the new seats of a clock with so many numbers from one on
-abbrev pub new_seats : ClockId → ℕ → ℕ → List SeatView
-new_seats clock n zero = []
-new_seats clock n (suc k) = new_seat clock n ∷ new_seats clock (n + 1) k
+abbrev pub new_clock_seats : ClockId → ℕ → ℕ → List SeatView
+new_clock_seats clock n zero = []
+new_clock_seats clock n (suc k) = new_clock_seat clock n ∷ new_clock_seats clock (n + 1) k
 
 -- The seats of a clock that are still to be given, from this number on
 pub record SeatsLeft : Type 0 where
@@ -57,7 +57,7 @@ one_given list = record { clock = list.clock; next = list.next + 1 }
 
 -- these seats are left, the last is the next
 pub record AreLeft (list : SeatsLeft) (seats : List SeatView) : Type 0 where
-  pub order : reverse seats ≡ new_seats list.clock list.next (length seats)
+  pub order : reverse seats ≡ new_clock_seats list.clock list.next (length seats)
   pub count : list.next + length seats ≡ list.clock.plan.seats
   pub few : list.clock.plan.seats < 2 ^ 32
 
@@ -78,11 +78,11 @@ abbrev pub copy_seat : SeatView → SeatView
 copy_seat seat = record { clock = seat.clock; number = seat.number; known = copy_of seat.known }
 
 -- the seat's own steps
-abbrev pub own : SeatView → List Step
+abbrev pub own : SeatView → List ClockStep
 own seat = steps_at seat.known seat.number
 
 -- the seat after one more step
-abbrev pub after_step : SeatView → Step → SeatView
+abbrev pub after_step : SeatView → ClockStep → SeatView
 after_step seat step = record {
   clock = seat.clock;
   number = seat.number;

@@ -1,5 +1,5 @@
 ghost use Rattle.std.specs.Prelude.{◌≡◌, ◌+◌, ◌<◌, [], ◌∷◌, ◌++◌, length, slice_index, IfOk, IfSome, IfNone, IsTrue, IsFalse};
-ghost use Rattle.lane_clock.specs.declared.step.Step.TheVariants.{Draw, Load, Place, Put, Look, Join};
+ghost use Rattle.lane_clock.specs.declared.step.ClockStep.TheVariants.{Draw, Load, Place, Put, Look, Join};
 ghost use Rattle.lane_clock.specs.Layout.{layout, most_seats};
 ghost use Rattle.lane_clock.specs.Knowledge.{counts, steps_at};
 ghost use Rattle.lane_clock.specs.Seats.{DrawsBeyond, all_left, Keeps, OwnsAll, own, after_step, after_join, copy_seat};
@@ -10,8 +10,8 @@ ghost use Rattle.lane_clock.specs.History.{first_words};
 
 use crate::found::{Change, Found, amount_of};
 use crate::note::Note;
-use crate::plan::Plan;
-use crate::rule::{Copies, Draws, Loads, Looks, Places, Puts, TakesIn, WordTable};
+use crate::plan::ClockPlan;
+use crate::rule::{Copies, Draws, DrawsPlaces, Loads, Looks, Puts, TakesIn, WordTable};
 use crate::seat::{LaneCopy, LaneSeat, SeatList};
 use asio_types::NoMemory;
 use std::alloc::Global;
@@ -23,7 +23,7 @@ use std::marker::Model;
 #[derive(Drop)]
 pub struct LaneClock {
     table: WordTable,
-    plan: Plan,
+    plan: ClockPlan,
 }
 
 impl Model for LaneClock {
@@ -39,7 +39,7 @@ impl Model for LaneClock {
 }
 
 // The words at the start.
-fn first_words(alloc: Global, plan: &Plan) -> Result<Vec<u64>, NoMemory>
+fn first_words(alloc: Global, plan: &ClockPlan) -> Result<Vec<u64>, NoMemory>
     ensures { IfOk result (λ words. words.items ≡ first_words plan.now) }
 {
     let mut words = vec![in alloc; 0u64; plan.words()]?;
@@ -64,7 +64,7 @@ impl LaneClock {
         ensures seats { IfOk result (λ made. made.1 ≡ all_left made.0) }
     {
         let seats = cells.len() as u32 + workers + 1;
-        let plan = Plan::make(alloc, cells, seats, guards)?;
+        let plan = ClockPlan::make(alloc, cells, seats, guards)?;
         let words = first_words(alloc, &plan)?;
         let (table, giver) = WordTable::of_words(alloc, words.as_slice(), &plan)?;
         let list = SeatList::make(alloc, &table, giver, seats)?;
@@ -117,7 +117,7 @@ impl LaneClock {
         let place = self
             .table
             .shared
-            .fetch_add::<Places>(&mut seat.seat, 1 + lane as usize, 1);
+            .fetch_add::<DrawsPlaces>(&mut seat.seat, 1 + lane as usize, 1);
         if place >= self.plan.cells(lane) as u64 {
             return None;
         }

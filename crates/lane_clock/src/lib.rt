@@ -21,6 +21,6 @@ pub use law::{
     positions_are_drawn_once, rule_holds_between_steps, work_adds_up,
 };
 pub use note::Note;
-pub use plan::Plan;
+pub use plan::ClockPlan;
 pub use seat::{LaneCopy, LaneSeat, SeatList};
-pub use step::{Known, Step, View};
+pub use step::{ClockStep, Known, View};

@@ -1,5 +1,5 @@
 ghost use Rattle.std.specs.Prelude.{◌≡◌, ◌<◌, Some};
-ghost use Rattle.lane_clock.specs.NoteWord.{code_number, code_of, IsNote, note_word, note_of};
+ghost use Rattle.lane_clock.specs.NoteWord.{code_number, code_of, IsNote, note_word, note_in_word};
 
 use asio_types::{Code, OpNo};
 
@@ -54,7 +54,7 @@ impl Note {
 
     /// What a cell with this word holds.
     pub(crate) fn of_word(word: u64) -> Option<Note>
-        ensures { result ≡ note_of word }
+        ensures { result ≡ note_in_word word }
     {
         if word == 0 {
             return None;

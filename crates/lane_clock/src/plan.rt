@@ -14,7 +14,7 @@ pub(crate) struct Row {
 
 /// How a clock is laid out: the work at its start, its seats and how many cells each lane has.
 #[derive(Debug, Drop)]
-pub struct Plan {
+pub struct ClockPlan {
     guards: u32,
     seats: u32,
     rows: Vec<Row>,
@@ -22,7 +22,7 @@ pub struct Plan {
     words: usize,
 }
 
-impl Model for Plan {
+impl Model for ClockPlan {
     ghost use Rattle.lane_clock.specs.Layout.{Layout};
 
     ghost Value = { Layout };
@@ -35,14 +35,14 @@ impl Model for Plan {
     ghost invariant = { λ p. AreRows p.rows.items p.words };
 }
 
-impl Plan {
+impl ClockPlan {
     /// Takes memory for a row of each lane.
     pub(crate) fn make(
         alloc: Global,
         cells: &[u32],
         seats: u32,
         guards: u32,
-    ) -> Result<Plan, NoMemory>
+    ) -> Result<ClockPlan, NoMemory>
         ensures { IfOk result
             (λ plan. plan ≡ record { guards = guards; seats = seats; cells = cells.now }) }
     {
@@ -56,7 +56,7 @@ impl Plan {
             start = start.checked_add(*count as usize).ok_or(NoMemory)?;
         }
         let words = start.checked_add(1 + cells.len()).ok_or(NoMemory)?;
-        Ok(Plan {
+        Ok(ClockPlan {
             guards,
             seats,
             rows,

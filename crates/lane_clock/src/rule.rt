@@ -1,5 +1,5 @@
 //! The fact that each step on the table keeps, and what each tells its caller.
-use crate::plan::Plan;
+use crate::plan::ClockPlan;
 use crate::step::View;
 use atomic_table::{Join, Play, Seat, Split, Table, TableRule};
 use std::alloc::Global;
@@ -7,7 +7,7 @@ use std::alloc::Global;
 /// The table's words and all that seats know are parts of one history.
 pub(crate) struct Chronicle;
 
-impl TableRule<(), View, Plan> for Chronicle {
+impl TableRule<(), View, ClockPlan> for Chronicle {
     ghost use Rattle.lane_clock.specs.History.{HasOneHistory, giver};
 
     ghost holds = { λ plan s. HasOneHistory plan s };
@@ -15,7 +15,7 @@ impl TableRule<(), View, Plan> for Chronicle {
     ghost first = { giver };
 }
 
-pub(crate) type WordTable = Table<(), View, Plan, Chronicle, Global>;
+pub(crate) type WordTable = Table<(), View, ClockPlan, Chronicle, Global>;
 
 pub(crate) type TableSeat = Seat<(), View>;
 
@@ -35,9 +35,9 @@ impl Play<(), View> for Loads {
     ghost then = { loads };
 }
 
-pub(crate) struct Places;
+pub(crate) struct DrawsPlaces;
 
-impl Play<(), View> for Places {
+impl Play<(), View> for DrawsPlaces {
     ghost use Rattle.lane_clock.specs.Plays.{places};
 
     ghost then = { places };
@@ -60,9 +60,9 @@ impl Play<(), View> for Looks {
 }
 
 // A number of the giver's goes to a new seat.
-pub(crate) struct Gives;
+pub(crate) struct GivesNumber;
 
-impl Split<View> for Gives {
+impl Split<View> for GivesNumber {
     ghost use Rattle.lane_clock.specs.Plays.{giver_after, given};
 
     ghost left = { giver_after };
@@ -83,9 +83,9 @@ impl Split<View> for Copies {
 pub(crate) struct TakesIn;
 
 impl Join<View> for TakesIn {
-    ghost use Rattle.lane_clock.specs.Plays.{join_view, spent};
+    ghost use Rattle.lane_clock.specs.Plays.{join_view, spent_view};
 
     ghost both = { λ v w. join_view v w.known };
 
-    ghost spent = { spent };
+    ghost spent = { spent_view };
 }

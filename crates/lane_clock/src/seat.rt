@@ -1,8 +1,8 @@
 ghost use Rattle.std.specs.Prelude.{◌≡◌, ◌<◌, ◌≤◌, ◌↔◌, [], IfOk, IfSome, OnSome, IfNone, IsNone};
-ghost use Rattle.lane_clock.specs.Seats.{Owns, all_left, clock_id, new_seat, one_given};
+ghost use Rattle.lane_clock.specs.Seats.{Owns, all_left, clock_id, new_clock_seat, one_given};
 ghost use Rattle.lane_clock.specs.History.{giver as giver_of};
 
-use crate::rule::{Gives, TableSeat, WordTable};
+use crate::rule::{GivesNumber, TableSeat, WordTable};
 use asio_types::NoMemory;
 use std::alloc::Global;
 use std::marker::Model;
@@ -81,7 +81,7 @@ impl SeatList {
         let mut list = Vec::new(alloc);
         let mut left = seats;
         while left > 0 {
-            let seat = table.shared.split_seat::<Gives>(&mut giver);
+            let seat = table.shared.split_seat::<GivesNumber>(&mut giver);
             list.push(LaneSeat { seat })?;
             left -= 1;
         }
@@ -94,7 +94,7 @@ impl SeatList {
 
     /// The next seat, `None` exactly where all were given. Takes no memory.
     pub fn next(&mut self) -> Option<LaneSeat>
-        ensures some { IfSome result (λ seat. seat ≡ new_seat self.old.clock self.old.next) }
+        ensures some { IfSome result (λ seat. seat ≡ new_clock_seat self.old.clock self.old.next) }
         ensures owns { IfSome result (λ seat. Owns seat seat.number) }
         ensures given { OnSome result (self.new ≡ one_given self.old) }
         ensures none { IsNone result ↔ (self.old.clock.plan.seats ≤ self.old.next) }

@@ -1,10 +1,10 @@
 use crate::found::{Change, Found};
 use crate::note::Note;
-use crate::plan::Plan;
+use crate::plan::ClockPlan;
 use std::collections::LinkedList;
 
 /// One step of a seat, with what it found. No value of it is made: contracts list what a seat did.
-pub enum Step {
+pub enum ClockStep {
     /// A position was drawn, which is the clock found.
     Draw(Change, Found),
     /// The clock word was read.
@@ -24,12 +24,12 @@ pub struct Known {
     /// Whether they are all there are, and only who knows this goes on with them.
     pub mine: bool,
     /// The steps, the oldest first.
-    pub steps: LinkedList<Step>,
+    pub steps: LinkedList<ClockStep>,
 }
 
 /// What a seat of the table knows. No value of it is made.
 pub struct View {
-    pub plan: Plan,
+    pub plan: ClockPlan,
     /// The number under which the seat steps.
     pub number: u64,
     /// What is known of each number.

@@ -1,6 +1,6 @@
 ghost use Rattle.std.specs.Prelude.{◌≡◌, ◌+◌, ◌%◌, ◌<◌, [], ◌++◌, map, IfOk};
 ghost use Rattle.turn_table.specs.Numbers.{run_from};
-ghost use Rattle.turn_table.specs.Seated.{IsSeatOf, new_seat};
+ghost use Rattle.turn_table.specs.Seated.{IsSeatOf, new_turn_seat};
 
 use std::alloc::Global;
 use std::sync::Wait;
@@ -44,8 +44,8 @@ impl Baton {
 fn two_lanes(alloc: Global, seats: u32) -> Result<(TurnTable<Baton>, TurnSeats), Fail>
     requires { 0 < seats }
     ensures lanes { IfOk result (λ made. made.0.lanes ≡ 2) }
-    ensures seats { IfOk result
-        (λ made. (made.0.seats ≡ seats) × (made.1 ≡ map (new_seat made.0) (run_from 0 seats))) }
+    ensures seats { IfOk result (λ made. (made.0.seats ≡ seats)
+        × (made.1 ≡ map (new_turn_seat made.0) (run_from 0 seats))) }
 {
     let homes = vec![in alloc; Baton { lane: 0, count: 10 }, Baton { lane: 1, count: 20 }]?;
     match TurnTable::make(alloc, Homes::of(homes), seats) {

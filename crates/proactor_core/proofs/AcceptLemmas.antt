@@ -8,8 +8,8 @@ use Rattle.std.proofs.lemmas.List.Elements.{All-head, All-tail, filter-append}
 use Rattle.history_book.specs.Performing.{is_wait_of}
 use Rattle.history_book.specs.Settling.{sorted_by}
 use Rattle.history_book.specs.declared.waiting.Wait.{Wait}
-use Rattle.timer_queue.specs.declared.entry.Entry.{Entry}
-use Rattle.timer_queue.specs.Entry.{is_before}
+use Rattle.timer_queue.specs.declared.entry.TimerEntry.{TimerEntry}
+use Rattle.timer_queue.specs.Entry.{is_entry_before}
 use Rattle.timer_queue.specs.Queue.{Timers, put}
 use Rattle.timer_queue.proofs.OrderLemmas.{All-put, put-after, put-before}
 use Rattle.proactor_core.specs.Waits.{IsAccepted, IsWaits, Waiting, expiry_of_entry, is_entry_for, ops_of, serial_of, wait_of, waits_of}
@@ -18,7 +18,7 @@ use Rattle.proactor_core.proofs.FilterLemmas.{filter-none, filter-yes}
 use Rattle.proactor_core.proofs.SortingLemmas.{All-sorted_by}
 use Rattle.proactor_core.proofs.WaitLemmas.{listed-set}
 
-abbrev IsNew : ℕ → Entry → Type 0
+abbrev IsNew : ℕ → TimerEntry → Type 0
 IsNew op e = e.op ≢ op
 
 map-same : {X Y : Type 0} (f g : X → Y) (xs : List X) → All (λ x. f x ≡ g x) xs → map f xs ≡ map g xs
@@ -27,14 +27,14 @@ map-same f g (x ∷ xs) all =
     ap (λ y. y ∷ map f xs) (All-head (λ y. f y ≡ g y) x xs all)
     ∙ ap (λ ys. g x ∷ ys) (map-same f g xs (All-tail (λ y. f y ≡ g y) x xs all))
 
-swap-counts : (s t : Bool) (e f : Entry) (xs ys : List Entry) → length xs ≡ length (cond s (e ∷ ys) ys) →
+swap-counts : (s t : Bool) (e f : TimerEntry) (xs ys : List TimerEntry) → length xs ≡ length (cond s (e ∷ ys) ys) →
     length (cond t (f ∷ xs) xs) ≡ length (cond s (e ∷ cond t (f ∷ ys) ys) (cond t (f ∷ ys) ys))
 swap-counts true true e f xs ys h = omega arith
 swap-counts true false e f xs ys h = h
 swap-counts false true e f xs ys h = omega arith
 swap-counts false false e f xs ys h = h
 
-count-step : (test : Entry → Bool) (e f : Entry) (r : List Entry) (t : Bool) → is_before f e ≡ t →
+count-step : (test : TimerEntry → Bool) (e f : TimerEntry) (r : List TimerEntry) (t : Bool) → is_entry_before f e ≡ t →
     length (filter test (put e r)) ≡ length (filter test (e ∷ r)) →
     length (filter test (put e (f ∷ r))) ≡ length (filter test (e ∷ f ∷ r))
 count-step test e f r true is below =
@@ -43,29 +43,29 @@ count-step test e f r true is below =
 count-step test e f r false is below = ap (λ l. length (filter test l)) (put-after e f r is)
 
 -- an entry that is put among others counts once
-pub count-put : (test : Entry → Bool) (e : Entry) (q : List Entry) →
+pub count-put : (test : TimerEntry → Bool) (e : TimerEntry) (q : List TimerEntry) →
     length (filter test (put e q)) ≡ length (filter test (e ∷ q))
 count-put test e [] = refl
-count-put test e (f ∷ r) = count-step test e f r (is_before f e) refl (count-put test e r)
+count-put test e (f ∷ r) = count-step test e f r (is_entry_before f e) refl (count-put test e r)
 
-long-step : (e f : Entry) (r : List Entry) (t : Bool) → is_before f e ≡ t → length (put e r) ≡ suc (length r) →
+long-step : (e f : TimerEntry) (r : List TimerEntry) (t : Bool) → is_entry_before f e ≡ t → length (put e r) ≡ suc (length r) →
     length (put e (f ∷ r)) ≡ suc (suc (length r))
 long-step e f r true is below = ap length (put-before e f r is) ∙ ap suc below
 long-step e f r false is below = ap length (put-after e f r is)
 
-length-put : (e : Entry) (q : List Entry) → length (put e q) ≡ suc (length q)
+length-put : (e : TimerEntry) (q : List TimerEntry) → length (put e q) ≡ suc (length q)
 length-put e [] = refl
-length-put e (f ∷ r) = long-step e f r (is_before f e) refl (length-put e r)
+length-put e (f ∷ r) = long-step e f r (is_entry_before f e) refl (length-put e r)
 
 -- a timer's operation takes the place of another's
 module _ (expiries timers : List ℕ) (accepted op timer : ℕ) (within : op < length timers) where
-  wait-same : (e : Entry) → IsNew op e → wait_of (set timers op timer) e ≡ wait_of timers e
+  wait-same : (e : TimerEntry) → IsNew op e → wait_of (set timers op timer) e ≡ wait_of timers e
   wait-same e new =
       let same = get_or-set_other timers op e.op timer 0 new in
       let f : ℕ → Wait = λ t. record { op = e.op; timer = t } in
       ap f same
 
-  each-same : (e : Entry) → IsNew op e → IsAccepted expiries timers accepted e →
+  each-same : (e : TimerEntry) → IsNew op e → IsAccepted expiries timers accepted e →
       IsAccepted expiries (set timers op timer) (accepted + 1) e
   each-same e new is =
       let same = get_or-set_other timers op e.op timer 0 new in
@@ -79,7 +79,7 @@ module _ (expiries timers : List ℕ) (accepted op timer : ℕ) (within : op < l
         expiry = ap (λ t. get_or expiries t 0) same ∙ is.expiry;
       }
 
-  each-new : timer < length expiries → (e : Entry) → e.serial ≡ accepted → e.op ≡ op →
+  each-new : timer < length expiries → (e : TimerEntry) → e.serial ≡ accepted → e.op ≡ op →
       e.expiry ≡ get_or expiries timer 0 → IsAccepted expiries (set timers op timer) (accepted + 1) e
   each-new b e serial same expiry =
       let here : get_or (set timers op timer) e.op 0 ≡ timer =
@@ -93,11 +93,11 @@ module _ (expiries timers : List ℕ) (accepted op timer : ℕ) (within : op < l
       }
 
   -- the waits with one more
-  pub waits-put : (e : Entry) (q : List Entry) → e.op ≡ op → All (IsOlder e) q → All (IsNew op) q →
+  pub waits-put : (e : TimerEntry) (q : List TimerEntry) → e.op ≡ op → All (IsOlder e) q → All (IsNew op) q →
       waits_of (set timers op timer) (put e q) ≡ waits_of timers q ++ record { op = op; timer = timer } ∷ []
   waits-put e q same older new =
       let after : List ℕ = set timers op timer in
-      let sorted : List Entry = sorted_by serial_of q in
+      let sorted : List TimerEntry = sorted_by serial_of q in
       let here : get_or after e.op 0 ≡ timer =
       ap (λ n. get_or after n 0) same ∙ get_or-set_same timers op timer 0 within in
       let wait : ℕ → ℕ → Wait = λ n t. record { op = n; timer = t } in
@@ -117,7 +117,7 @@ other-test t n other = grind (arith, nat_tests)
 -- a queue with one wait more
 module _ (expiries timers : List ℕ) (queue : Timers) (queues : List (List ℕ)) (accepted pending op timer : ℕ)
     (is : IsWaits expiries timers queue queues accepted pending) (within : op < length timers)
-    (new : All (IsNew op) queue.waits) (there : timer < length queues) (e : Entry) (serial : e.serial ≡ accepted)
+    (new : All (IsNew op) queue.waits) (there : timer < length queues) (e : TimerEntry) (serial : e.serial ≡ accepted)
     (same : e.op ≡ op) (expiry : e.expiry ≡ get_or expiries timer 0) (few : accepted < length timers) where
   older : All (IsOlder e) queue.waits
   older = λ k d b. let each = (is.each k d b).serial in omega arith
@@ -201,7 +201,7 @@ module _ (expiries timers : List ℕ) (queue : Timers) (queues : List (List ℕ)
             ∙ ap (sorted_by expiry_of_entry) (serial-put e queue.waits older)
             ∙ expiry-put e (sorted_by serial_of queue.waits) (All-sorted_by serial_of (IsOlder e) queue.waits older)
             ∙ ap (put e) is.in_order ∙ sym waits;
-        each = let P : List Entry → Type 0 = All (IsAccepted expiries (set timers op timer) (accepted + 1)) in
+        each = let P : List TimerEntry → Type 0 = All (IsAccepted expiries (set timers op timer) (accepted + 1)) in
             subst P (sym waits)
             (All-put (IsAccepted expiries (set timers op timer) (accepted + 1)) e queue.waits
             (each-new expiries timers accepted op timer within within_all e serial same expiry)
@@ -209,7 +209,7 @@ module _ (expiries timers : List ℕ) (queue : Timers) (queues : List (List ℕ)
             each-same expiries timers accepted op timer within (get_or queue.waits k d) (new k d b)
             (is.each k d b)));
         once = λ n.
-            let P : List Entry → Type 0 = λ q. length (filter (is_entry_for n) q) ≤ 1 in
+            let P : List TimerEntry → Type 0 = λ q. length (filter (is_entry_for n) q) ≤ 1 in
             subst P (sym waits) (once-put n);
         count = omega arith;
         room = omega arith;
@@ -222,7 +222,7 @@ module _ (expiries timers : List ℕ) (queue : Timers) (queues : List (List ℕ)
       }
 
   -- what is seen once a wait was accepted
-  pub view-accepted : (after : List Entry) (acts : ℕ) (rooms left : List ℕ) → after ≡ put e queue.waits → left ≡ rooms →
+  pub view-accepted : (after : List TimerEntry) (acts : ℕ) (rooms left : List ℕ) → after ≡ put e queue.waits → left ≡ rooms →
       acts ≡ length timers →
       ◌≡◌ {A = Waiting}
       (record {

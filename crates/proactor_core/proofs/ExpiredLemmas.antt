@@ -8,7 +8,7 @@ use Rattle.history_book.specs.Performing.{is_wait_of}
 use Rattle.history_book.specs.Settling.{sorted_by, waited}
 use Rattle.history_book.specs.Waiting.{expiry_in}
 use Rattle.history_book.specs.declared.waiting.Wait.{Wait}
-use Rattle.timer_queue.specs.declared.entry.Entry.{Entry}
+use Rattle.timer_queue.specs.declared.entry.TimerEntry.{TimerEntry}
 use Rattle.timer_queue.specs.Entry.{IsBefore}
 use Rattle.timer_queue.specs.Queue.{Timers}
 use Rattle.proactor_core.specs.Waits.{IsAccepted, IsWaits, TakesExpired, Waiting, expired, expiry_of_entry, has_expired, is_entry_for, ops_of, serial_of, wait_of, waits_of}
@@ -18,20 +18,20 @@ use Rattle.proactor_core.proofs.SortingLemmas.{All-sorted_by, filter-sorted_by, 
 use Rattle.proactor_core.proofs.WaitLemmas.{filter-waits, length-waits, listed-set, same-timers}
 
 -- whether an entry's timer has expired
-abbrev has_come : ℕ → List ℕ → List ℕ → Entry → Bool
+abbrev has_come : ℕ → List ℕ → List ℕ → TimerEntry → Bool
 has_come now expiries timers e = has_expired now expiries (wait_of timers e)
 
-abbrev HasExpiry : List ℕ → List ℕ → Entry → Type 0
+abbrev HasExpiry : List ℕ → List ℕ → TimerEntry → Type 0
 HasExpiry expiries timers e = expiry_in expiries (wait_of timers e) ≡ e.expiry
 
 -- what those tell that have expired, as the queue has them
-tells : (now : ℕ) (expiries timers : List ℕ) (q : List Entry) → sorted_by expiry_of_entry (sorted_by serial_of q) ≡ q →
+tells : (now : ℕ) (expiries timers : List ℕ) (q : List TimerEntry) → sorted_by expiry_of_entry (sorted_by serial_of q) ≡ q →
     All (HasExpiry expiries timers) q →
     map waited (sorted_by (expiry_in expiries) (filter (has_expired now expiries) (waits_of timers q)))
     ≡ map waited (map (wait_of timers) (filter (has_come now expiries timers) q))
 tells now expiries timers q in_order each =
-    let sorted : List Entry = sorted_by serial_of q in
-    let come : List Entry = filter (has_come now expiries timers) sorted in
+    let sorted : List TimerEntry = sorted_by serial_of q in
+    let come : List TimerEntry = filter (has_come now expiries timers) sorted in
     let all : All (HasExpiry expiries timers) come =
     All-filter (has_come now expiries timers) (HasExpiry expiries timers) sorted
     (All-sorted_by serial_of (HasExpiry expiries timers) q each) in
@@ -40,16 +40,16 @@ tells now expiries timers q in_order each =
     ∙ ap (λ es. map waited (map (wait_of timers) es)) (sym (filter-sorted_by expiry_of_entry
     (has_come now expiries timers) sorted) ∙ ap (filter (has_come now expiries timers)) in_order)
 
-come-at : (now : ℕ) (expiries timers : List ℕ) (e : Entry) → HasExpiry expiries timers e → e.expiry ≤ now →
+come-at : (now : ℕ) (expiries timers : List ℕ) (e : TimerEntry) → HasExpiry expiries timers e → e.expiry ≤ now →
     has_come now expiries timers e ≡ true
 come-at now expiries timers e is due = grind (arith, nat_tests)
 
-late-at : (now : ℕ) (expiries timers : List ℕ) (e : Entry) → HasExpiry expiries timers e → now < e.expiry →
+late-at : (now : ℕ) (expiries timers : List ℕ) (e : TimerEntry) → HasExpiry expiries timers e → now < e.expiry →
     has_come now expiries timers e ≡ false
 late-at now expiries timers e is late = grind (arith, nat_tests)
 
 -- none has expired
-pub none-come : (now : ℕ) (expiries timers : List ℕ) (q : List Entry) → All (HasExpiry expiries timers) q →
+pub none-come : (now : ℕ) (expiries timers : List ℕ) (q : List TimerEntry) → All (HasExpiry expiries timers) q →
     All (λ e. now < e.expiry) q → filter (has_expired now expiries) (waits_of timers q) ≡ []
 none-come now expiries timers q each late =
     filter-waits timers (has_expired now expiries) q
@@ -57,21 +57,21 @@ none-come now expiries timers q each late =
     (λ k d b. late-at now expiries timers (get_or q k d) (each k d b) (late k d b)))
 
 -- of one timer's entries, the first by expiry is the first by acceptance
-later-serial : (expiries timers : List ℕ) (w e : Entry) → HasExpiry expiries timers w → HasExpiry expiries timers e →
+later-serial : (expiries timers : List ℕ) (w e : TimerEntry) → HasExpiry expiries timers w → HasExpiry expiries timers e →
     IsBefore w e → is_wait_of (get_or timers w.op 0) (wait_of timers e) ≡ true → w.serial ≤ e.serial
 later-serial expiries timers w e first other before same =
     let timer : get_or timers e.op 0 ≡ get_or timers w.op 0 = grind (arith, nat_tests) in
     let equal : e.expiry ≡ w.expiry = sym other ∙ ap (λ t. get_or expiries t 0) timer ∙ first in
     grind arith
 
-module _ (expiries timers : List ℕ) (w : Entry) (q : List Entry) (first : HasExpiry expiries timers w)
+module _ (expiries timers : List ℕ) (w : TimerEntry) (q : List TimerEntry) (first : HasExpiry expiries timers w)
     (each : All (HasExpiry expiries timers) q) (before : All (IsBefore w) q) where
   pub ops-first : ops_of (get_or timers w.op 0) timers (w ∷ q) ≡ w.op ∷ ops_of (get_or timers w.op 0) timers q
   ops-first =
       let t : ℕ = get_or timers w.op 0 in
-      let test : Entry → Bool = λ e. is_wait_of t (wait_of timers e) in
+      let test : TimerEntry → Bool = λ e. is_wait_of t (wait_of timers e) in
       let own : test w ≡ true = grind (arith, nat_tests) in
-      let rest : List Entry = filter test q in
+      let rest : List TimerEntry = filter test q in
       let passes = filter_passes test q in
       let expiries_of = All-filter test (HasExpiry expiries timers) q each in
       let after = All-filter test (IsBefore w) q before in
@@ -85,7 +85,7 @@ module _ (expiries timers : List ℕ) (w : Entry) (q : List Entry) (first : HasE
 
   pub ops-apart : (n : ℕ) → n ≢ get_or timers w.op 0 → ops_of n timers (w ∷ q) ≡ ops_of n timers q
   ops-apart n other =
-      let test : Entry → Bool = λ e. is_wait_of n (wait_of timers e) in
+      let test : TimerEntry → Bool = λ e. is_wait_of n (wait_of timers e) in
       let fails : test w ≡ false = grind (arith, nat_tests) in
       ap (map (λ wait. wait.op)) (filter-waits timers (is_wait_of n) (w ∷ q)
       ∙ ap (waits_of timers) (filter-no test w q fails) ∙ sym (filter-waits timers (is_wait_of n) q))
@@ -93,14 +93,14 @@ module _ (expiries timers : List ℕ) (w : Entry) (q : List Entry) (first : HasE
   pub order-rest : sorted_by expiry_of_entry (sorted_by serial_of (w ∷ q)) ≡ w ∷ q →
       sorted_by expiry_of_entry (sorted_by serial_of q) ≡ q
   order-rest in_order =
-      let sorted : List Entry = sorted_by serial_of q in
+      let sorted : List TimerEntry = sorted_by serial_of q in
       let split : w ∷ q ≡ w ∷ sorted_by expiry_of_entry sorted =
       sym in_order ∙ expiry-first w sorted (All-sorted_by serial_of (IsBefore w) q before) in
       cc
 
 -- a queue whose first entry has left
 module _ (expiries timers : List ℕ) (queue : Timers) (queues : List (List ℕ)) (accepted pending : ℕ)
-    (is : IsWaits expiries timers queue queues accepted pending) (w : Entry) (q : List Entry)
+    (is : IsWaits expiries timers queue queues accepted pending) (w : TimerEntry) (q : List TimerEntry)
     (leaves : queue.waits ≡ w ∷ q) (before : All (IsBefore w) q) where
   split : IsWaits expiries timers (record { waits = w ∷ q; spare = queue.spare }) queues accepted pending
   split =
@@ -161,7 +161,7 @@ module _ (expiries timers : List ℕ) (queue : Timers) (queues : List (List ℕ)
       })
 
   -- what is seen of it
-  pub takes-expired : (now op : ℕ) (after : List Entry) (acts : ℕ) (rooms left : List ℕ) → w.op ≡ op → w.expiry ≤ now →
+  pub takes-expired : (now op : ℕ) (after : List TimerEntry) (acts : ℕ) (rooms left : List ℕ) → w.op ≡ op → w.expiry ≤ now →
       after ≡ q → left ≡ rooms →
       TakesExpired now op
       (record {
@@ -173,7 +173,7 @@ module _ (expiries timers : List ℕ) (queue : Timers) (queues : List (List ℕ)
       })
       (record { expiries = expiries; waits = waits_of timers after; accepted = accepted; rooms = left; acts = acts })
   takes-expired now op after acts rooms left of due waits kept =
-      let come : Entry → Bool = has_come now expiries timers in
+      let come : TimerEntry → Bool = has_come now expiries timers in
       let here : come w ≡ true = come-at now expiries timers w first-each.expiry due in
       let late : Wait → Bool = λ wait. not (has_expired now expiries wait) in
       let late_one : late (wait_of timers w) ≡ false = ap not here in

@@ -22,7 +22,7 @@ use Rattle.history_book.specs.State.{ReactorHalf, StreamQueues}
 use Rattle.history_book.specs.Time.{next_time, pending_count}
 use Rattle.history_book.specs.Waiting.{expiry_in}
 use Rattle.reactor_trait.specs.Reactor.{Outside, ReactorState, outside_at}
-use Rattle.proactor_core.specs.Proactor.{Follows, FollowsInTurn, FollowsUntold, FollowsUntoldInTurn, IsAt, IsSound, ProactorView, StandsAt, point_ahead, sent_of, tells}
+use Rattle.proactor_core.specs.Proactor.{Follows, FollowsInTurn, FollowsUntold, FollowsUntoldInTurn, IsAt, IsSound, ProactorView, StandsAt, point_ahead, sent_to_peer, tells}
 use Rattle.proactor_core.specs.Streams.{StreamView, pending_on, pending_in_all, queues_in}
 use Rattle.proactor_core.specs.Untold.{AnswerAlike, IsUnservedOf, IsUntoldOf, RestAlike}
 use Rattle.proactor_core.proofs.TellsLemmas.{if-untold, tells-mapped}
@@ -54,17 +54,17 @@ count-queued (view ∷ views) =
 
 -- what was sent on the streams of a half is what the reactor has sent
 sent-alike : (first : Option Outside) (views : List StreamView) (all : List Stream) (lines : List Line) →
-    Tells first views all lines → IfSome first (λ outside. map sent_of outside.streams ≡ map sent_of all)
+    Tells first views all lines → IfSome first (λ outside. map sent_to_peer outside.streams ≡ map sent_to_peer all)
 sent-alike None views all lines tells = tt
 sent-alike (Some outside) views all lines tells =
-    let one = length-map outside.streams sent_of in
-    let other = length-map all sent_of in
+    let one = length-map outside.streams sent_to_peer in
+    let other = length-map all sent_to_peer in
     let count = tells.count in
     let told_count = tells.told_count in
-    ext_get_or [] (map sent_of outside.streams) (map sent_of all) (omega arith) (λ i b.
-    get_or-map sent_of outside.streams i new_stream [] (omega (arith, b, one))
-    ∙ sym (ap sent_of (tells.bytes i (omega (arith, b, one, told_count))))
-    ∙ sym (get_or-map sent_of all i new_stream [] (omega (arith, b, one, count, told_count))))
+    ext_get_or [] (map sent_to_peer outside.streams) (map sent_to_peer all) (omega arith) (λ i b.
+    get_or-map sent_to_peer outside.streams i new_stream [] (omega (arith, b, one))
+    ∙ sym (ap sent_to_peer (tells.bytes i (omega (arith, b, one, told_count))))
+    ∙ sym (get_or-map sent_to_peer all i new_stream [] (omega (arith, b, one, count, told_count))))
 
 untold-moved : (script : ScriptModel) (to : Point) (telling : Bool) → telling ≡ false → (mid half : ReactorHalf) →
     IsUnservedOf script mid half →

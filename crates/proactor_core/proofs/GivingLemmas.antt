@@ -11,8 +11,8 @@ use Rattle.stream_rules.specs.Moving.{moved_count}
 use Rattle.stream_rules.specs.Serving.{Some_bytes, All_bytes, Until, Some_of, All_of, Outcome, all_of, ended_by, served_read, some_of, until_found}
 use Rattle.stream_rules.proofs.DelimiterLemmas.{first_end-ends}
 use Rattle.composed_ops.specs.declared.want.Want.TheVariants as want
-use Rattle.composed_ops.specs.Asking.{Asking, Reads, Writes, size_of}
-use Rattle.composed_ops.specs.Progress.{FitsMove, IsCountWithin, IsUnderWay, MovedBefore, Progress}
+use Rattle.composed_ops.specs.StreamOperation.{StreamOperation, Reads, Writes, most_moved}
+use Rattle.composed_ops.specs.Progress.{FitsMove, IsCountWithin, IsUnderWay, MovedBefore, StreamProgress}
 use Rattle.composed_ops.specs.Step.{asking_outcome, outcome_by, step_of, told_code}
 use Rattle.composed_ops.specs.Want.{asking_want, counted_want, until_want}
 use Rattle.composed_ops.proofs.CountLemmas.{all-nothing, some-there}
@@ -73,8 +73,8 @@ is-between least most n h k =
     let high : nat_le n most ≡ true = grind (arith, nat_tests) in
     rw (low, high)
 
-answer-allowed : (asks : Asking) (before : ℕ) (answer : Moved) → before < size_of asks → MovedBefore asks before →
-    IsCountWithin (size_of asks - before) answer → Allows (may_give asks) (asking_outcome asks before answer)
+answer-allowed : (asks : StreamOperation) (before : ℕ) (answer : Moved) → before < most_moved asks → MovedBefore asks before →
+    IsCountWithin (most_moved asks - before) answer → Allows (may_give asks) (asking_outcome asks before answer)
 answer-allowed (Reads (Some_bytes size)) before answer missing fresh within =
     let all : size - before ≡ size = omega arith in
     some-allowed size (may_give_some size is_read_mark) code.Eof answer (is-between 1 size) refl refl (omega arith)
@@ -94,13 +94,13 @@ answer-allowed (Writes (All_of bytes)) before answer missing fresh within =
     all-allowed size before (may_give_all size is_write_mark) code.Broken answer (is-itself size)
     (is-below before size missing) (is-below before size missing) missing
 
-outcome-allowed : (asks : Asking) (outcome : Option Outcome) → Allows (may_give asks) outcome →
+outcome-allowed : (asks : StreamOperation) (outcome : Option Outcome) → Allows (may_give asks) outcome →
     IsAllowed asks (round_of (step_of outcome))
 outcome-allowed asks None allowed = tt
 outcome-allowed asks (Some (code, size)) allowed = allowed
 
 -- what an operation gives by an answer
-pub gives-allowed : (progress : Progress) (answer : Moved) → IsUnderWay progress → FitsMove progress answer →
+pub gives-allowed : (progress : StreamProgress) (answer : Moved) → IsUnderWay progress → FitsMove progress answer →
     IsAllowed progress.asks (round_of (step_of (outcome_by progress answer)))
 gives-allowed progress answer under_way fits =
     outcome-allowed progress.asks (outcome_by progress answer)
@@ -144,7 +144,7 @@ counted-finish missing size [] ended is = cc
 counted-finish missing size (b ∷ held) ended is = cc
 
 -- what a read gives that completes on the held bytes
-pub finish-allowed : (asks : Asking) (before size : ℕ) (held : List ℕ) (ended : Code) →
+pub finish-allowed : (asks : StreamOperation) (before size : ℕ) (held : List ℕ) (ended : Code) →
     asking_want asks before held ≡ want.Finish ended size → may_give asks ended size ≡ true
 finish-allowed (Reads (Some_bytes most)) before size held ended is =
     absurd (counted-finish (most - before) size held ended is)

@@ -9,10 +9,10 @@ use Rattle.session_script.specs.WellFormed.{FitsAct, header_of}
 use Rattle.history_book.specs.Kinds.{slot_of}
 use Rattle.history_book.specs.Kinds.{reading_of, writing_of}
 use Rattle.stream_rules.specs.Serving.{All_bytes, All_of, Reading, Some_bytes, Some_of, Until, Writing}
-use Rattle.composed_ops.specs.Asking.{Reads, Writes, asking_of, reading_size}
+use Rattle.composed_ops.specs.StreamOperation.{Reads, Writes, asking_of, reading_size}
 use Rattle.proactor_core.specs.Rooms.{waits_for}
 use Rattle.proactor_core.specs.StreamRooms.{is_on_side, bytes_asked_at, stream_read, stream_written}
-use Rattle.proactor_core.specs.declared.stream_rooms.Side.TheVariants as side
+use Rattle.proactor_core.specs.declared.stream_rooms.StreamSide.TheVariants as side
 
 -- the slot of an operation is declared
 pub slot-known : (script : ScriptModel) (it : Act) → FitsAct (header_of script) it → (slot : ℕ) →

@@ -6,7 +6,7 @@ use Rattle.std.proofs.lemmas.List.Elements.{All-head, All-tail}
 use Rattle.history_book.specs.Settling.{put_by, sorted_by}
 use Rattle.history_book.specs.Time.{least_of, lesser}
 use Rattle.history_book.specs.Waiting.{expiry_in}
-use Rattle.timer_queue.specs.declared.entry.Entry.{Entry}
+use Rattle.timer_queue.specs.declared.entry.TimerEntry.{TimerEntry}
 use Rattle.proactor_core.specs.Waits.{expiry_of_entry, serial_of, wait_of, waits_of}
 
 lesser-comm : (x y : ℕ) (least : Option ℕ) → lesser x (lesser y least) ≡ lesser y (lesser x least)
@@ -42,11 +42,11 @@ map-agree f g (x ∷ xs) all =
     ∙ ap (λ ys. g x ∷ ys) (map-agree f g xs (All-tail (λ y. f y ≡ g y) x xs all))
 
 -- the least expiry of waits is that of their entries
-least-waits : (expiries timers : List ℕ) (q : List Entry) →
+least-waits : (expiries timers : List ℕ) (q : List TimerEntry) →
     All (λ e. expiry_in expiries (wait_of timers e) ≡ e.expiry) q →
     least_of (map (expiry_in expiries) (waits_of timers q)) ≡ least_of (map expiry_of_entry q)
 least-waits expiries timers q each =
-    let f : Entry → ℕ = λ e. expiry_in expiries (wait_of timers e) in
+    let f : TimerEntry → ℕ = λ e. expiry_in expiries (wait_of timers e) in
     ap least_of (map-map (expiry_in expiries) (wait_of timers) (sorted_by serial_of q)) ∙ least-sorted_by f serial_of q
     ∙ ap least_of (map-agree f expiry_of_entry q each)
 
@@ -58,7 +58,7 @@ at_least-lesser : (x y : ℕ) (o : Option ℕ) → x ≤ y → AtLeast x o → A
 at_least-lesser x y None b h = b
 at_least-lesser x y (Some z) b h = let both : x ≤ min y z = omega arith in both
 
-at_least : (x : ℕ) (q : List Entry) → All (λ e. x ≤ e.expiry) q → AtLeast x (least_of (map expiry_of_entry q))
+at_least : (x : ℕ) (q : List TimerEntry) → All (λ e. x ≤ e.expiry) q → AtLeast x (least_of (map expiry_of_entry q))
 at_least x [] all = tt
 at_least x (e ∷ es) all =
     at_least-lesser x e.expiry (least_of (map expiry_of_entry es)) (all 0 e (omega arith))
@@ -71,7 +71,7 @@ lesser-here x (Some y) h = let same : min x y ≡ x = omega arith in ap (λ n. S
 lesser-there : (x y : ℕ) → x ≤ y → lesser y (Some x) ≡ Some x
 lesser-there x y b = let same : min y x ≡ x = omega arith in ap (λ n. Some n) same
 
-least-at : (x : ℕ) (q : List Entry) (k : ℕ) (d : Entry) → k < length q → (get_or q k d).expiry ≡ x →
+least-at : (x : ℕ) (q : List TimerEntry) (k : ℕ) (d : TimerEntry) → k < length q → (get_or q k d).expiry ≡ x →
     All (λ e. x ≤ e.expiry) q → least_of (map expiry_of_entry q) ≡ Some x
 least-at x [] k d b is all = absurd (omega arith)
 least-at x (e ∷ es) zero d b is all =
@@ -81,7 +81,7 @@ least-at x (e ∷ es) (suc k) d b is all =
     ap (lesser e.expiry) (least-at x es k d (omega arith) is (All-tail (λ e. x ≤ e.expiry) e es all))
     ∙ lesser-there x e.expiry (all 0 e (omega arith))
 
-least-answer : (q : List Entry) (result : Option ℕ) → (IsNone result → q ≡ []) →
+least-answer : (q : List TimerEntry) (result : Option ℕ) → (IsNone result → q ≡ []) →
     IfSome result (λ x. Any (λ e. e.expiry ≡ x) q) → IfSome result (λ x. All (λ e. x ≤ e.expiry) q) →
     result ≡ least_of (map expiry_of_entry q)
 least-answer q None none there least = sym (ap (λ l. least_of (map expiry_of_entry l)) (none refl))
@@ -89,7 +89,7 @@ least-answer q (Some x) none there least =
     sym (least-at x q there.0 there.1 there.2 (ap expiry_of_entry there.3 ∙ there.4) least)
 
 -- what a queue answers is the least expiry of its waits
-pub next-expiry : (expiries timers : List ℕ) (q : List Entry) (result : Option ℕ) →
+pub next-expiry : (expiries timers : List ℕ) (q : List TimerEntry) (result : Option ℕ) →
     All (λ e. expiry_in expiries (wait_of timers e) ≡ e.expiry) q → (IsNone result → q ≡ []) →
     IfSome result (λ x. Any (λ e. e.expiry ≡ x) q) → IfSome result (λ x. All (λ e. x ≤ e.expiry) q) →
     result ≡ least_of (map (expiry_in expiries) (waits_of timers q))

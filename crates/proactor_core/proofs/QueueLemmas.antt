@@ -10,8 +10,8 @@ use Rattle.stream_rules.specs.Queue.{Pending, QueueServed, Side, completed_first
 use Rattle.history_book.specs.Untold.{may_give_read, may_give_write}
 use Rattle.stream_rules.specs.Serving.{Outcome, Reading, Writing, Some_bytes, All_bytes, Until}
 use Rattle.stream_rules.specs.Stream.{Stream}
-use Rattle.composed_ops.specs.Asking.{Asking, Reads, Writes}
-use Rattle.composed_ops.specs.Progress.{IsSearched, IsSearchedBy, Progress}
+use Rattle.composed_ops.specs.StreamOperation.{StreamOperation, Reads, Writes}
+use Rattle.composed_ops.specs.Progress.{IsSearched, IsSearchedBy, StreamProgress}
 use Rattle.reactor_trait.specs.Reactor.{Outside}
 use Rattle.proactor_core.specs.declared.pending.PendingOp.{PendingOp}
 use Rattle.proactor_core.specs.Due.{Due, listed}
@@ -137,19 +137,19 @@ rules-stay side first queue head start there left old new moved is moves after s
     }
 
 -- what serving a read gave by the rules
-pub record ReadEnds (asks : Asking) (moved : ℕ) (there left : Stream) (outcome : Option Outcome) : Type 0 where
+pub record ReadEnds (asks : StreamOperation) (moved : ℕ) (there left : Stream) (outcome : Option Outcome) : Type 0 where
   pub outcome_is : (reading_side.served (reading_asked asks) moved there).outcome ≡ outcome
   pub after : reading_side.after (reading_asked asks) moved (reading_side.served (reading_asked asks) moved there).used
       there ≡ left
 
-pub record WriteEnds (asks : Asking) (moved : ℕ) (there left : Stream) (outcome : Option Outcome) : Type 0 where
+pub record WriteEnds (asks : StreamOperation) (moved : ℕ) (there left : Stream) (outcome : Option Outcome) : Type 0 where
   pub outcome_is : (writing_side.served (writing_asked asks) moved there).outcome ≡ outcome
   pub after : writing_side.after (writing_asked asks) moved (writing_side.served (writing_asked asks) moved there).used
       there ≡ left
 
-pub read-completes : (told left : Option Outside) (number : ℕ) (asks : Asking) (moved : ℕ) (latest : Option ℕ)
-    (next : Progress) (held kept : List ℕ) (outcome : Outcome) →
-    (let progress : Progress = record { asks = asks; moved = moved; latest = latest } in
+pub read-completes : (told left : Option Outside) (number : ℕ) (asks : StreamOperation) (moved : ℕ) (latest : Option ℕ)
+    (next : StreamProgress) (held kept : List ℕ) (outcome : Outcome) →
+    (let progress : StreamProgress = record { asks = asks; moved = moved; latest = latest } in
     AsksToRead asks →
     Ends (exchange_at progress held told number) (exchange_at next kept left number) (Some outcome) →
     ReadEnds asks moved (whole_told held told number) (whole_told kept left number) (Some outcome))
@@ -159,9 +159,9 @@ read-completes told left number (Reads reading) moved latest next held kept outc
 }
 read-completes told left number (Writes writing) moved latest next held kept outcome = λ reads ends. absurd reads
 
-pub read-stays : (told left : Option Outside) (number : ℕ) (asks : Asking) (moved : ℕ) (latest : Option ℕ)
-    (next : Progress) (held kept : List ℕ) →
-    (let progress : Progress = record { asks = asks; moved = moved; latest = latest } in
+pub read-stays : (told left : Option Outside) (number : ℕ) (asks : StreamOperation) (moved : ℕ) (latest : Option ℕ)
+    (next : StreamProgress) (held kept : List ℕ) →
+    (let progress : StreamProgress = record { asks = asks; moved = moved; latest = latest } in
     AsksToRead asks → Ends (exchange_at progress held told number) (exchange_at next kept left number) None →
     ReadEnds asks moved (whole_told held told number) (whole_told kept left number) None
     × (moved + (reading_side.served (reading_asked asks) moved (whole_told held told number)).used ≡ next.moved))
@@ -174,9 +174,9 @@ read-stays told left number (Reads reading) moved latest next held kept = λ rea
 )
 read-stays told left number (Writes writing) moved latest next held kept = λ reads ends. absurd reads
 
-pub write-completes : (told left : Option Outside) (number : ℕ) (asks : Asking) (moved : ℕ) (latest : Option ℕ)
-    (next : Progress) (held kept : List ℕ) (outcome : Outcome) →
-    (let progress : Progress = record { asks = asks; moved = moved; latest = latest } in
+pub write-completes : (told left : Option Outside) (number : ℕ) (asks : StreamOperation) (moved : ℕ) (latest : Option ℕ)
+    (next : StreamProgress) (held kept : List ℕ) (outcome : Outcome) →
+    (let progress : StreamProgress = record { asks = asks; moved = moved; latest = latest } in
     AsksToWrite asks →
     Ends (exchange_at progress held told number) (exchange_at next kept left number) (Some outcome) →
     WriteEnds asks moved (whole_told held told number) (whole_told kept left number) (Some outcome))
@@ -186,9 +186,9 @@ write-completes told left number (Writes writing) moved latest next held kept ou
   after = ends.1;
 }
 
-pub write-stays : (told left : Option Outside) (number : ℕ) (asks : Asking) (moved : ℕ) (latest : Option ℕ)
-    (next : Progress) (held kept : List ℕ) →
-    (let progress : Progress = record { asks = asks; moved = moved; latest = latest } in
+pub write-stays : (told left : Option Outside) (number : ℕ) (asks : StreamOperation) (moved : ℕ) (latest : Option ℕ)
+    (next : StreamProgress) (held kept : List ℕ) →
+    (let progress : StreamProgress = record { asks = asks; moved = moved; latest = latest } in
     AsksToWrite asks → Ends (exchange_at progress held told number) (exchange_at next kept left number) None →
     WriteEnds asks moved (whole_told held told number) (whole_told kept left number) None
     × (moved + (writing_side.served (writing_asked asks) moved (whole_told held told number)).used ≡ next.moved))
@@ -238,19 +238,19 @@ gives-end may first queue staying old new same so_far = record {
 }
 
 -- a read before its first step may be asked, whatever is held
-searched-first : (asks : Asking) (held : List ℕ) → IsSearchedBy asks None held
+searched-first : (asks : StreamOperation) (held : List ℕ) → IsSearchedBy asks None held
 searched-first (Reads (Some_bytes size)) held = tt
 searched-first (Reads (All_bytes size)) held = tt
 searched-first (Reads (Until delimiter max)) held = refl
 searched-first (Writes writing) held = tt
 
-new-read : (buffer : ℕ) (held : HeldBytes) (progress : Progress) → IsNewRead buffer held.room progress →
+new-read : (buffer : ℕ) (held : HeldBytes) (progress : StreamProgress) → IsNewRead buffer held.room progress →
     MayRead buffer held progress
 new-read buffer held progress new = record {
   reads = new.reads;
   under_way = new.under_way;
   searched =
-      subst (λ (p : Progress). IsSearched p held.bytes) (sym new.fresh) (searched-first progress.asks held.bytes);
+      subst (λ (p : StreamProgress). IsSearched p held.bytes) (sym new.fresh) (searched-first progress.asks held.bytes);
   fits = new.fits;
   holds = new.holds;
 }
@@ -266,12 +266,12 @@ pub told-any : (told : Option Outside) (P : Type 0) → P → IfSome told (λ _.
 told-any None P p = tt
 told-any (Some outside) P p = p
 
-pub may-read : (asks : Asking) (code : Code) (size : ℕ) → AsksToRead asks → may_give asks code size ≡ true →
+pub may-read : (asks : StreamOperation) (code : Code) (size : ℕ) → AsksToRead asks → may_give asks code size ≡ true →
     may_give_read (reading_asked asks) code size ≡ true
 may-read (Reads reading) code size reads may = may
 may-read (Writes writing) code size reads may = absurd reads
 
-pub may-write : (asks : Asking) (code : Code) (size : ℕ) → AsksToWrite asks → may_give asks code size ≡ true →
+pub may-write : (asks : StreamOperation) (code : Code) (size : ℕ) → AsksToWrite asks → may_give asks code size ≡ true →
     may_give_write (writing_asked asks) code size ≡ true
 may-write (Reads reading) code size writes may = absurd writes
 may-write (Writes writing) code size writes may = may
@@ -286,7 +286,7 @@ head-unmoved {Asks = Asks} see head later queue all new is now same =
 
 -- a read completed
 pub reads-go-on : (first told left : Option Outside) (number : ℕ) (firsts : List (Pending Reading)) (head : PendingOp)
-    (queue : List PendingOp) (next : Progress) (start held kept : List ℕ) (old now new : Due) (outcome : Outcome) →
+    (queue : List PendingOp) (next : StreamProgress) (start held kept : List ℕ) (old now new : Due) (outcome : Outcome) →
     ChangesOne number first told → AsksToRead (progress_in head).asks →
     new ≡ listed (record { op = head.op; outcome = outcome } ∷ []) now →
     IfSome told
@@ -317,7 +317,7 @@ reads-go-on first told left number firsts head queue next start held kept old no
 
 -- a write completed
 pub writes-go-on : (first told left : Option Outside) (number : ℕ) (firsts : List (Pending Writing)) (head : PendingOp)
-    (queue : List PendingOp) (next : Progress) (held : List ℕ) (old now new : Due) (outcome : Outcome) →
+    (queue : List PendingOp) (next : StreamProgress) (held : List ℕ) (old now new : Due) (outcome : Outcome) →
     ChangesOne number first told → AsksToWrite (progress_in head).asks →
     new ≡ listed (record { op = head.op; outcome = outcome } ∷ []) now →
     IfSome told

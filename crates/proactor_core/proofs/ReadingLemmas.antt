@@ -12,9 +12,9 @@ use Rattle.stream_rules.specs.declared.serving.Served.{Served}
 use Rattle.stream_rules.specs.Stream.{Stream, new_stream}
 use Rattle.stream_rules.specs.World.{stream_at}
 use Rattle.composed_ops.specs.declared.want.Want.TheVariants as want
-use Rattle.composed_ops.specs.Asking.{Asking, Reads, Writes}
+use Rattle.composed_ops.specs.StreamOperation.{StreamOperation, Reads, Writes}
 use Rattle.composed_ops.specs.Feeding.{Exchange, IsFilled, MayAnswer, MayBeAsked, exchange_after, exchange_answered, course_of, held_with}
-use Rattle.composed_ops.specs.Progress.{IsSearched, IsUnderWay, Progress, progress_after}
+use Rattle.composed_ops.specs.Progress.{IsSearched, IsUnderWay, StreamProgress, progress_after}
 use Rattle.composed_ops.specs.Step.{outcome_by, step_of}
 use Rattle.composed_ops.specs.Want.{asking_want, counted_want, wanted}
 use Rattle.composed_ops.proofs.CountLemmas.{some-there}
@@ -25,8 +25,8 @@ use Rattle.reactor_trait.specs.Reactor.{Outside, with_stream}
 use Rattle.proactor_core.specs.Reactor.{told_stream, ChangesOne}
 use Rattle.proactor_core.specs.Reading.{exchange_at, Ends, IsGathered, IsRound}
 use Rattle.proactor_core.specs.Round.{round_of}
-use Rattle.proactor_core.specs.declared.round.Round.{Round}
-use Rattle.proactor_core.specs.declared.round.Round.TheVariants as round
+use Rattle.proactor_core.specs.declared.round.StreamRound.{StreamRound}
+use Rattle.proactor_core.specs.declared.round.StreamRound.TheVariants as round
 
 -- one stream has changed
 pub told_stream-changed : (outside : Outside) (number : ℕ) (change : Stream → Stream) →
@@ -46,8 +46,8 @@ answer-round exchange answer (Some (code, size)) ready may is =
     (ap (λ (course : Course). course.outcome) whole, ap (λ (course : Course). course.stream) whole)
 
 -- a read of the reactor was answered
-pub read-follows : (told left : Option Outside) (number : ℕ) (progress next : Progress) (held kept piece : List ℕ)
-    (most : ℕ) (answer : Moved) (turn : Round) → IsUnderWay progress → IsSearched progress held →
+pub read-follows : (told left : Option Outside) (number : ℕ) (progress next : StreamProgress) (held kept piece : List ℕ)
+    (most : ℕ) (answer : Moved) (turn : StreamRound) → IsUnderWay progress → IsSearched progress held →
     wanted progress held ≡ want.Read most → IfSome told (λ outside. number < length outside.streams) →
     IfSome told (λ _. answer ≡ read_answer most (told_stream told number)) →
     left ≡ option_map (with_stream number (after_reading (moved_count answer))) told →
@@ -75,7 +75,7 @@ read-follows (Some outside) left number progress next held kept piece most answe
     rw (turns, moves, keeps, brings, behind) read
 
 -- a read of the reactor that brought nothing yet
-pub wait-follows : (told left : Option Outside) (number : ℕ) (progress : Progress) (held : List ℕ) (most : ℕ)
+pub wait-follows : (told left : Option Outside) (number : ℕ) (progress : StreamProgress) (held : List ℕ) (most : ℕ)
     (answer : Moved) → IsUnderWay progress → IsSearched progress held → wanted progress held ≡ want.Read most →
     IfSome told (λ outside. number < length outside.streams) →
     IfSome told (λ _. answer ≡ read_answer most (told_stream told number)) → answer ≡ moved.NotYet →
@@ -97,7 +97,7 @@ counted-empty : (missing count : ℕ) → counted_want missing [] ≡ want.Held 
 counted-empty missing count is = cc
 
 -- held bytes that a read consumes are all that is there for it
-filled-held : (asks : Asking) (before count : ℕ) (held : List ℕ) (stream : Stream) → IsGathered asks held stream →
+filled-held : (asks : StreamOperation) (before count : ℕ) (held : List ℕ) (stream : Stream) → IsGathered asks held stream →
     asking_want asks before held ≡ want.Held count → IsFilled asks held stream
 filled-held (Reads (Some_bytes size)) before count held stream (inl none) is =
     absurd (counted-empty (size - before) count (rw none at is))
@@ -107,8 +107,8 @@ filled-held (Reads (Until delimiter max)) before count held stream gathered is =
 filled-held (Writes writing) before count held stream gathered is = tt
 
 -- held bytes were consumed
-pub held-follows : (told : Option Outside) (number : ℕ) (progress next : Progress) (held kept : List ℕ) (count : ℕ)
-    (turn : Round) → IsUnderWay progress → IsSearched progress held → wanted progress held ≡ want.Held count →
+pub held-follows : (told : Option Outside) (number : ℕ) (progress next : StreamProgress) (held kept : List ℕ) (count : ℕ)
+    (turn : StreamRound) → IsUnderWay progress → IsSearched progress held → wanted progress held ≡ want.Held count →
     IfSome told (λ _. IsGathered progress.asks held (told_stream told number)) → kept ≡ drop count held →
     next ≡ progress_after progress (moved.Took count) →
     turn ≡ round_of (step_of (outcome_by progress (moved.Took count))) →
@@ -128,7 +128,7 @@ held-follows (Some outside) number progress next held kept count turn under_way 
     rw (turns, moves, keeps) read
 
 -- a read completed on held bytes, and consumed some of them
-pub finish-follows : (told : Option Outside) (number : ℕ) (progress : Progress) (held kept : List ℕ) (ended : Code)
+pub finish-follows : (told : Option Outside) (number : ℕ) (progress : StreamProgress) (held kept : List ℕ) (ended : Code)
     (size : ℕ) → IsUnderWay progress → IsSearched progress held → wanted progress held ≡ want.Finish ended size →
     kept ≡ drop size held →
     IfSome told
@@ -147,10 +147,10 @@ pub filling-keeps : (first told left : Option Outside) (number count : ℕ) (sta
     left ≡ option_map (with_stream number (after_reading count)) told → kept ≡ held ++ piece →
     ChangesOne number first told →
     IfSome first (λ _.
-    (progress : Progress) →
+    (progress : StreamProgress) →
     course_of (exchange_at progress held told number) ≡ course_of (exchange_at progress start first number)) →
     IfSome first (λ _.
-    (progress : Progress) →
+    (progress : StreamProgress) →
     course_of (exchange_at progress kept left number) ≡ course_of (exchange_at progress start first number))
 filling-keeps None told left number count start held kept piece there brings gives keeps changes same = tt
 filling-keeps (Some before) None left number count start held kept piece there brings gives keeps changes same =
@@ -209,10 +209,10 @@ dry-left (Some outside) left number most answer some there none answered gives =
 pub stop-keeps : (first told left : Option Outside) (number : ℕ) (start held : List ℕ) →
     IfSome told (λ _. IsDry told left number) → ChangesOne number first told →
     IfSome first (λ _.
-    (progress : Progress) →
+    (progress : StreamProgress) →
     course_of (exchange_at progress held told number) ≡ course_of (exchange_at progress start first number)) →
     IfSome first (λ _.
-    (progress : Progress) →
+    (progress : StreamProgress) →
     course_of (exchange_at progress held left number) ≡ course_of (exchange_at progress start first number))
 stop-keeps None told left number start held dry changes same = tt
 stop-keeps (Some before) None left number start held dry changes same = absurd (cc)
@@ -255,7 +255,7 @@ there-still (Some outside) left number changes there =
     subst (λ (t : Option Outside). IfSome t (λ outside. number < length outside.streams)) (sym changes) within
 
 -- a call after which an operation goes on
-pub goes-on-same : (first told left : Option Outside) (number : ℕ) (start progress next : Progress)
+pub goes-on-same : (first told left : Option Outside) (number : ℕ) (start progress next : StreamProgress)
     (from held kept : List ℕ) → ChangesOne number first told →
     IfSome told
     (λ _. IsRound (exchange_at progress held told number) (exchange_at next kept left number) round.GoesOn) →
@@ -281,7 +281,7 @@ ends-on first before after (Some outcome) same ends =
     (ap (λ (course : Course). course.outcome) (sym same) ∙ ends.0, ap (λ (course : Course). course.stream) (sym same) ∙ ends.1)
 
 -- a call by which an operation ends
-pub ends-same : (first told left : Option Outside) (number : ℕ) (start progress next : Progress)
+pub ends-same : (first told left : Option Outside) (number : ℕ) (start progress next : StreamProgress)
     (from held kept : List ℕ) (outcome : Option Outcome) → ChangesOne number first told →
     IfSome told (λ _. Ends (exchange_at progress held told number) (exchange_at next kept left number) outcome) →
     IfSome first

@@ -10,7 +10,7 @@ use Rattle.std.proofs.lemmas.List.Filters.{length-filter_both}
 use Rattle.history_book.specs.Performing.{aborted, is_wait_for, is_wait_of}
 use Rattle.history_book.specs.Settling.{sorted_by}
 use Rattle.history_book.specs.declared.waiting.Wait.{Wait}
-use Rattle.timer_queue.specs.declared.entry.Entry.{Entry}
+use Rattle.timer_queue.specs.declared.entry.TimerEntry.{TimerEntry}
 use Rattle.timer_queue.specs.Queue.{Timers}
 use Rattle.timer_queue.proofs.OrderLemmas.{is_other}
 use Rattle.proactor_core.specs.Waits.{IsAccepted, IsWaits, TakesFirstOf, Waiting, expiry_of_entry, is_entry_for, ops_of, serial_of, waits_of, without}
@@ -31,7 +31,7 @@ other-wait timers op t x passes timer other =
       | inr apart ↦ grind (arith, nat_tests)
     ]
 
-module _ (timers : List ℕ) (op : ℕ) (q : List Entry) where
+module _ (timers : List ℕ) (op : ℕ) (q : List TimerEntry) where
   pub waits-rest : waits_of timers (filter (is_other op) q) ≡ filter (is_not_for op) (waits_of timers q)
   waits-rest = sym (filter-waits timers (is_not_for op) q)
 
@@ -94,14 +94,14 @@ module _ (expiries timers : List ℕ) (queue : Timers) (queues : List (List ℕ)
       }
 
 -- the first wait of a timer, whose operations after it are these
-pub record IsFirstOf (timer op : ℕ) (timers : List ℕ) (q : List Entry) (rest : List ℕ) : Type 0 where
+pub record IsFirstOf (timer op : ℕ) (timers : List ℕ) (q : List TimerEntry) (rest : List ℕ) : Type 0 where
   pub here : timer ≡ get_or timers op 0
   pub there : length (filter (is_entry_for op) q) ≡ 1
   pub first : filter (is_wait_of timer) (waits_of timers q)
       ≡ record { op = op; timer = timer } ∷ filter (is_wait_of timer) (waits_of timers (filter (is_other op) q))
   pub after : rest ≡ ops_of timer timers (filter (is_other op) q)
 
-first-step : (timer op : ℕ) (timers : List ℕ) (q : List Entry) (rest : List ℕ) (of : List Wait) →
+first-step : (timer op : ℕ) (timers : List ℕ) (q : List TimerEntry) (rest : List ℕ) (of : List Wait) →
     ((n : ℕ) → length (filter (is_entry_for n) q) ≤ 1) → filter (is_wait_of timer) (waits_of timers q) ≡ of →
     map (λ wait. wait.op) of ≡ op ∷ rest → IsFirstOf timer op timers q rest
 first-step timer op timers q rest [] once is ops = absurd (cc)
@@ -134,7 +134,7 @@ first-step timer op timers q rest (w ∷ ws) once is ops =
     head : (w : Wait) (ws : List Wait) → w.op ≡ op → w.timer ≡ timer → w ∷ ws ≡ record { op = op; timer = timer } ∷ ws
     head w ws e f = rw (← e, ← f) refl
 
-pub first-of : (timer op : ℕ) (timers : List ℕ) (q : List Entry) (rest : List ℕ) →
+pub first-of : (timer op : ℕ) (timers : List ℕ) (q : List TimerEntry) (rest : List ℕ) →
     ((n : ℕ) → length (filter (is_entry_for n) q) ≤ 1) → ops_of timer timers q ≡ op ∷ rest →
     IsFirstOf timer op timers q rest
 first-of timer op timers q rest once ops =
@@ -150,7 +150,7 @@ abort-step op (w ∷ []) long all =
     ap (λ n. aborted n 0 ∷ []) same
 abort-step op (w ∷ x ∷ ws) long all = absurd (omega arith)
 
-pub abort-one : (timers : List ℕ) (op : ℕ) (q : List Entry) → length (filter (is_entry_for op) q) ≡ 1 →
+pub abort-one : (timers : List ℕ) (op : ℕ) (q : List TimerEntry) → length (filter (is_entry_for op) q) ≡ 1 →
     map (λ wait. aborted wait.op 0) (filter (is_wait_for op) (waits_of timers q)) ≡ aborted op 0 ∷ []
 abort-one timers op q there =
     abort-step op (filter (is_wait_for op) (waits_of timers q))
@@ -162,18 +162,18 @@ nothing [] e = refl
 nothing (x ∷ xs) e = absurd (omega arith)
 
 -- an operation's entry is there once, or not at all
-pub there-once : (op : ℕ) (q : List Entry) → length (filter (is_entry_for op) q) ≤ 1 → Any (λ e. e.op ≡ op) q →
+pub there-once : (op : ℕ) (q : List TimerEntry) → length (filter (is_entry_for op) q) ≤ 1 → Any (λ e. e.op ≡ op) q →
     length (filter (is_entry_for op) q) ≡ 1
 there-once op q most any =
     elim (cases_eq (length (filter (is_entry_for op) q)) 0) [
       | inl none ↦
           let fails = none-passes (is_entry_for op) q (nothing (filter (is_entry_for op) q) none) any.0 any.1 any.2 in
-          let here : (get_or q any.0 any.1).op ≡ op = ap (λ (e : Entry). e.op) any.3 ∙ any.4 in
+          let here : (get_or q any.0 any.1).op ≡ op = ap (λ (e : TimerEntry). e.op) any.3 ∙ any.4 in
           absurd (grind (arith, nat_tests))
       | inr some ↦ omega arith
     ]
 
-pub not-there : (op : ℕ) (q : List Entry) → (Any (λ e. e.op ≡ op) q → ⊥) → All (λ e. is_entry_for op e ≡ false) q
+pub not-there : (op : ℕ) (q : List TimerEntry) → (Any (λ e. e.op ≡ op) q → ⊥) → All (λ e. is_entry_for op e ≡ false) q
 not-there op q none = λ k d b.
     false_from_ne_true (is_entry_for op (get_or q k d)) (λ e.
     let found = Contains-get_or q k d b in
@@ -181,7 +181,7 @@ not-there op q none = λ k d b.
     none (found.0, get_or q k d, found.1, found.2, same))
 
 -- what taking an entry out that is there leaves of the room
-pub remove-room : (op : ℕ) (q : List Entry) (r : Bool) (new old : ℕ) → (Any (λ e. e.op ≡ op) q → r ≡ true) →
+pub remove-room : (op : ℕ) (q : List TimerEntry) (r : Bool) (new old : ℕ) → (Any (λ e. e.op ≡ op) q → r ≡ true) →
     OnTrue r (new ≡ old + 1) → length (filter (is_entry_for op) q) ≡ 1 → new ≡ old + 1
 remove-room op q true new old answers room there = room
 remove-room op q false new old answers room there =
@@ -198,7 +198,7 @@ module _ (expiries timers : List ℕ) (queue : Timers) (queues : List (List ℕ)
       t < length queues → new ≡ ops_of t timers (filter (is_other op) queue.waits) → left ≡ set queues t new →
       IsWaits expiries timers after left accepted (pending - 1)
   left-queue after t new left waits spare of_op within ops written =
-      let rest : List Entry = filter (is_other op) queue.waits in
+      let rest : List TimerEntry = filter (is_other op) queue.waits in
       let long : length left ≡ length queues = ap length written ∙ length-set queues t new in
       let set-listed =
       listed-set queues t new (λ n. ops_of n timers rest) within ops
@@ -210,7 +210,7 @@ module _ (expiries timers : List ℕ) (queue : Timers) (queues : List (List ℕ)
       subst P (sym (same-timers after rest (queue.spare + 1) waits spare)) all
 
 -- what is seen once a wait has left
-pub view-rest : (op : ℕ) (expiries timers : List ℕ) (q after : List Entry) (accepted acts : ℕ) (rooms left : List ℕ) →
+pub view-rest : (op : ℕ) (expiries timers : List ℕ) (q after : List TimerEntry) (accepted acts : ℕ) (rooms left : List ℕ) →
     after ≡ filter (is_other op) q → left ≡ rooms →
     record { expiries = expiries; waits = waits_of timers after; accepted = accepted; rooms = left; acts = acts }
     ≡ without (is_wait_for op)
@@ -237,7 +237,7 @@ not-of timers op t x fails timer of_op =
     ]
 
 -- the first wait of a timer has left
-pub takes-first : (timer op : ℕ) (expiries timers : List ℕ) (q after : List Entry) (accepted acts : ℕ)
+pub takes-first : (timer op : ℕ) (expiries timers : List ℕ) (q after : List TimerEntry) (accepted acts : ℕ)
     (rooms left : List ℕ) (rest : List ℕ) → IsFirstOf timer op timers q rest → after ≡ filter (is_other op) q →
     left ≡ rooms →
     TakesFirstOf timer op

@@ -23,7 +23,7 @@ use Rattle.proactor_core.specs.Reactor.{tells}
 use Rattle.proactor_core.specs.Room.{HasRoomLeft}
 use Rattle.proactor_core.specs.Rooms.{acts_below, untaken_below}
 use Rattle.proactor_core.specs.StreamRooms.{is_on_side}
-use Rattle.proactor_core.specs.declared.stream_rooms.Side.TheVariants as side
+use Rattle.proactor_core.specs.declared.stream_rooms.StreamSide.TheVariants as side
 use Rattle.proactor_core.specs.Streams.{StreamView, new_stream_view, pending_on, pending_in_all, queues_in, stream_in}
 use Rattle.proactor_core.specs.Tables.{TableState, op_in, with_tables}
 use Rattle.proactor_core.specs.Untold.{IsUntoldOf}

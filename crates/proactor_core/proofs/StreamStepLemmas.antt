@@ -21,7 +21,7 @@ use Rattle.proactor_core.specs.Reactor.{whole_told}
 use Rattle.proactor_core.specs.Room.{IsUntaken}
 use Rattle.proactor_core.specs.Rooms.{one_if, untaken_below}
 use Rattle.proactor_core.specs.StreamRooms.{is_on_side}
-use Rattle.proactor_core.specs.declared.stream_rooms.Side.TheVariants as side
+use Rattle.proactor_core.specs.declared.stream_rooms.StreamSide.TheVariants as side
 use Rattle.proactor_core.specs.Streams.{StreamView, aborts_of_op, new_stream_view, pending_on, stream_in, without_op}
 use Rattle.proactor_core.specs.Tables.{TableState, act_taken}
 use Rattle.proactor_core.specs.Works.{with_works}

@@ -17,7 +17,7 @@ use Rattle.proactor_core.specs.Following.{IsConnected}
 use Rattle.proactor_core.specs.Proactor.{FitScript, HasRoomForActs, HaveStreamRoom, IsAt, IsTurning, IsWithinBounds, ProactorView}
 use Rattle.proactor_core.specs.Room.{AsksToWait, HasRoomLeft, IsUntaken}
 use Rattle.proactor_core.specs.StreamRooms.{is_on_side}
-use Rattle.proactor_core.specs.declared.stream_rooms.Side.TheVariants as side
+use Rattle.proactor_core.specs.declared.stream_rooms.StreamSide.TheVariants as side
 use Rattle.proactor_core.specs.Streams.{StreamView, pending_in_all}
 use Rattle.proactor_core.specs.Tables.{TableState, act_taken, guard_gone, slot_taken, timer_set, wait_begun, with_tables}
 use Rattle.proactor_core.specs.Waits.{abort_of_one, aborts, without, without_one}

@@ -14,7 +14,7 @@ use Rattle.asio_types.specs.declared.world.What.{What}
 use Rattle.asio_types.specs.declared.world.What.TheVariants as what
 use Rattle.session_script.specs.Script.{ScriptModel}
 use Rattle.session_script.specs.WellFormed.{IsWellFormed}
-use Rattle.stream_rules.specs.Stream.{Stream, marked_last, new_stream, performed}
+use Rattle.stream_rules.specs.Stream.{Stream, marked_last, new_stream, line_performed}
 use Rattle.stream_rules.specs.World.{lines_after, lines_at, next_point, perform_line, perform_lines, stream_at, streams_at_last, times_after}
 use Rattle.stream_rules.proofs.WorldLemmas.{lines_after-later, lines_at-later, next_point-later, times_after-moved}
 use Rattle.history_book.specs.Settling.{settled}
@@ -218,7 +218,7 @@ fed-behind held arrived bytes true = refl
 fed-behind held arrived bytes false = sym (append_assoc held arrived bytes)
 
 performed-behind : (does : What) (held : List ℕ) (s : Stream) →
-    whole held (performed does s) ≡ performed does (whole held s)
+    whole held (line_performed does s) ≡ line_performed does (whole held s)
 performed-behind (what.Feed bytes) held s =
     ap (λ arrived. let new : Stream = record s { arrived = arrived } in new)
     (fed-behind held s.arrived bytes (is_some s.read_mark))
@@ -235,15 +235,15 @@ line-behind : (held : ℕ → List ℕ) (all outside : List Stream) (line : Line
     AreWhole held (perform_line all line) (perform_line outside line) (length outside)
 line-behind held all outside line count are n b =
     let k = line.stream in
-    let changed = performed line.what (stream_at all k) in
-    let other_changed = performed line.what (stream_at outside k) in
+    let changed = line_performed line.what (stream_at all k) in
+    let other_changed = line_performed line.what (stream_at outside k) in
     elim (cases_eq n k) [
       | inl same ↦
           let within : k < length outside = omega arith in
           let here = get_or-set_same all k changed new_stream (omega arith) in
           let there = get_or-set_same outside k other_changed new_stream within in
           subst (λ m. stream_at (perform_line all line) m ≡ whole (held m) (stream_at (perform_line outside line) m)) (sym same)
-          (here ∙ ap (performed line.what) (are k within)
+          (here ∙ ap (line_performed line.what) (are k within)
           ∙ sym (performed-behind line.what (held k) (stream_at outside k)) ∙ ap (whole (held k)) (sym there))
       | inr ne ↦
           get_or-set_other all k n changed new_stream ne ∙ are n b
@@ -255,8 +255,8 @@ lines-behind : (held : ℕ → List ℕ) (lines : List Line) (all outside : List
     AreWhole held (perform_lines lines all) (perform_lines lines outside) (length outside)
 lines-behind held [] all outside count are = are
 lines-behind held (line ∷ lines) all outside count are =
-    let long = length-set all line.stream (performed line.what (stream_at all line.stream)) in
-    let other = length-set outside line.stream (performed line.what (stream_at outside line.stream)) in
+    let long = length-set all line.stream (line_performed line.what (stream_at all line.stream)) in
+    let other = length-set outside line.stream (line_performed line.what (stream_at outside line.stream)) in
     let one = line-behind held all outside line count are in
     let rest =
     lines-behind held lines (perform_line all line) (perform_line outside line) (long ∙ count ∙ sym other)

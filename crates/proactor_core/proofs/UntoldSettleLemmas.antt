@@ -11,8 +11,8 @@ use Rattle.session_script.specs.declared.act.Act.TheVariants as act
 use Rattle.session_script.specs.Script.{ScriptModel, act_of}
 use Rattle.stream_rules.specs.Queue.{Pending}
 use Rattle.stream_rules.specs.Serving.{All_bytes, All_of, Reading, Some_bytes, Some_of, Until, Writing}
-use Rattle.composed_ops.specs.Asking.{Reads, Writes}
-use Rattle.composed_ops.specs.Progress.{IsUnderWay, Progress}
+use Rattle.composed_ops.specs.StreamOperation.{Reads, Writes}
+use Rattle.composed_ops.specs.Progress.{IsUnderWay, StreamProgress}
 use Rattle.history_book.specs.Kinds.{reading_of, writing_of}
 use Rattle.history_book.specs.Settling.{due_waits, expiry_of, is_due, sorted_by, waited, with_waits_served}
 use Rattle.history_book.specs.State.{ReactorHalf, StreamQueues, no_queues}
@@ -53,10 +53,10 @@ moved-some : (n size : ℕ) → n < size → nat_lt n size ≡ true
 moved-some n size below = grind (arith, nat_tests)
 
 -- a read that is under way
-abbrev read_progress : ℕ → Reading → Progress
+abbrev read_progress : ℕ → Reading → StreamProgress
 read_progress moved reading = record { asks = Reads reading; moved = moved; latest = None }
 
-abbrev write_progress : ℕ → Writing → Progress
+abbrev write_progress : ℕ → Writing → StreamProgress
 write_progress moved writing = record { asks = Writes writing; moved = moved; latest = None }
 
 module _ (moved : ℕ) where

@@ -4,7 +4,7 @@ use Rattle.std.specs.List.{All}
 use Rattle.std.proofs.Math.ListN.{get_or-map, length-set}
 use Rattle.std.proofs.lemmas.List.{append_assoc, length-map, map-set}
 use Rattle.std.proofs.lemmas.List.Elements.{All-cons, All-map, All-nil}
-use Rattle.composed_ops.specs.Asking.{Asking, Reads, Writes}
+use Rattle.composed_ops.specs.StreamOperation.{StreamOperation, Reads, Writes}
 use Rattle.composed_ops.specs.Progress.{IsUnderWay}
 use Rattle.history_book.specs.State.{StreamQueues}
 use Rattle.history_book.specs.Untold.{may_give_read, may_give_write}
@@ -77,14 +77,14 @@ pub streams-give-below : StreamsGiveBelow
 streams-give-below last number old new told left due later few served = streams-give few served
 
 -- a read that is under way, whatever its latest piece was
-read-under-way : (asks : Asking) (moved : ℕ) (latest : Option ℕ) → AsksToRead asks →
+read-under-way : (asks : StreamOperation) (moved : ℕ) (latest : Option ℕ) → AsksToRead asks →
     IsUnderWay (record { asks = asks; moved = moved; latest = latest }) →
     IsUnderWay (record { asks = Reads (reading_asked asks); moved = moved; latest = None })
 read-under-way (Reads reading) moved latest is under_way =
     record { missing = under_way.missing; counted = under_way.counted; before = under_way.before }
 read-under-way (Writes writing) moved latest is under_way = absurd is
 
-write-under-way : (asks : Asking) (moved : ℕ) (latest : Option ℕ) → AsksToWrite asks →
+write-under-way : (asks : StreamOperation) (moved : ℕ) (latest : Option ℕ) → AsksToWrite asks →
     IsUnderWay (record { asks = asks; moved = moved; latest = latest }) →
     IsUnderWay (record { asks = Writes (writing_asked asks); moved = moved; latest = None })
 write-under-way (Reads reading) moved latest is under_way = absurd is

@@ -9,9 +9,9 @@ use Rattle.stream_rules.specs.Serving.{Writing, Some_of, after_writing, bytes_of
 use Rattle.stream_rules.specs.Stream.{Stream}
 use Rattle.stream_rules.specs.World.{stream_at}
 use Rattle.composed_ops.specs.declared.want.Want.TheVariants as want
-use Rattle.composed_ops.specs.Asking.{Asking, Reads, Writes}
+use Rattle.composed_ops.specs.StreamOperation.{StreamOperation, Reads, Writes}
 use Rattle.composed_ops.specs.Feeding.{MayAnswer, MayBeAsked, bytes_from, exchange_answered}
-use Rattle.composed_ops.specs.Progress.{IsUnderWay, Progress, progress_after}
+use Rattle.composed_ops.specs.Progress.{IsUnderWay, StreamProgress, progress_after}
 use Rattle.composed_ops.specs.Step.{outcome_by, step_of}
 use Rattle.composed_ops.specs.Want.{asking_want}
 use Rattle.composed_ops.proofs.ReactorLemmas.{writes-answered}
@@ -21,7 +21,7 @@ use Rattle.proactor_core.specs.Reactor.{told_stream}
 use Rattle.proactor_core.specs.Reading.{exchange_at, Ends, IsRound}
 use Rattle.proactor_core.specs.Round.{round_of}
 use Rattle.proactor_core.specs.Writing.{AsksToWrite}
-use Rattle.proactor_core.specs.declared.round.Round.{Round}
+use Rattle.proactor_core.specs.declared.round.StreamRound.{StreamRound}
 use Rattle.proactor_core.proofs.ReadingLemmas.{answer-round, told_stream-changed}
 
 pub moved-within : (most : ℕ) (answer : Moved) → IsMoveWithin most answer → moved_count answer ≤ most
@@ -55,9 +55,9 @@ behind outside left number writing from most count bytes there are fewer takes =
     ∙ written-same writing from most count bytes (stream_at outside.streams number) are fewer
 
 -- a write to the reactor was answered
-pub write-follows : (told left : Option Outside) (number : ℕ) (asks : Asking) (before : ℕ) (latest : Option ℕ)
-    (next : Progress) (held : List ℕ) (from most : ℕ) (bytes : List ℕ) (answer : Moved) (turn : Round) →
-    (let progress : Progress = record { asks = asks; moved = before; latest = latest } in
+pub write-follows : (told left : Option Outside) (number : ℕ) (asks : StreamOperation) (before : ℕ) (latest : Option ℕ)
+    (next : StreamProgress) (held : List ℕ) (from most : ℕ) (bytes : List ℕ) (answer : Moved) (turn : StreamRound) →
+    (let progress : StreamProgress = record { asks = asks; moved = before; latest = latest } in
     IsUnderWay progress → AsksToWrite asks → asking_want asks before [] ≡ want.Write from most →
     IfSome told (λ outside. number < length outside.streams) →
     IfSome told (λ outside. answer ≡ write_answer bytes (stream_at outside.streams number)) →
@@ -71,7 +71,7 @@ write-follows (Some outside) left number (Reads reading) before latest next held
     λ under_way writes wants there answered are fewer takes moves turns. absurd writes
 write-follows (Some outside) left number (Writes writing) before latest next held from most bytes answer turn =
     λ under_way writes wants there answered are fewer takes moves turns.
-    let progress : Progress = record { asks = Writes writing; moved = before; latest = latest } in
+    let progress : StreamProgress = record { asks = Writes writing; moved = before; latest = latest } in
     let exchange = exchange_at progress held (Some outside) number in
     let ready : MayBeAsked exchange = record { under_way = under_way; searched = tt } in
     let told = writes-answered exchange from most ready wants in
@@ -86,9 +86,9 @@ write-follows (Some outside) left number (Writes writing) before latest next hel
     rw (turns, moves, behind outside left number writing from most (moved_count answer) bytes there are fewer takes) written
 
 -- a write to the reactor that took nothing yet
-pub write-waits : (told left : Option Outside) (number : ℕ) (asks : Asking) (before : ℕ) (latest : Option ℕ)
+pub write-waits : (told left : Option Outside) (number : ℕ) (asks : StreamOperation) (before : ℕ) (latest : Option ℕ)
     (held : List ℕ) (from most : ℕ) (bytes : List ℕ) (answer : Moved) →
-    (let progress : Progress = record { asks = asks; moved = before; latest = latest } in
+    (let progress : StreamProgress = record { asks = asks; moved = before; latest = latest } in
     IsUnderWay progress → AsksToWrite asks → asking_want asks before [] ≡ want.Write from most →
     IfSome told (λ outside. number < length outside.streams) →
     IfSome told (λ outside. answer ≡ write_answer bytes (stream_at outside.streams number)) →
@@ -101,7 +101,7 @@ write-waits (Some outside) left number (Reads reading) before latest held from m
     λ under_way writes wants there answered are nothing takes. absurd writes
 write-waits (Some outside) left number (Writes writing) before latest held from most bytes answer =
     λ under_way writes wants there answered are nothing takes.
-    let progress : Progress = record { asks = Writes writing; moved = before; latest = latest } in
+    let progress : StreamProgress = record { asks = Writes writing; moved = before; latest = latest } in
     let exchange = exchange_at progress held (Some outside) number in
     let ready : MayBeAsked exchange = record { under_way = under_way; searched = tt } in
     let told = writes-answered exchange from most ready wants in

@@ -6,24 +6,24 @@ use Rattle.stream_rules.specs.declared.queue.Completion.{Completion}
 use Rattle.stream_rules.specs.Queue.{Pending, Side, served_queue}
 use Rattle.stream_rules.specs.Serving.{Reading, Some_bytes, Some_of, Writing}
 use Rattle.stream_rules.specs.Stream.{Stream}
-use Rattle.composed_ops.specs.Asking.{Asking, Reads, Writes, size_of}
+use Rattle.composed_ops.specs.StreamOperation.{StreamOperation, Reads, Writes, most_moved}
 use Rattle.composed_ops.specs.Machine.{progress_of}
-use Rattle.composed_ops.specs.Progress.{IsUnderWay, Progress, new_progress}
+use Rattle.composed_ops.specs.Progress.{IsUnderWay, StreamProgress, new_progress}
 use Rattle.proactor_core.specs.declared.pending.PendingOp.{PendingOp}
 use Rattle.proactor_core.specs.Due.{Due, listed}
 use Rattle.proactor_core.specs.Held.{HeldBytes}
 use Rattle.proactor_core.specs.Reading.{AsksToRead, MayRead}
 use Rattle.proactor_core.specs.Writing.{MayWrite}
 
-abbrev pub reading_asked : Asking → Reading
+abbrev pub reading_asked : StreamOperation → Reading
 reading_asked (Reads reading) = reading
 reading_asked (Writes writing) = Some_bytes 0
 
-abbrev pub writing_asked : Asking → Writing
+abbrev pub writing_asked : StreamOperation → Writing
 writing_asked (Reads reading) = Some_of []
 writing_asked (Writes writing) = writing
 
-abbrev pub progress_in : PendingOp → Progress
+abbrev pub progress_in : PendingOp → StreamProgress
 progress_in pending = progress_of pending.machine
 
 -- the operation as the rules of streams see it
@@ -44,12 +44,12 @@ pending_write pending = record {
 }
 
 -- a read before its first step, with room for all that it reads at once
-pub record IsNewRead (buffer room : ℕ) (progress : Progress) : Type 0 where
+pub record IsNewRead (buffer room : ℕ) (progress : StreamProgress) : Type 0 where
   pub fresh : progress ≡ new_progress progress.asks
   pub reads : AsksToRead progress.asks
   pub under_way : IsUnderWay progress
-  pub fits : size_of progress.asks ≤ buffer
-  pub holds : size_of progress.asks ≤ room
+  pub fits : most_moved progress.asks ≤ buffer
+  pub holds : most_moved progress.asks ≤ room
 
 -- only the read at the head may have been served
 abbrev pub AreReads : ℕ → HeldBytes → List PendingOp → Type 0

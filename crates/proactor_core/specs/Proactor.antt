@@ -19,7 +19,7 @@ use Rattle.history_book.specs.Turns.{latest}
 use Rattle.history_book.specs.Waiting.{expiry_in}
 use Rattle.cancel_slots.specs.declared.connection.Connection.{Connection}
 use Rattle.reactor_trait.specs.Reactor.{Outside, ReactorState, state_at, state_refused}
-use Rattle.proactor_core.specs.declared.stream_rooms.Side.TheVariants as side
+use Rattle.proactor_core.specs.declared.stream_rooms.StreamSide.TheVariants as side
 use Rattle.proactor_core.specs.Due.{Due}
 use Rattle.proactor_core.specs.Following.{IsConnected}
 use Rattle.proactor_core.specs.Reactor.{whole_told}
@@ -203,8 +203,8 @@ moved_state None state = state
 moved_state (Some point) state = state_at point state
 
 -- all bytes that the peer of a stream took
-abbrev pub sent_of : Stream → List ℕ
-sent_of stream = stream.sent
+abbrev pub sent_to_peer : Stream → List ℕ
+sent_to_peer stream = stream.sent
 
 -- the reactor is set up, stands at the time of this half, and where it tells its bytes, it has sent
 -- those of the half
@@ -212,7 +212,8 @@ pub record StandsAt (state : ReactorState) (told : Option Outside) (half : React
     : Type 0 where
   pub up : IsTrue state.up
   pub now : state.now ≡ half.now
-  pub sent : IfSome told (λ outside. map sent_of outside.streams ≡ map sent_of half.streams)
+  pub sent : IfSome told
+      (λ outside. map sent_to_peer outside.streams ≡ map sent_to_peer half.streams)
 
 -- a reactor that wasn't set up: nothing but that changed, and want of memory may come before it is
 -- asked

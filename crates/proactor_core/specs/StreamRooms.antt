@@ -3,8 +3,8 @@
 use Rattle.std.specs.Prelude.{ℕ, ◌==◌, Bool, false, Option, Some, None, if◌then◌else◌}
 use Rattle.session_script.specs.declared.act.Act.{Act}
 use Rattle.session_script.specs.declared.act.Act.TheVariants as act
-use Rattle.proactor_core.specs.declared.stream_rooms.Side.{Side}
-use Rattle.proactor_core.specs.declared.stream_rooms.Side.TheVariants as side
+use Rattle.proactor_core.specs.declared.stream_rooms.StreamSide.{StreamSide}
+use Rattle.proactor_core.specs.declared.stream_rooms.StreamSide.TheVariants as side
 
 abbrev pub stream_read : Act → Option ℕ
 stream_read (act.ReadSome stream size strand slot filter) = Some stream
@@ -18,7 +18,7 @@ stream_written (act.WriteAll stream bytes strand slot filter) = Some stream
 stream_written _ = None
 
 -- the stream that an act reads, or writes
-abbrev pub stream_on : Side → Act → Option ℕ
+abbrev pub stream_on : StreamSide → Act → Option ℕ
 stream_on side.Reads act = stream_read act
 stream_on side.Writes act = stream_written act
 
@@ -27,7 +27,7 @@ is_stream stream None = false
 is_stream stream (Some other) = other == stream
 
 -- whether an act reads this stream, or writes it
-abbrev pub is_on_side : Side → ℕ → Act → Bool
+abbrev pub is_on_side : StreamSide → ℕ → Act → Bool
 is_on_side side stream act = is_stream stream (stream_on side act)
 
 -- the most bytes that an act reads of this stream

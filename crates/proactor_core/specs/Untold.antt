@@ -13,7 +13,7 @@ use Rattle.stream_rules.specs.declared.queue.Completion.{Completion}
 use Rattle.stream_rules.specs.Queue.{Pending}
 use Rattle.stream_rules.specs.Serving.{Reading, Writing}
 use Rattle.stream_rules.specs.Stream.{Stream}
-use Rattle.composed_ops.specs.Asking.{Reads, Writes}
+use Rattle.composed_ops.specs.StreamOperation.{Reads, Writes}
 use Rattle.composed_ops.specs.Progress.{IsUnderWay}
 use Rattle.history_book.specs.Kinds.{reading_of, stream_of, writing_of}
 use Rattle.history_book.specs.Performing.{performed}

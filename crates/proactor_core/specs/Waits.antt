@@ -7,7 +7,7 @@ use Rattle.history_book.specs.Performing.{aborted, is_wait_for, is_wait_of}
 use Rattle.history_book.specs.Settling.{sorted_by, waited}
 use Rattle.history_book.specs.declared.waiting.Wait.{Wait}
 use Rattle.history_book.specs.Waiting.{expiry_in}
-use Rattle.timer_queue.specs.declared.entry.Entry.{Entry}
+use Rattle.timer_queue.specs.declared.entry.TimerEntry.{TimerEntry}
 use Rattle.timer_queue.specs.Queue.{Timers}
 
 -- the timers and what waits for them
@@ -80,30 +80,30 @@ pub record TakesExpired (now op : ℕ) (old new : Waiting) : Type 0 where
 
 -- What follows is for this crate alone: how the waits lie in a queue of timers.
 
-abbrev pub serial_of : Entry → ℕ
+abbrev pub serial_of : TimerEntry → ℕ
 serial_of entry = entry.serial
 
-abbrev pub expiry_of_entry : Entry → ℕ
+abbrev pub expiry_of_entry : TimerEntry → ℕ
 expiry_of_entry entry = entry.expiry
 
-abbrev pub is_entry_for : ℕ → Entry → Bool
+abbrev pub is_entry_for : ℕ → TimerEntry → Bool
 is_entry_for op entry = entry.op == op
 
 -- the wait of an entry, where the timers of operations are these
-abbrev pub wait_of : List ℕ → Entry → Wait
+abbrev pub wait_of : List ℕ → TimerEntry → Wait
 wait_of timers entry = record { op = entry.op; timer = slice_index_or timers entry.op 0 }
 
 -- the waits of entries, in order of acceptance
-abbrev pub waits_of : List ℕ → List Entry → List Wait
+abbrev pub waits_of : List ℕ → List TimerEntry → List Wait
 waits_of timers entries = map (wait_of timers) (sorted_by serial_of entries)
 
 -- the operations of a timer that are pending, in order of acceptance
-abbrev pub ops_of : ℕ → List ℕ → List Entry → List ℕ
+abbrev pub ops_of : ℕ → List ℕ → List TimerEntry → List ℕ
 ops_of timer timers entries =
     map (λ wait. wait.op) (filter (is_wait_of timer) (waits_of timers entries))
 
 -- an entry that was accepted, of an operation of a timer, with that timer's expiry
-pub record IsAccepted (expiries timers : List ℕ) (accepted : ℕ) (entry : Entry) : Type 0 where
+pub record IsAccepted (expiries timers : List ℕ) (accepted : ℕ) (entry : TimerEntry) : Type 0 where
   pub serial : entry.serial < accepted
   pub op : entry.op < length timers
   pub timer : slice_index_or timers entry.op 0 < length expiries

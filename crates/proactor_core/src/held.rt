@@ -9,7 +9,7 @@ use std::marker::Model;
 /// delimiter leaves them. Contracts see these, and how many there may be at once. No call but
 /// `with_room` takes memory; a byte is moved at most once for each byte that is consumed.
 #[derive(Drop)]
-pub(crate) struct Held {
+pub(crate) struct HeldBytes {
     /// The bytes that were consumed, and then those that are held.
     bytes: Vec<u8>,
     /// How many were consumed.
@@ -18,7 +18,7 @@ pub(crate) struct Held {
     room: usize,
 }
 
-impl Model for Held {
+impl Model for HeldBytes {
     ghost use Rattle.std.specs.Prelude.{◌+◌, ◌≤◌, ◌^◌, ◌<◌, drop, vec_capacity, vec_len};
     ghost use Rattle.proactor_core.specs.Held.{HeldBytes};
 
@@ -46,15 +46,15 @@ fn drop_front(bytes: &mut Vec<u8>, count: usize)
     bytes.truncate(end - count);
 }
 
-impl Held {
+impl HeldBytes {
     /// None is held, with room for so many. Takes memory for twice as many; `NoMemory` where it is
     /// refused.
-    pub(crate) fn with_room(alloc: Global, room: u32) -> Result<Held, NoMemory>
+    pub(crate) fn with_room(alloc: Global, room: u32) -> Result<HeldBytes, NoMemory>
         ensures { IfOk result (λ held. held ≡ none_held room) }
     {
         let room = room as usize;
         let bytes = Vec::with_capacity(alloc, room + room)?;
-        Ok(Held {
+        Ok(HeldBytes {
             bytes,
             consumed: 0,
             room,

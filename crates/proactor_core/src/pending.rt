@@ -7,7 +7,7 @@ ghost use Rattle.proactor_core.specs.Pending.{pending_read, pending_write, AreRe
 ghost use Rattle.proactor_core.specs.Reactor.{tells, whole_told, ChangesOne, IsServable};
 
 use crate::due::DueList;
-use crate::held::Held;
+use crate::held::HeldBytes;
 use crate::reading::serve_read;
 use crate::writing::serve_write;
 use asio_types::{Failed, OpNo, StreamNo};
@@ -31,7 +31,7 @@ pub(crate) struct PendingOp<'a> {
 /// completed. A head that stays keeps what it consumed.
 pub(crate) fn serve_reads<'a, X: Reactor>(
     queue: &mut VecDeque<PendingOp<'a>>,
-    held: &mut Held,
+    held: &mut HeldBytes,
     buffer: &mut [u8],
     stream: StreamNo,
     reactor: &mut X,

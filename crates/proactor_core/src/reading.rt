@@ -3,17 +3,17 @@ ghost use Rattle.asio_types.specs.Faults.{CountsFaults};
 ghost use Rattle.std.specs.Option.{option_map};
 ghost use Rattle.stream_rules.specs.Moving.{moved_count, read_answer};
 ghost use Rattle.stream_rules.specs.Serving.{after_reading, Some_bytes};
-ghost use Rattle.composed_ops.specs.Asking.{Reads, size_of};
+ghost use Rattle.composed_ops.specs.StreamOperation.{Reads, most_moved};
 ghost use Rattle.composed_ops.specs.Feeding.{held_with, course_of, IsFilled};
 ghost use Rattle.composed_ops.specs.Machine.{progress_of};
-ghost use Rattle.composed_ops.specs.Progress.{Progress};
+ghost use Rattle.composed_ops.specs.Progress.{StreamProgress};
 ghost use Rattle.composed_ops.specs.Want.{wanted, IsWithin, MayAskAgain};
 ghost use Rattle.reactor_trait.specs.Reactor.{IsMoveWithin, with_stream};
 ghost use Rattle.proactor_core.specs.Reactor.{tells, told_stream, ChangesOne, IsServable};
 ghost use Rattle.proactor_core.specs.Reading.{exchange_at, may_give, pieces_left, Ends, IsAllowed, IsGathered, IsOpenStill, IsRound, MayRead};
 
-use crate::held::Held;
-use crate::round::{Round, round_of};
+use crate::held::HeldBytes;
+use crate::round::{StreamRound, round_of};
 use asio_types::{Code, Failed, Moved, StreamNo};
 use composed_ops::{Machine, Want};
 use reactor_trait::Reactor;
@@ -52,7 +52,7 @@ fn read_piece<X: Reactor>(
 /// Moves what has arrived behind the held bytes, until nothing is there or so many are held.
 fn fill<X: Reactor>(
     size: u32,
-    held: &mut Held,
+    held: &mut HeldBytes,
     buffer: &mut [u8],
     stream: StreamNo,
     reactor: &mut X,
@@ -66,7 +66,7 @@ fn fill<X: Reactor>(
     ensures tells { tells (X.told reactor.new) ≡ tells (X.told reactor.old) }
     ensures room { held.new.room ≡ held.old.room }
     ensures told { OnOk result (ChangesOne stream (X.told reactor.old) (X.told reactor.new)) }
-    ensures same { OnOk result (IfSome (X.told reactor.old) (λ _. (progress : Progress) →
+    ensures same { OnOk result (IfSome (X.told reactor.old) (λ _. (progress : StreamProgress) →
         course_of (exchange_at progress held.new.bytes (X.told reactor.new) stream)
         ≡ course_of (exchange_at progress held.old.bytes (X.told reactor.old) stream))) }
     ensures filled { OnOk result (IfSome (X.told reactor.old) (λ _.
@@ -84,7 +84,7 @@ fn fill<X: Reactor>(
 }
 
 /// A piece that was read for an operation: a read until a delimiter holds it.
-fn keep_piece(machine: &Machine, moved: Moved, held: &mut Held, buffer: &[u8])
+fn keep_piece(machine: &Machine, moved: Moved, held: &mut HeldBytes, buffer: &[u8])
     requires there { moved_count moved ≤ length buffer.now }
     requires room { length (held_with (progress_of machine.now).asks held.old.bytes
         (take (moved_count moved) buffer.now)) ≤ held.old.room }
@@ -102,16 +102,16 @@ fn keep_piece(machine: &Machine, moved: Moved, held: &mut Held, buffer: &[u8])
 fn read_more<X: Reactor>(
     machine: &mut Machine,
     most: u32,
-    held: &mut Held,
+    held: &mut HeldBytes,
     buffer: &mut [u8],
     stream: StreamNo,
     reactor: &mut X,
-) -> Result<Round, Failed>
+) -> Result<StreamRound, Failed>
     requires servable { IsServable (X.state reactor.old) (X.told reactor.old) stream }
     requires may_read { MayRead (length buffer.old) held.old (progress_of machine.old) }
     requires wants { wanted (progress_of machine.old) held.old.bytes ≡ Want.Read most }
     requires within { IsWithin
-        (size_of (progress_of machine.old).asks - (progress_of machine.old).moved)
+        (most_moved (progress_of machine.old).asks - (progress_of machine.old).moved)
         (length held.old.bytes) (Want.Read most) }
     requires again { MayAskAgain (progress_of machine.old) held.old.bytes (Want.Read most) }
     ensures keeps { X.state reactor.new ≡ X.state reactor.old }
@@ -128,15 +128,15 @@ fn read_more<X: Reactor>(
         (exchange_at (progress_of machine.old) held.old.bytes (X.told reactor.old) stream)
         (exchange_at (progress_of machine.new) held.new.bytes (X.told reactor.new) stream) round)) }
     ensures smaller { IfOk result (λ round.
-        round ≡ Round.GoesOn →
+        round ≡ StreamRound.GoesOn →
         pieces_left (progress_of machine.new) held.new.bytes
         < pieces_left (progress_of machine.old) held.old.bytes) }
     ensures after_last { IsTrue (X.state reactor.old).last →
-        IfOk result (λ round. round ≢ Round.Stays) }
+        IfOk result (λ round. round ≢ StreamRound.Stays) }
 {
     let moved = read_piece(reactor, stream, buffer, most)?;
     if let Moved::NotYet = moved {
-        return Ok(Round::Stays);
+        return Ok(StreamRound::Stays);
     }
     keep_piece(machine, moved, held, buffer);
     Ok(round_of(machine.got(moved)))
@@ -145,11 +145,11 @@ fn read_more<X: Reactor>(
 /// One step of a read.
 fn read_once<X: Reactor>(
     machine: &mut Machine,
-    held: &mut Held,
+    held: &mut HeldBytes,
     buffer: &mut [u8],
     stream: StreamNo,
     reactor: &mut X,
-) -> Result<Round, Failed>
+) -> Result<StreamRound, Failed>
     requires servable { IsServable (X.state reactor.old) (X.told reactor.old) stream }
     requires may_read { MayRead (length buffer.old) held.old (progress_of machine.old) }
     requires gathered { IfSome (X.told reactor.old) (λ _.
@@ -169,13 +169,13 @@ fn read_once<X: Reactor>(
         (exchange_at (progress_of machine.old) held.old.bytes (X.told reactor.old) stream)
         (exchange_at (progress_of machine.new) held.new.bytes (X.told reactor.new) stream) round)) }
     ensures smaller { IfOk result (λ round.
-        round ≡ Round.GoesOn →
+        round ≡ StreamRound.GoesOn →
         pieces_left (progress_of machine.new) held.new.bytes
         < pieces_left (progress_of machine.old) held.old.bytes) }
     ensures after_last { IsTrue (X.state reactor.old).last →
-        IfOk result (λ round. round ≢ Round.Stays) }
+        IfOk result (λ round. round ≢ StreamRound.Stays) }
     ensures gathered { IfOk result (λ round.
-        round ≡ Round.GoesOn →
+        round ≡ StreamRound.GoesOn →
         IfSome (X.told reactor.old) (λ _.
         IsGathered (progress_of machine.new).asks held.new.bytes
         (told_stream (X.told reactor.new) stream))) }
@@ -188,7 +188,7 @@ fn read_once<X: Reactor>(
         Want::Read(most) => read_more(machine, most, held, buffer, stream, reactor),
         Want::Finish { code, size } => {
             held.consume(size as usize);
-            Ok(Round::Completes { code, size })
+            Ok(StreamRound::Completes { code, size })
         }
         Want::Write { .. } => unreachable!(),
     }
@@ -198,7 +198,7 @@ fn read_once<X: Reactor>(
 /// are held.
 fn gather<X: Reactor>(
     machine: &Machine,
-    held: &mut Held,
+    held: &mut HeldBytes,
     buffer: &mut [u8],
     stream: StreamNo,
     reactor: &mut X,
@@ -232,7 +232,7 @@ fn gather<X: Reactor>(
 /// Serves a read until it completes, with its code and size, or nothing is there for it.
 pub(crate) fn serve_read<X: Reactor>(
     machine: &mut Machine,
-    held: &mut Held,
+    held: &mut HeldBytes,
     buffer: &mut [u8],
     stream: StreamNo,
     reactor: &mut X,
@@ -261,9 +261,9 @@ pub(crate) fn serve_read<X: Reactor>(
     gather(machine, held, buffer, stream, reactor)?;
     'rounds: loop {
         match read_once(machine, held, buffer, stream, reactor)? {
-            Round::GoesOn => {}
-            Round::Stays => return Ok(None),
-            Round::Completes { code, size } => return Ok(Some((code, size))),
+            StreamRound::GoesOn => {}
+            StreamRound::Stays => return Ok(None),
+            StreamRound::Completes { code, size } => return Ok(Some((code, size))),
         }
     }
 }

@@ -2,11 +2,11 @@ ghost use Rattle.std.specs.Prelude.{◌≡◌};
 ghost use Rattle.proactor_core.specs.Round.{round_of};
 
 use asio_types::Code;
-use composed_ops::Step;
+use composed_ops::MachineStep;
 
 /// What one call for an operation on a stream leaves.
 #[derive(Clone, Copy, Debug, PartialEq, Eq)]
-pub(crate) enum Round {
+pub(crate) enum StreamRound {
     /// It is asked again.
     GoesOn,
     /// Nothing is there for it now.
@@ -16,11 +16,11 @@ pub(crate) enum Round {
 }
 
 /// What a step of its machine says.
-pub(crate) fn round_of(step: Step) -> Round
+pub(crate) fn round_of(step: MachineStep) -> StreamRound
     ensures { result ≡ round_of step }
 {
     match step {
-        Step::Again => Round::GoesOn,
-        Step::Done { code, size } => Round::Completes { code, size },
+        MachineStep::Again => StreamRound::GoesOn,
+        MachineStep::Done { code, size } => StreamRound::Completes { code, size },
     }
 }

@@ -10,27 +10,27 @@ use std::alloc::Global;
 
 /// One of the two sides of a stream.
 #[derive(Clone, Copy, Debug)]
-pub(crate) enum Side {
+pub(crate) enum StreamSide {
     Reads,
     Writes,
 }
 
 /// The stream that an act reads, or writes.
-fn stream_on(side: Side, act: &Act) -> Option<StreamNo>
+fn stream_on(side: StreamSide, act: &Act) -> Option<StreamNo>
     ensures { result ≡ stream_on side act.now }
 {
     match (side, act) {
-        (Side::Reads, Act::ReadSome { stream, .. })
-        | (Side::Reads, Act::ReadAll { stream, .. })
-        | (Side::Reads, Act::Until { stream, .. })
-        | (Side::Writes, Act::WriteSome { stream, .. })
-        | (Side::Writes, Act::WriteAll { stream, .. }) => Some(*stream),
+        (StreamSide::Reads, Act::ReadSome { stream, .. })
+        | (StreamSide::Reads, Act::ReadAll { stream, .. })
+        | (StreamSide::Reads, Act::Until { stream, .. })
+        | (StreamSide::Writes, Act::WriteSome { stream, .. })
+        | (StreamSide::Writes, Act::WriteAll { stream, .. }) => Some(*stream),
         _ => None,
     }
 }
 
 /// Counts an operation at its stream.
-fn count_operation(side: Side, act: &Act, counts: &mut [u32])
+fn count_operation(side: StreamSide, act: &Act, counts: &mut [u32])
     requires { All (λ count. count + 1 < 2 ^ 32) counts.old }
     ensures { (stream : ℕ) → stream < length counts.old →
         slice_index_or counts.new stream 0
@@ -47,7 +47,7 @@ fn count_operation(side: Side, act: &Act, counts: &mut [u32])
 /// For each stream how many operations of one side the script has.
 pub(crate) fn operation_counts(
     alloc: Global,
-    side: Side,
+    side: StreamSide,
     script: &Script,
 ) -> Result<Vec<u32>, NoMemory>
     ensures streams { IfOk result (λ counts. length counts.items ≡ script.now.world.streams) }

@@ -1,6 +1,6 @@
 ghost use Rattle.std.specs.Prelude.{◌≡◌, ◌<◌, ◌≤◌, ◌^◌, [], IfOk, IfSome, IsTrue, OnOk, false, length};
 ghost use Rattle.asio_types.specs.Faults.{CountsFaults};
-ghost use Rattle.composed_ops.specs.Asking.{size_of};
+ghost use Rattle.composed_ops.specs.StreamOperation.{most_moved};
 ghost use Rattle.composed_ops.specs.Machine.{progress_of};
 ghost use Rattle.composed_ops.specs.Progress.{new_progress, IsUnderWay};
 ghost use Rattle.history_book.specs.Performing.{all_of_stream, bad};
@@ -14,7 +14,7 @@ ghost use Rattle.proactor_core.specs.Writing.{AsksToWrite};
 
 use crate::aborting::{abort_all, abort_in};
 use crate::due::DueList;
-use crate::held::Held;
+use crate::held::HeldBytes;
 use crate::pending::{PendingOp, serve_reads, serve_writes};
 use asio_types::{Code, Failed, NoMemory, OpNo, StreamNo};
 use composed_ops::Machine;
@@ -30,7 +30,7 @@ use stream_rules::Completion;
 #[derive(Drop)]
 pub(crate) struct StreamWork<'a> {
     closed: bool,
-    held: Held,
+    held: HeldBytes,
     reads: VecDeque<PendingOp<'a>>,
     writes: VecDeque<PendingOp<'a>>,
 }
@@ -78,7 +78,7 @@ impl<'a> StreamWork<'a> {
     ) -> Result<StreamWork<'a>, NoMemory>
         ensures { IfOk result (λ work. work ≡ new_stream_view room reads writes) }
     {
-        let held = Held::with_room(alloc, room)?;
+        let held = HeldBytes::with_room(alloc, room)?;
         let reads = VecDeque::with_capacity(alloc, reads as usize)?;
         let writes = VecDeque::with_capacity(alloc, writes as usize)?;
         Ok(StreamWork {
@@ -100,7 +100,7 @@ impl<'a> StreamWork<'a> {
         requires fresh { progress_of machine ≡ new_progress (progress_of machine).asks }
         requires reads { AsksToRead (progress_of machine).asks }
         requires under_way { IsUnderWay (progress_of machine) }
-        requires holds { size_of (progress_of machine).asks ≤ self.old.room }
+        requires holds { most_moved (progress_of machine).asks ≤ self.old.room }
         requires room { length self.old.reads < self.old.reads_room }
         requires spare { 0 < due.old.spare }
         ensures accepted { self.new

@@ -1,6 +1,6 @@
 ghost use Rattle.std.specs.Prelude.{◌≡◌, ◌<◌, ◌≤◌, ◌^◌, ℕ, [], false, length, slice_index_or, vec_len, Some, IfOk, IfSome, IsTrue, OnOk};
 ghost use Rattle.asio_types.specs.Faults.{CountsFaults};
-ghost use Rattle.composed_ops.specs.Asking.{size_of};
+ghost use Rattle.composed_ops.specs.StreamOperation.{most_moved};
 ghost use Rattle.composed_ops.specs.Machine.{progress_of};
 ghost use Rattle.composed_ops.specs.Progress.{new_progress, IsUnderWay};
 ghost use Rattle.history_book.specs.Performing.{all_of_stream};
@@ -17,7 +17,7 @@ ghost use Rattle.proactor_core.specs.Untold.{AreUnderWay};
 ghost use Rattle.proactor_core.specs.Writing.{AsksToWrite};
 
 use crate::due::DueList;
-use crate::stream_rooms::{Side, operation_counts, read_sizes};
+use crate::stream_rooms::{StreamSide, operation_counts, read_sizes};
 use crate::stream_work::StreamWork;
 use asio_types::{Failed, NoMemory, OpNo, StreamNo};
 use composed_ops::Machine;
@@ -104,16 +104,16 @@ impl<'a> Streams<'a> {
         ensures reads { IfOk result (λ made.
             (stream : ℕ) → stream < script.now.world.streams →
             (stream_in made stream).reads_room
-            ≡ acts_below (is_on_side Side.Reads stream) script.now (length script.now.acts)) }
+            ≡ acts_below (is_on_side StreamSide.Reads stream) script.now (length script.now.acts)) }
         ensures writes { IfOk result (λ made.
             (stream : ℕ) → stream < script.now.world.streams →
             (stream_in made stream).writes_room
-            ≡ acts_below (is_on_side Side.Writes stream) script.now
+            ≡ acts_below (is_on_side StreamSide.Writes stream) script.now
             (length script.now.acts)) }
     {
         let sizes = read_sizes(alloc, script)?;
-        let reads = operation_counts(alloc, Side::Reads, script)?;
-        let writes = operation_counts(alloc, Side::Writes, script)?;
+        let reads = operation_counts(alloc, StreamSide::Reads, script)?;
+        let writes = operation_counts(alloc, StreamSide::Writes, script)?;
         Streams::with_rooms(alloc, sizes.as_slice(), reads.as_slice(), writes.as_slice())
     }
 
@@ -173,7 +173,7 @@ impl<'a> Streams<'a> {
         requires fresh { progress_of machine ≡ new_progress (progress_of machine).asks }
         requires reads { AsksToRead (progress_of machine).asks }
         requires under_way { IsUnderWay (progress_of machine) }
-        requires holds { size_of (progress_of machine).asks ≤ (stream_in self.old stream).room }
+        requires holds { most_moved (progress_of machine).asks ≤ (stream_in self.old stream).room }
         requires room { length (stream_in self.old stream).reads
             < (stream_in self.old stream).reads_room }
         requires spare { 0 < due.old.spare }

@@ -1,13 +1,13 @@
 ghost use Rattle.std.specs.Prelude.{◌≡◌, ◌≢◌, ◌<◌, ◌+◌, ◌≤◌, ◌^◌, [], IfNone, IfOk, IfSome, IsSome, IsTrue, List, OnOk, length, true, ℕ};
 ghost use Rattle.asio_types.specs.Faults.{CountsFaults};
-ghost use Rattle.composed_ops.specs.Asking.{size_of};
+ghost use Rattle.composed_ops.specs.StreamOperation.{most_moved};
 ghost use Rattle.composed_ops.specs.Feeding.{bytes_from};
 ghost use Rattle.composed_ops.specs.Machine.{progress_of};
 ghost use Rattle.proactor_core.specs.Reactor.{tells, ChangesOne, IsServable};
 ghost use Rattle.proactor_core.specs.Reading.{exchange_at, may_give, pieces_left, Ends, IsAllowed, IsOpenStill, IsRound};
 ghost use Rattle.proactor_core.specs.Writing.{AsksToWrite, MayWrite};
 
-use crate::round::{Round, round_of};
+use crate::round::{StreamRound, round_of};
 use asio_types::{Code, Failed, Moved, StreamNo};
 use composed_ops::{Machine, Want};
 use reactor_trait::Reactor;
@@ -15,8 +15,8 @@ use reactor_trait::Reactor;
 /// The bytes that a write writes next.
 fn next_bytes<'a>(machine: &Machine<'a>, from: u32, count: u32) -> &'a [u8]
     requires writes { AsksToWrite (progress_of machine.now).asks }
-    requires within { from + count ≤ size_of (progress_of machine.now).asks }
-    requires counted { size_of (progress_of machine.now).asks < 2 ^ 32 }
+    requires within { from + count ≤ most_moved (progress_of machine.now).asks }
+    requires counted { most_moved (progress_of machine.now).asks < 2 ^ 32 }
     ensures bytes { result.now ≡ bytes_from (progress_of machine.now).asks from count }
     ensures count { length result.now ≡ count }
 {
@@ -33,7 +33,7 @@ fn write_once<X: Reactor>(
     machine: &mut Machine,
     stream: StreamNo,
     reactor: &mut X,
-) -> Result<Round, Failed>
+) -> Result<StreamRound, Failed>
     requires servable { IsServable (X.state reactor.old) (X.told reactor.old) stream }
     requires may_write { MayWrite (progress_of machine.old) }
     ensures keeps { X.state reactor.new ≡ X.state reactor.old }
@@ -49,10 +49,10 @@ fn write_once<X: Reactor>(
         IfSome (X.told reactor.old) (λ _.
         IsRound (exchange_at (progress_of machine.old) held (X.told reactor.old) stream)
         (exchange_at (progress_of machine.new) held (X.told reactor.new) stream) round)) }
-    ensures smaller { IfOk result (λ round. round ≡ Round.GoesOn →
+    ensures smaller { IfOk result (λ round. round ≡ StreamRound.GoesOn →
         pieces_left (progress_of machine.new) [] < pieces_left (progress_of machine.old) []) }
     ensures after_last { IsTrue (X.state reactor.old).last →
-        IfOk result (λ round. round ≢ Round.Stays) }
+        IfOk result (λ round. round ≢ StreamRound.Stays) }
 {
     let Want::Write { from, count } = machine.want(&[]) else {
         unreachable!()
@@ -60,7 +60,7 @@ fn write_once<X: Reactor>(
     let bytes = next_bytes(machine, from, count);
     let moved = reactor.write_some(stream, bytes)?;
     if let Moved::NotYet = moved {
-        return Ok(Round::Stays);
+        return Ok(StreamRound::Stays);
     }
     Ok(round_of(machine.got(moved)))
 }
@@ -92,9 +92,9 @@ pub(crate) fn serve_write<X: Reactor>(
 {
     'rounds: loop {
         match write_once(machine, stream, reactor)? {
-            Round::GoesOn => {}
-            Round::Stays => return Ok(None),
-            Round::Completes { code, size } => return Ok(Some((code, size))),
+            StreamRound::GoesOn => {}
+            StreamRound::Stays => return Ok(None),
+            StreamRound::Completes { code, size } => return Ok(Some((code, size))),
         }
     }
 }

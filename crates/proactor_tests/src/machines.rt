@@ -1,12 +1,12 @@
 //! Machines that are fed in every cutting into two; what each gives is written by hand.
 
 ghost use Rattle.std.specs.Prelude.{◌≡◌, ◌≤◌, length, IfOk};
-ghost use Rattle.composed_ops.specs.Asking.{asking_of, IsSizedAct};
+ghost use Rattle.composed_ops.specs.StreamOperation.{asking_of, IsSizedAct};
 ghost use Rattle.composed_ops.specs.Machine.{progress_of};
 ghost use Rattle.composed_ops.specs.Progress.{IsUnderWay};
 
 use asio_types::{Bytes, Code, Moved, NoMemory, ReadMark, Types};
-use composed_ops::{Machine, Step, Want};
+use composed_ops::{Machine, MachineStep, Want};
 use session_script::Act;
 use std::alloc::Global;
 
@@ -75,9 +75,9 @@ fn write_all(alloc: Global, bytes: &[u8; 4]) -> Result<Act, NoMemory>
 }
 
 /// One step of a machine that holds no bytes, where so many are there, or so much room.
-fn step(machine: &mut Machine, there: u32) -> Step
+fn step(machine: &mut Machine, there: u32) -> MachineStep
     requires under_way { IsUnderWay (progress_of machine.old) }
-    ensures under_way { result ≡ Step.Again → IsUnderWay (progress_of machine.new) }
+    ensures under_way { result ≡ MachineStep.Again → IsUnderWay (progress_of machine.new) }
 {
     match machine.want(&[]) {
         Want::Read(most) | Want::Write { count: most, .. } if there > 0 => {
@@ -88,7 +88,7 @@ fn step(machine: &mut Machine, there: u32) -> Step
 }
 
 /// The step by a mark, if there is one.
-fn ended(machine: &mut Machine, mark: Option<ReadMark>) -> Step
+fn ended(machine: &mut Machine, mark: Option<ReadMark>) -> MachineStep
     requires { IsUnderWay (progress_of machine.old) }
 {
     match mark {
@@ -98,10 +98,10 @@ fn ended(machine: &mut Machine, mark: Option<ReadMark>) -> Step
     }
 }
 
-fn outcome(step: Step) -> Option<(Code, u32)> {
+fn outcome(step: MachineStep) -> Option<(Code, u32)> {
     match step {
-        Step::Again => None,
-        Step::Done { code, size } => Some((code, size)),
+        MachineStep::Again => None,
+        MachineStep::Done { code, size } => Some((code, size)),
     }
 }
 
@@ -112,10 +112,10 @@ fn fed(act: &Act, first: u32, second: u32, mark: Option<ReadMark>) -> Option<(Co
 {
     let mut machine = Machine::of(act)?;
     let mut taken = step(&mut machine, first);
-    if taken == Step::Again {
+    if taken == MachineStep::Again {
         taken = step(&mut machine, second);
     }
-    if taken == Step::Again {
+    if taken == MachineStep::Again {
         taken = ended(&mut machine, mark);
     }
     outcome(taken)
@@ -156,7 +156,7 @@ fn searched(
         _ => return Ok(outcome(ended(&mut machine, mark))),
     };
     held.extend_from_slice(piece)?;
-    if machine.got(Moved::Took(more)) != Step::Again {
+    if machine.got(Moved::Took(more)) != MachineStep::Again {
         return Ok(None);
     }
     match machine.want(held.as_slice()) {
@@ -243,7 +243,7 @@ fn held_bytes_are_consumed_first(rt: HostRuntime) {
     let act = read_all(10);
     if let Some(mut machine) = Machine::of(&act) {
         assert_eq!(rt; machine.want(b"cd\r\n"), Want::Held(4));
-        assert_eq!(rt; machine.got(Moved::Took(4)), Step::Again);
+        assert_eq!(rt; machine.got(Moved::Took(4)), MachineStep::Again);
         assert_eq!(rt; machine.want(b""), Want::Read(6));
         assert_eq!(rt; machine.abort(), 4);
     }

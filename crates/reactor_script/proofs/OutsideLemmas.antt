@@ -2,7 +2,7 @@
 use Rattle.std.proofs.Common.{◌≡◌, ℕ, ◌<◌, List, length, map, get_or, set, ap, le_of_lt}
 use Rattle.asio_types.specs.declared.outside.Point.TheVariants as point
 use Rattle.stream_rules.specs.declared.pipe.Pipe.{Pipe}
-use Rattle.stream_rules.specs.Pipes.{stream_of}
+use Rattle.stream_rules.specs.Pipes.{pipe_stream}
 use Rattle.stream_rules.specs.Stream.{Stream}
 use Rattle.stream_rules.specs.Timetable.{Timetable}
 use Rattle.stream_rules.specs.World.{lines_at, lines_after, perform_lines}
@@ -13,7 +13,7 @@ use Rattle.reactor_script.specs.Scene.{outside_over}
 
 -- time moved to this time, and its lines were performed
 pub outside-moved : (old new : Timetable) (time : ℕ) (pipes after : List Pipe) → old.time < time → new.time ≡ time →
-    new.lines ≡ old.lines → map stream_of after ≡ perform_lines (lines_at new.time new.lines) (map stream_of pipes) →
+    new.lines ≡ old.lines → map pipe_stream after ≡ perform_lines (lines_at new.time new.lines) (map pipe_stream pipes) →
     outside_over new after ≡ outside_at (point.Time time) (outside_over old pipes)
 outside-moved old new time pipes after forward is same performed =
     let at = lines_at-later old.time time old.lines forward in
@@ -22,7 +22,7 @@ outside-moved old new time pipes after forward is same performed =
 
 -- one stream changed
 pub outside-changed : (f : Stream → Stream) (table : Timetable) (pipes : List Pipe) (d : ℕ) (any new : Pipe) →
-    d < length pipes → stream_of new ≡ f (stream_of (get_or pipes d any)) →
+    d < length pipes → pipe_stream new ≡ f (pipe_stream (get_or pipes d any)) →
     outside_over table (set pipes d new) ≡ with_stream d f (outside_over table pipes)
 outside-changed f table pipes d any new b same =
     ap (λ (streams : List Stream).

@@ -6,7 +6,7 @@ use Rattle.stream_rules.specs.Timetable.{Timetable}
 use Rattle.reactor_script.specs.declared.method.FailAt.{FailAt}
 use Rattle.stream_rules.specs.declared.pipe.Pipe.{Pipe}
 use Rattle.reactor_script.specs.declared.plans.FailPlans.{FailPlans}
-use Rattle.stream_rules.specs.Pipes.{stream_of}
+use Rattle.stream_rules.specs.Pipes.{pipe_stream}
 use Rattle.reactor_script.specs.Plans.{Plans, first_plans}
 
 -- a world that is played
@@ -23,7 +23,7 @@ pub record Scripted : Type 0 where
 -- the streams of a world and the lines to come
 abbrev pub outside_over : Timetable → List Pipe → Outside
 outside_over table pipes =
-    record { streams = map stream_of pipes; lines = lines_after table.time table.lines }
+    record { streams = map pipe_stream pipes; lines = lines_after table.time table.lines }
 
 abbrev pub plans_of : FailPlans → Plans
 plans_of plans =

@@ -8,7 +8,7 @@ use Rattle.crossbeam_queue.proofs.Lists.{at_set, at_snoc, set_here}
 use Rattle.crossbeam_queue.specs.Fifo.{Pushes, Pops, Forks, Merges, Learns}
 use Rattle.ready_hints.specs.declared.rule.Hint.{Hint}
 use Rattle.ready_hints.specs.declared.rule.Hand.{Hand}
-use Rattle.ready_hints.specs.HintRule.{times, times_hinted, all_parts, hint, hand, first_hand, spent, cut_left, cut_right, gathered, AreNumbered, HintRule, TookOnce, hints, takes, accounts}
+use Rattle.ready_hints.specs.HintRule.{times, times_hinted, all_parts, hint, hand, first_hand, spent_hand, cut_left, cut_right, gathered_hints, AreNumbered, HintRule, TookOnce, hints, takes, accounts}
 use Rattle.ready_hints.proofs.SumLemmas.{at_below, sum_after, whole}
 use Rattle.ready_hints.proofs.NumberedLemmas.{nothing, stays, grows, newcomer, joins, after_all, apart, as_hinted}
 
@@ -181,8 +181,8 @@ forks pass v more items views r at = let left = cut_left v in let right = cut_ri
 }
 
 pub merges : (pass : ℕ) (v : Hand) (other : ℕ) (w : Hand) → 0 < v.parts
-    → Merges HintRule pass v other w (gathered v w) spent
-merges pass v other w part items views r at apart there = let both = gathered v w in
+    → Merges HintRule pass v other w (gathered_hints v w) spent_hand
+merges pass v other w part items views r at apart there = let both = gathered_hints v w in
     let inner = set views pass both in
     let theirs : get_elem? views other ≡ some w =
     ⊎_elim (λ (p : (other ≡ pass) × (both ≡ w)). absurd (apart p.0)) (λ p. p.1)
@@ -190,12 +190,12 @@ merges pass v other w part items views r at apart there = let both = gathered v 
     record {
       parts =
           let s = sum_after (λ (z : Hand). z.parts) views pass v both at in
-          let t = sum_after (λ (z : Hand). z.parts) inner other w spent there in let p = r.parts in omega arith;
+          let t = sum_after (λ (z : Hand). z.parts) inner other w spent_hand there in let p = r.parts in omega arith;
       even = λ lane.
           let a = sum_after (hinted_of lane) views pass v both at in
           let b = sum_after (taken_of lane) views pass v both at in
-          let c = sum_after (hinted_of lane) inner other w spent there in
-          let d = sum_after (taken_of lane) inner other w spent there in
+          let c = sum_after (hinted_of lane) inner other w spent_hand there in
+          let d = sum_after (taken_of lane) inner other w spent_hand there in
           let e = times_hinted-append lane v.hinted w.hinted in
           let f = times_hinted-append lane v.taken w.taken in let o = r.even lane in omega arith;
       out = r.out;
@@ -206,6 +206,6 @@ merges pass v other w part items views r at apart there = let both = gathered v 
           joins taken_hints r.out views pass v both other w at there (r.taken.at_place other w theirs) refl refl
           r.taken;
       idle =
-          idle_set inner other spent (λ _. (refl, refl))
+          idle_set inner other spent_hand (λ _. (refl, refl))
           (idle_set views pass both (λ none. absurd (omega arith)) r.idle);
     }

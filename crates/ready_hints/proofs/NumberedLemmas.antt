@@ -10,7 +10,7 @@ use lib.ListN.{get_elem?}
 use Rattle.crossbeam_queue.proofs.Lists.{at_set, at_snoc, at_longer, at_last}
 use Rattle.ready_hints.specs.declared.rule.Hint.{Hint}
 use Rattle.ready_hints.specs.declared.rule.Hand.{Hand}
-use Rattle.ready_hints.specs.HintRule.{hint, numbered, first_hand, spent, IsAfter, AreApart, AreAsHinted, AreNumbered}
+use Rattle.ready_hints.specs.HintRule.{hint, numbered, first_hand, spent_hand, IsAfter, AreApart, AreAsHinted, AreNumbered}
 use Rattle.ready_hints.proofs.SumLemmas.{at_below, sum_after, part_of_sum}
 
 -- the hint has the lane at the place of its number
@@ -128,27 +128,27 @@ newcomer hints_of lanes views new none r = record {
 -- a pass takes in the hints of another, which has none then
 pub joins : (hints_of : Hand → List Hint) (lanes : List ℕ) (views : List Hand) (pass : ℕ) (v both : Hand) (other : ℕ)
     (w : Hand) → get_elem? views pass ≡ some v → get_elem? (set views pass both) other ≡ some w →
-    All (IsAt lanes) (hints_of w) → hints_of both ≡ hints_of v ++ hints_of w → hints_of spent ≡ [] →
-    AreNumbered hints_of lanes views → AreNumbered hints_of lanes (set (set views pass both) other spent)
+    All (IsAt lanes) (hints_of w) → hints_of both ≡ hints_of v ++ hints_of w → hints_of spent_hand ≡ [] →
+    AreNumbered hints_of lanes views → AreNumbered hints_of lanes (set (set views pass both) other spent_hand)
 joins hints_of lanes views pass v both other w at there theirs sum none r = record {
   once = λ number below. let e = even number in let o = r.once number below in omega arith;
   no_more = λ number above. let e = even number in let o = r.no_more number above in omega arith;
   at_place =
-      at_place_set hints_of lanes (set views pass both) other spent
-      (All-same (IsAt lanes) (hints_of spent) [] none (All-nil (IsAt lanes)))
+      at_place_set hints_of lanes (set views pass both) other spent_hand
+      (All-same (IsAt lanes) (hints_of spent_hand) [] none (All-nil (IsAt lanes)))
       (at_place_set hints_of lanes views pass both
       (All-same (IsAt lanes) (hints_of both) (hints_of v ++ hints_of w) sum
       (All-append (IsAt lanes) (hints_of v) (hints_of w) (r.at_place pass v at) theirs))
       r.at_place);
 }
   where
-    even : (number : ℕ) → sum_by (λ z. numbered number (hints_of z)) (set (set views pass both) other spent)
+    even : (number : ℕ) → sum_by (λ z. numbered number (hints_of z)) (set (set views pass both) other spent_hand)
         ≡ sum_by (λ z. numbered number (hints_of z)) views
     even number = let s = sum_after (λ (z : Hand). numbered number (hints_of z)) views pass v both at in
-        let t = sum_after (λ (z : Hand). numbered number (hints_of z)) (set views pass both) other w spent there in
+        let t = sum_after (λ (z : Hand). numbered number (hints_of z)) (set views pass both) other w spent_hand there in
         let e : numbered number (hints_of both) ≡ numbered number (hints_of v) + numbered number (hints_of w) =
         ap (numbered number) sum ∙ numbered-append number (hints_of v) (hints_of w) in
-        let z : numbered number (hints_of spent) ≡ 0 = ap (numbered number) none in omega arith
+        let z : numbered number (hints_of spent_hand) ≡ 0 = ap (numbered number) none in omega arith
 
 -- the next hint comes after all that there are
 pub after_all : (lanes : List ℕ) (hints : List Hint) → All (IsAt lanes) hints → IsAfter (length lanes) hints
@@ -157,7 +157,7 @@ after_all lanes hints all =
 
 -- no pass has two hints of one number
 pub apart : (hints_of : Hand → List Hint) (lanes : List ℕ) (views : List Hand) (pass : ℕ) (v : Hand)
-    → hints_of spent ≡ [] → get_elem? views pass ≡ some v
+    → hints_of spent_hand ≡ [] → get_elem? views pass ≡ some v
     → AreNumbered hints_of lanes views → AreApart (hints_of v)
 apart hints_of lanes views pass v none at r number =
     let p = part_of_sum (λ (z : Hand). numbered number (hints_of z)) views pass v (ap (numbered number) none) at in

@@ -5,7 +5,7 @@ use mathlib.Core.Option.{some, some-injective, some-ne-none}
 use lib.ListN.{get_elem?}
 use Rattle.crossbeam_queue.proofs.Lists.{at_set}
 use Rattle.ready_hints.specs.declared.rule.Hand.{Hand}
-use Rattle.ready_hints.specs.HintRule.{spent}
+use Rattle.ready_hints.specs.HintRule.{spent_hand}
 
 pub at_below : {A : Type 0} (l : List A) (i : ℕ) (a : A) → get_elem? l i ≡ some a → i < length l
 at_below [] i a e = absurd (some-ne-none a (sym e))
@@ -24,9 +24,9 @@ sum_after f views pass v w at = ap (λ (z : Hand). sum_by f (set views pass w) +
     ∙ sum_by-set f views pass w v (at_below views pass v at)
 
 -- one view has no more than all together
-pub part_of_sum : (f : Hand → ℕ) (views : List Hand) (pass : ℕ) (v : Hand) → f spent ≡ 0
+pub part_of_sum : (f : Hand → ℕ) (views : List Hand) (pass : ℕ) (v : Hand) → f spent_hand ≡ 0
     → get_elem? views pass ≡ some v → f v ≤ sum_by f views
-part_of_sum f views pass v none at = let s = sum_after f views pass v spent at in omega arith
+part_of_sum f views pass v none at = let s = sum_after f views pass v spent_hand at in omega arith
 
 sums_to_zero : (f g : Hand → ℕ) (views : List Hand)
     → ((i : ℕ) (u : Hand) → get_elem? views i ≡ some u → g u ≡ 0 → f u ≡ 0)
@@ -39,12 +39,12 @@ sums_to_zero f g (u ∷ us) each none = let a = sum_by-append g (u ∷ []) us in
     let rest = sums_to_zero f g us (λ i w at. each (suc i) w at) (omega arith) in omega arith
 
 -- a pass that has all parts has all of what passes without a part don't have
-pub whole : (f : Hand → ℕ) (views : List Hand) (pass : ℕ) (v : Hand) → f spent ≡ 0
+pub whole : (f : Hand → ℕ) (views : List Hand) (pass : ℕ) (v : Hand) → f spent_hand ≡ 0
     → ((i : ℕ) (u : Hand) → get_elem? views i ≡ some u → u.parts ≡ 0 → f u ≡ 0)
     → get_elem? views pass ≡ some v → sum_by (λ z. z.parts) views ≡ v.parts → sum_by f views ≡ f v
-whole f views pass v none each at all = let s = sum_after (λ (z : Hand). z.parts) views pass v spent at in
-    let t = sum_after f views pass v spent at in
-    let zero_parts : sum_by (λ (z : Hand). z.parts) (set views pass spent) ≡ 0 = omega arith in
-    let zeros = sums_to_zero f (λ z. z.parts) (set views pass spent)
-    (λ i u there e. ⊎_elim (λ (p : (i ≡ pass) × (spent ≡ u)). ap f (sym p.1)
-    ∙ none) (λ p. each i u p.1 e) (at_set views pass i spent u there)) zero_parts in omega arith
+whole f views pass v none each at all = let s = sum_after (λ (z : Hand). z.parts) views pass v spent_hand at in
+    let t = sum_after f views pass v spent_hand at in
+    let zero_parts : sum_by (λ (z : Hand). z.parts) (set views pass spent_hand) ≡ 0 = omega arith in
+    let zeros = sums_to_zero f (λ z. z.parts) (set views pass spent_hand)
+    (λ i u there e. ⊎_elim (λ (p : (i ≡ pass) × (spent_hand ≡ u)). ap f (sym p.1)
+    ∙ none) (λ p. each i u p.1 e) (at_set views pass i spent_hand u there)) zero_parts in omega arith

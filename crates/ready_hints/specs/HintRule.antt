@@ -44,8 +44,8 @@ hand parts hinted taken = record { parts = parts; hinted = hinted; taken = taken
 abbrev pub first_hand : Hand
 first_hand = hand all_parts [] []
 
-abbrev pub spent : Hand
-spent = hand 0 [] []
+abbrev pub spent_hand : Hand
+spent_hand = hand 0 [] []
 
 abbrev pub cut_left : Hand → Hand
 cut_left v = hand (v.parts - 1) v.hinted v.taken
@@ -53,8 +53,8 @@ cut_left v = hand (v.parts - 1) v.hinted v.taken
 abbrev pub cut_right : Hand → Hand
 cut_right v = hand 1 [] []
 
-abbrev pub gathered : Hand → Hand → Hand
-gathered v w = hand (v.parts + w.parts) (v.hinted ++ w.hinted) (v.taken ++ w.taken)
+abbrev pub gathered_hints : Hand → Hand → Hand
+gathered_hints v w = hand (v.parts + w.parts) (v.hinted ++ w.hinted) (v.taken ++ w.taken)
 
 -- the hints of all passes have the numbers from 0 on, each once, and the hint of a number has the
 -- lane at that place

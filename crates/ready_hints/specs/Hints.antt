@@ -14,8 +14,8 @@ pub record Passed : Type 0 where
   pub hinted : List Hint
   pub taken : List Hint
 
-abbrev pub passed : Inside → Passed
-passed p = record {
+abbrev pub hint_passed : Inside → Passed
+hint_passed p = record {
   queue = record { web = p.pass.web; heap = p.pass.heap };
   parts = p.pass.me.view.client.parts;
   hinted = p.pass.me.view.client.hinted;

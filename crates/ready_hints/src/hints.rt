@@ -4,14 +4,14 @@ ghost use Rattle.ready_hints.specs.Hints.{HintsApart, IsOnce, IsAsHinted, IsHint
 ghost use Rattle.ready_hints.specs.Hints.{Hinted, Took, with_parts_of};
 
 use crate::pass::HintPass;
-use crate::rule::{Gathers, Hints, Line, Takes};
+use crate::rule::{GathersHints, HintQueue, Hints, TakesHints};
 use asio_types::NoMemory;
 use std::marker::Model;
 use std::sync::Wait;
 
 /// Hints where work is, shared by `&`. Contracts see which queue it is.
 pub struct ReadyHints {
-    pub(crate) queue: Line,
+    pub(crate) queue: HintQueue,
 }
 
 impl Model for ReadyHints {
@@ -62,7 +62,7 @@ impl ReadyHints {
         ensures hinted { IfSome result (λ _. HasAllParts pass.old → IsHinted pass.new) }
         ensures empty { IfNone result (HasAllParts pass.old → IsPassSettled pass.old) }
     {
-        self.queue.pop_as::<Takes, Rt>(rt, &mut pass.pass)
+        self.queue.pop_as::<TakesHints, Rt>(rt, &mut pass.pass)
     }
 
     /// Ends another pass: what it hinted and took counts as this one's. Takes no memory.
@@ -71,7 +71,7 @@ impl ReadyHints {
         ensures { pass.new ≡ with_parts_of other pass.old }
     {
         let HintPass { pass: other } = other;
-        self.queue.absorb::<Gathers>(&mut pass.pass, other);
+        self.queue.absorb::<GathersHints>(&mut pass.pass, other);
     }
 
     /// Ends the hints, by the pass that has all parts, and answers how many are left. Each of the
@@ -83,6 +83,6 @@ impl ReadyHints {
         ensures once { IsOnce pass }
     {
         let HintPass { mut pass } = pass;
-        self.queue.len_as::<Takes, Rt>(rt, &mut pass)
+        self.queue.len_as::<TakesHints, Rt>(rt, &mut pass)
     }
 }

@@ -4,7 +4,7 @@ ghost use Rattle.ready_hints.specs.Hints.{IsPassOf, first_pass, one_part, passes
 
 use crate::hints::ReadyHints;
 use crate::pass::{HintPass, HintPasses};
-use crate::rule::{Cuts, Line};
+use crate::rule::{Cuts, HintQueue};
 use asio_types::NoMemory;
 use std::alloc::Global;
 
@@ -16,7 +16,7 @@ impl ReadyHints {
         ensures { IfOk result (λ made. made.1 ≡ passes_of made.0 passes) }
     {
         let list = Vec::with_capacity(alloc, passes as usize)?;
-        let (queue, first) = Line::with_rule(alloc)?;
+        let (queue, first) = HintQueue::with_rule(alloc)?;
         let hints = ReadyHints { queue };
         let passes = hints.pass_all(HintPass { pass: first }, list, passes);
         Ok((hints, passes))

@@ -1,6 +1,6 @@
 ghost use Rattle.std.specs.Prelude.{◌≡◌, [], ◌∷◌, MatchOption};
 
-use crate::rule::LinePass;
+use crate::rule::QueuePass;
 use std::marker::Model;
 
 /// A place at the hints, with which a worker hints and takes. Contracts see the hints that it made
@@ -8,15 +8,15 @@ use std::marker::Model;
 /// of the right to know the whole.
 #[derive(Drop)]
 pub struct HintPass {
-    pub(crate) pass: LinePass,
+    pub(crate) pass: QueuePass,
 }
 
 impl Model for HintPass {
-    ghost use Rattle.ready_hints.specs.Hints.{Passed, passed, IsPassReady};
+    ghost use Rattle.ready_hints.specs.Hints.{Passed, hint_passed, IsPassReady};
 
     ghost Value = { Passed };
 
-    ghost view = { passed };
+    ghost view = { hint_passed };
 
     ghost invariant = { IsPassReady };
 }

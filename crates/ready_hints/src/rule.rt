@@ -32,9 +32,9 @@ impl Protocol<u32, Hand> for Once {
     ghost first = { first_hand };
 }
 
-pub type Line = RuledSegQueue<u32, Hand, Once>;
+pub type HintQueue = RuledSegQueue<u32, Hand, Once>;
 
-pub type LinePass = SegPass<u32, Hand>;
+pub type QueuePass = SegPass<u32, Hand>;
 
 pub struct Hints;
 
@@ -44,15 +44,15 @@ impl Outcome<u32, Hand> for Hints {
     ghost then = { hints };
 }
 
-pub struct Takes;
+pub struct TakesHints;
 
-impl Outcome<u32, Hand> for Takes {
+impl Outcome<u32, Hand> for TakesHints {
     ghost use Rattle.ready_hints.specs.HintRule.{takes};
 
     ghost then = { takes };
 }
 
-impl Lesson<u32, Hand> for Takes {
+impl Lesson<u32, Hand> for TakesHints {
     ghost use Rattle.ready_hints.specs.HintRule.{accounts};
 
     ghost fact = { accounts };
@@ -68,12 +68,12 @@ impl Split<Hand> for Cuts {
     ghost right = { cut_right };
 }
 
-pub struct Gathers;
+pub struct GathersHints;
 
-impl Join<Hand> for Gathers {
-    ghost use Rattle.ready_hints.specs.HintRule.{gathered, spent};
+impl Join<Hand> for GathersHints {
+    ghost use Rattle.ready_hints.specs.HintRule.{gathered_hints, spent_hand};
 
-    ghost both = { gathered };
+    ghost both = { gathered_hints };
 
-    ghost spent = { spent };
+    ghost spent = { spent_hand };
 }

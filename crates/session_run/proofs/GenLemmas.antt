@@ -13,7 +13,7 @@ use Rattle.session_run.specs.Answer.{Does, Says}
 use Rattle.session_run.specs.Form.{IsForm, IsGen}
 use Rattle.history_book.specs.FromOutside.{is_fault, is_outside_stop}
 use Rattle.history_book.specs.Legal.{IsLegal}
-use Rattle.session_run.specs.Given.{Given, tells}
+use Rattle.session_run.specs.Given.{Given, tells_bytes}
 use Rattle.session_run.specs.Origin.{HasOrigin}
 use Rattle.session_run.specs.RackMarks.{drop_mark, rack_run_mark}
 use Rattle.session_run.specs.Run.{ShowsNoFault}
@@ -95,10 +95,10 @@ plain_done marks given note said law start size words = by_form said.0.form said
     by_form forms.Upgrade named origin work = absurd (cc (named.0, words.0))
     by_form (forms.Gen first second) named origin (events, run, quiet, wrote) =
         let same = same_numbers first second start size given.words named words in
-        let legal = subst (λ script. IsLegal script (tells given.reactor) events) origin run.legal in
+        let legal = subst (λ script. IsLegal script (tells_bytes given.reactor) events) origin run.legal in
         let plain : summary_of first second events
         ≡ plain_summary first second (rack_run_mark marks given.rack_before) =
-        law first second (named.1.2) (tells given.reactor) events legal
+        law first second (named.1.2) (tells_bytes given.reactor) events legal
         (none_passes is_fault event.Fault only_fault events quiet)
         (none_passes is_outside_stop (event.Stop None) only_outside events run.unstopped)
         (rack_run_mark marks given.rack_before) (drop_mark marks given.rack_before) run.marked in

@@ -15,7 +15,7 @@ use Rattle.op_handlers.specs.Rack.{AllTaken}
 use Rattle.op_handlers.specs.declared.rack.Rack.{Rack}
 use Rattle.session_run.specs.Given.{SeenReactor, sent_outside}
 use Rattle.session_run.specs.RackMarks.{drop_mark, rack_run_mark}
-use Rattle.session_run.specs.Run.{IsRunOf, ShowsFault, ShowsNoFault, sent_of}
+use Rattle.session_run.specs.Run.{IsRunOf, ShowsFault, ShowsNoFault, sent_by}
 
 -- a reactor is seen to tell its bytes where it does
 seen_to_tell : (outside : Option Outside) → is_some (option_map sent_outside outside) ≡ is_some outside
@@ -25,7 +25,7 @@ seen_to_tell (Some outside) = refl
 -- a reactor that tells its bytes is seen to have sent those of a state
 seen_sent : (outside : Option Outside) (s : State)
     → IfSome outside (λ outside. map (λ stream. stream.sent) outside.streams ≡ map (λ stream. stream.sent) s.reactor.streams)
-    → MatchOption (option_map sent_outside outside) ⊤ (λ sent. sent ≡ sent_of s)
+    → MatchOption (option_map sent_outside outside) ⊤ (λ sent. sent ≡ sent_by s)
 seen_sent None s same = tt
 seen_sent (Some outside) s same = same
 
@@ -77,7 +77,7 @@ run_by_names marks script told run drop before after events state first outside 
       set_up = (λ alone. absurd (f.set_up alone), λ down. cc (down, f.up));
       now = λ up. subst (λ told. state.now ≡ (state_of script told events).reactor.now) told_is f.now;
       sent = λ quiet. subst (λ told. MatchOption (option_map sent_outside outside) ⊤
-          (λ sent. sent ≡ sent_of (state_of script told events))) told_is (seen_sent outside (state_of script told events) (f.sent quiet));
+          (λ sent. sent ≡ sent_by (state_of script told events))) told_is (seen_sent outside (state_of script told events) (f.sent quiet));
     }
 
 -- it is a run of the script that was named

@@ -11,7 +11,7 @@ use Rattle.history_book.specs.State.{fresh}
 use Rattle.op_handlers.specs.Marks.{Marks}
 use Rattle.op_handlers.specs.Rack.{AllTaken}
 use Rattle.op_handlers.specs.declared.rack.Rack.{Rack}
-use Rattle.session_run.specs.Given.{SeenReactor, tells}
+use Rattle.session_run.specs.Given.{SeenReactor, tells_bytes}
 use Rattle.session_run.specs.Run.{IsRunOf}
 
 -- a fault may stand before everything else, and nothing was accepted then
@@ -36,7 +36,7 @@ pub broken_run : {H : Type 0} (marks : H → Marks) (script : ScriptModel) (reac
     → IsRunOf marks script reactor old new (event.Fault ∷ [])
 broken_run marks script reactor old new spent down rose =
     record {
-      legal = fault_is_legal script (tells reactor);
+      legal = fault_is_legal script (tells_bytes reactor);
       marked = (tt, tt);
       spent = spent;
       unstopped = not_stopped;

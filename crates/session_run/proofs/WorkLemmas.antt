@@ -17,12 +17,12 @@ use Rattle.session_run.specs.Outcome.{Works, WroteHistory, ending_of}
 use Rattle.session_run.specs.Run.{IsRunOf}
 use Rattle.session_run.specs.declared.form.Form.{Form}
 use Rattle.session_run.specs.declared.form.Form.TheVariants as forms
-use Rattle.session_run.specs.declared.outcome.Outcome.{Outcome}
-use Rattle.session_run.specs.declared.outcome.Outcome.TheVariants as outcome
+use Rattle.session_run.specs.declared.outcome.WorkOutcome.{WorkOutcome}
+use Rattle.session_run.specs.declared.outcome.WorkOutcome.TheVariants as outcome
 use Rattle.text_io.specs.Seen.{Seen, Writes, WritesPart}
 
 -- what was done with the script of a form is what the session says
-pub said : {H : Type 0} (marks : H → Marks) (given : Given H) (form : Form) (script : ScriptModel) (o : Outcome)
+pub said : {H : Type 0} (marks : H → Marks) (given : Given H) (form : Form) (script : ScriptModel) (o : WorkOutcome)
     → IsForm given.words form → HasOrigin form given.source script
     → Works form marks script given.reactor given.rack_before given.rack_after given.out o
     → Says marks given (status_of (ending_of o)) (note_at (ending_of o))
@@ -44,7 +44,7 @@ does forms.Upgrade marks script reactor old new Q P running runs = absurd runnin
 
 -- a run whose text was written, as far as that went, is what was done with its script
 pub ran : {H : Type 0} (form : Form) (marks : H → Marks) (script : ScriptModel) (reactor : SeenReactor)
-    (old new : Rack H) (events : List Event) (out : Seen (List ℕ)) (o : Outcome) → IsRunning form →
+    (old new : Rack H) (events : List Event) (out : Seen (List ℕ)) (o : WorkOutcome) → IsRunning form →
     IsRunOf marks script reactor old new events → WroteHistory form events out o →
     Works form marks script reactor old new out o
 ran form marks script reactor old new events out outcome.Done running run wrote =

@@ -125,8 +125,8 @@ LeavesReactor status.WriteFault = ⊥
 LeavesReactor status.ReactorFault = ⊥
 LeavesReactor status.NoMemory = ⊥
 
--- The reactor's count of faults rises with status 5, and may have risen with status 4, whose history
--- tells it. Every other status leaves it.
+-- The reactor's count of faults rises with status 5, and may have risen with status 4, whose
+-- history tells it. Every other status leaves it.
 abbrev pub CountsReactor : Status → ℕ → ℕ → Type 0
 CountsReactor status.WriteFault before after = ⊤
 CountsReactor status.ReactorFault before after = Rose before after

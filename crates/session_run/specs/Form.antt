@@ -6,10 +6,10 @@ use Rattle.session_run.specs.declared.form.Form.{Form}
 use Rattle.session_run.specs.declared.form.Form.TheVariants as forms
 
 -- the words of a form
-abbrev pub words_of : Form → List (List ℕ)
-words_of forms.Run = codes "run" ∷ []
-words_of forms.Upgrade = codes "upgrade" ∷ []
-words_of (forms.Gen start size) = codes "gen" ∷ decimal start ∷ decimal size ∷ []
+abbrev pub form_words : Form → List (List ℕ)
+form_words forms.Run = codes "run" ∷ []
+form_words forms.Upgrade = codes "upgrade" ∷ []
+form_words (forms.Gen start size) = codes "gen" ∷ decimal start ∷ decimal size ∷ []
 
 -- its numbers make a session
 abbrev pub HasNumbersWithin : Form → Type 0
@@ -18,7 +18,7 @@ HasNumbersWithin _ = ⊤
 
 -- the words are those of this form
 abbrev pub IsForm : List (List ℕ) → Form → Type 0
-IsForm words form = (words ≡ words_of form) × HasNumbersWithin form
+IsForm words form = (words ≡ form_words form) × HasNumbersWithin form
 
 -- a script is to be run
 abbrev pub IsRun : List (List ℕ) → Type 0

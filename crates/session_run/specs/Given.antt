@@ -13,8 +13,8 @@ pub record SeenReactor : Type 0 where
   pub now : ℕ
 
 -- it tells its bytes
-abbrev pub tells : SeenReactor → Bool
-tells reactor = is_some reactor.sent.told_after
+abbrev pub tells_bytes : SeenReactor → Bool
+tells_bytes reactor = is_some reactor.sent.told_after
 
 -- the bytes that were sent on each stream
 abbrev pub sent_outside : Outside → List (List ℕ)

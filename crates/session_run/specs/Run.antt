@@ -10,7 +10,7 @@ use Rattle.history_book.specs.State.{State}
 use Rattle.op_handlers.specs.Marks.{Marks}
 use Rattle.op_handlers.specs.Rack.{AllTaken}
 use Rattle.op_handlers.specs.declared.rack.Rack.{Rack}
-use Rattle.session_run.specs.Given.{SeenReactor, tells}
+use Rattle.session_run.specs.Given.{SeenReactor, tells_bytes}
 use Rattle.session_run.specs.RackMarks.{drop_mark, rack_run_mark}
 
 -- the events show a failure of the reactor
@@ -25,14 +25,14 @@ abbrev pub now_of : State → ℕ
 now_of s = s.reactor.now
 
 -- the bytes that were sent on each stream
-abbrev pub sent_of : State → List (List ℕ)
-sent_of s = map (λ stream. stream.sent) s.reactor.streams
+abbrev pub sent_by : State → List (List ℕ)
+sent_by s = map (λ stream. stream.sent) s.reactor.streams
 
 -- a run of the script with these events
 pub record IsRunOf {H : Type 0} (marks : H → Marks) (script : ScriptModel) (reactor : SeenReactor)
     (old new : Rack H) (events : List Event) : Type 0 where
   -- each event may come where it comes, and none is missing
-  pub legal : IsLegal script (tells reactor) events
+  pub legal : IsLegal script (tells_bytes reactor) events
   -- the events show the marks that the handlers had
   pub marked : HasMarks (rack_run_mark marks old) (drop_mark marks old) events
   -- every handler was spent
@@ -45,9 +45,9 @@ pub record IsRunOf {H : Type 0} (marks : H → Marks) (script : ScriptModel) (re
   -- a fault stands alone exactly where the reactor couldn't be set up
   pub set_up : (events ≡ event.Fault ∷ []) ↔ (reactor.up ≡ false)
   -- else the reactor's time is that of the last state
-  pub now : reactor.up ≡ true → reactor.now ≡ now_of (state_of script (tells reactor) events)
+  pub now : reactor.up ≡ true → reactor.now ≡ now_of (state_of script (tells_bytes reactor) events)
   -- without a fault the bytes that were sent are those of the last state, where the reactor tells
   -- them
   pub sent : ShowsNoFault events →
       MatchOption reactor.sent.told_after ⊤
-      (λ sent. sent ≡ sent_of (state_of script (tells reactor) events))
+      (λ sent. sent ≡ sent_by (state_of script (tells_bytes reactor) events))

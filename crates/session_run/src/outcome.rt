@@ -5,7 +5,7 @@ use crate::ending::Ending;
 
 /// How the work on a script ended.
 #[derive(Clone, Copy, Debug, PartialEq, Eq)]
-pub(crate) enum Outcome {
+pub(crate) enum WorkOutcome {
     /// All of it was done and written.
     Done,
     /// Writing failed.
@@ -16,16 +16,16 @@ pub(crate) enum Outcome {
     NoMemory,
 }
 
-impl Outcome {
+impl WorkOutcome {
     /// How the session ends with it.
     pub(crate) fn ending(self) -> Ending
         ensures { result ≡ ending_of self }
     {
         match self {
-            Outcome::Done => Ending::Done,
-            Outcome::WriteFault => Ending::WriteFault,
-            Outcome::ReactorFault => Ending::ReactorFault,
-            Outcome::NoMemory => Ending::NoMemory,
+            WorkOutcome::Done => Ending::Done,
+            WorkOutcome::WriteFault => Ending::WriteFault,
+            WorkOutcome::ReactorFault => Ending::ReactorFault,
+            WorkOutcome::NoMemory => Ending::NoMemory,
         }
     }
 }

@@ -10,7 +10,7 @@ ghost use Rattle.text_io.specs.Seen.{seen_by};
 
 use crate::broken::broken_history;
 use crate::form::Form;
-use crate::outcome::Outcome;
+use crate::outcome::WorkOutcome;
 use crate::rounds::run_rounds;
 use crate::writing::write_history;
 use asio_types::{SetupFault, Sink};
@@ -81,20 +81,20 @@ pub(crate) fn run_and_write<
     out: &mut K,
     reactor: X,
     rack: &mut Rack<H>,
-) -> (Outcome, X)
+) -> (WorkOutcome, X)
     requires running { IsRunning form }
     requires whole { IsWholeRack rack.old }
     requires count { length (handlers_in rack.old) ≡ most_acts }
     ensures works { Works form H.marks script.now
         (seen_reactor X.state X.told X.faults reactor result.1) rack.old rack.new
         (seen_by K.written K.faults out.old out.new) result.0 }
-    ensures quiet { result.0 ≡ Outcome.NoMemory → out.new ≡ out.old }
-    ensures kept { result.0 ≡ Outcome.NoMemory → handlers_in rack.new ≡ handlers_in rack.old }
+    ensures quiet { result.0 ≡ WorkOutcome.NoMemory → out.new ≡ out.old }
+    ensures kept { result.0 ≡ WorkOutcome.NoMemory → handlers_in rack.new ≡ handlers_in rack.old }
     ensures writes { CountsWriting result.0 (K.faults out.old) (K.faults out.new) }
     ensures runs { CountsRunning result.0 (X.faults reactor) (X.faults result.1) }
 {
     match run_named::<Brand, R, X, H>(rt, alloc, script, reactor, rack) {
         Ok((history, reactor)) => (write_history(form, &history, out), reactor),
-        Err(reactor) => (Outcome::NoMemory, reactor),
+        Err(reactor) => (WorkOutcome::NoMemory, reactor),
     }
 }

@@ -20,7 +20,7 @@ use crate::ending::Ending;
 use crate::form::{Form, form_of};
 use crate::noting::write_note;
 use crate::origin::{NoScript, script_of};
-use crate::outcome::Outcome;
+use crate::outcome::WorkOutcome;
 use crate::running::run_and_write;
 use crate::status::Status;
 use crate::upgrading::upgrade_and_write;
@@ -42,15 +42,15 @@ fn work<R: Threads + Wait + Sync, K: Sink, X: Reactor + Send, H: CompletionHandl
     out: &mut K,
     reactor: X,
     rack: &mut Rack<H>,
-) -> (Outcome, X)
+) -> (WorkOutcome, X)
     requires numbers { HasNumbersWithin form }
     requires whole { IsWholeRack rack.old }
     requires count { length (handlers_in rack.old) ≡ most_acts }
     ensures works { Works form H.marks script.now
         (seen_reactor X.state X.told X.faults reactor result.1) rack.old rack.new
         (seen_by K.written K.faults out.old out.new) result.0 }
-    ensures quiet { result.0 ≡ Outcome.NoMemory → out.new ≡ out.old }
-    ensures kept { result.0 ≡ Outcome.NoMemory → handlers_in rack.new ≡ handlers_in rack.old }
+    ensures quiet { result.0 ≡ WorkOutcome.NoMemory → out.new ≡ out.old }
+    ensures kept { result.0 ≡ WorkOutcome.NoMemory → handlers_in rack.new ≡ handlers_in rack.old }
     ensures upgrade { form ≡ form_is.Upgrade → handlers_in rack.new ≡ handlers_in rack.old }
     ensures unmoved { form ≡ form_is.Upgrade → result.1 ≡ reactor }
     ensures writes { CountsWriting result.0 (K.faults out.old) (K.faults out.new) }

@@ -3,7 +3,7 @@ ghost use Rattle.session_run.specs.Outcome.{CountsWriting, WroteText};
 ghost use Rattle.session_run.specs.Upgrade.{upgraded_text};
 ghost use Rattle.text_io.specs.Seen.{seen_by};
 
-use crate::outcome::Outcome;
+use crate::outcome::WorkOutcome;
 use asio_types::{NoMemory, Sink, write_all};
 use session_script::{Script, upgrade, write_script};
 use std::alloc::Global;
@@ -20,17 +20,17 @@ fn upgraded_text(alloc: Global, script: &Script) -> Result<Vec<u8>, NoMemory>
 
 /// Upgrades a script that was read, and writes the text of its upgrade. Takes all memory before the
 /// first byte is written.
-pub(crate) fn upgrade_and_write<K: Sink>(alloc: Global, script: &Script, out: &mut K) -> Outcome
+pub(crate) fn upgrade_and_write<K: Sink>(alloc: Global, script: &Script, out: &mut K) -> WorkOutcome
     ensures wrote { WroteText (upgraded_text script.now)
         (seen_by K.written K.faults out.old out.new) result }
-    ensures quiet { result ≡ Outcome.NoMemory → out.new ≡ out.old }
+    ensures quiet { result ≡ WorkOutcome.NoMemory → out.new ≡ out.old }
     ensures counts { CountsWriting result (K.faults out.old) (K.faults out.new) }
 {
     let Ok(text) = upgraded_text(alloc, script) else {
-        return Outcome::NoMemory;
+        return WorkOutcome::NoMemory;
     };
     match write_all(out, text.as_slice()) {
-        Ok(()) => Outcome::Done,
-        Err(_) => Outcome::WriteFault,
+        Ok(()) => WorkOutcome::Done,
+        Err(_) => WorkOutcome::WriteFault,
     }
 }

@@ -7,7 +7,7 @@ ghost use Rattle.session_run.specs.Run.{ShowsFault};
 ghost use Rattle.text_io.specs.Seen.{seen_by};
 
 use crate::form::Form;
-use crate::outcome::Outcome;
+use crate::outcome::WorkOutcome;
 use asio_types::{Event, Failed, Sink};
 use generated_session::write_summary;
 use history_book::{History, write_trace};
@@ -35,16 +35,16 @@ fn write_text<K: Sink>(form: Form, history: &History, out: &mut K) -> Result<(),
 
 /// Writes what the form says of a whole history. Where writing fails, that is the outcome, whatever
 /// the reactor did.
-pub(crate) fn write_history<K: Sink>(form: Form, history: &History, out: &mut K) -> Outcome
+pub(crate) fn write_history<K: Sink>(form: Form, history: &History, out: &mut K) -> WorkOutcome
     ensures wrote { WroteHistory form history.now.events
         (seen_by K.written K.faults out.old out.new) result }
     ensures counts { CountsWriting result (K.faults out.old) (K.faults out.new) }
 {
     if write_text(form, history, out).is_err() {
-        return Outcome::WriteFault;
+        return WorkOutcome::WriteFault;
     }
     if shows_fault(history) {
-        return Outcome::ReactorFault;
+        return WorkOutcome::ReactorFault;
     }
-    Outcome::Done
+    WorkOutcome::Done
 }

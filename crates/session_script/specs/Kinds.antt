@@ -70,7 +70,8 @@ unfoldable pub number : List ℕ → Result ℕ Rule
 number bytes =
     if not (is_number bytes) then Err (misplaced bytes)
     else (if nat_lt 1 (length bytes) && (slice_index bytes 0 == 48) then Err rule.Number
-    else (if nat_lt (decimal_from 0 bytes) (2 ^ 64) then Ok (decimal_from 0 bytes) else Err rule.Number))
+    else (if nat_lt (decimal_from 0 bytes) (2 ^ 64) then Ok (decimal_from 0 bytes)
+    else Err rule.Number))
 
 -- a number within limits
 unfoldable pub within : ℕ → ℕ → List ℕ → Result ℕ Rule

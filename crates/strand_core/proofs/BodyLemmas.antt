@@ -6,14 +6,14 @@ use Rattle.op_handlers.specs.Marks.{Marks}
 use Rattle.session_script.specs.Script.{ScriptModel}
 use Rattle.strand_core.specs.Answer.{HasMade}
 use Rattle.strand_core.specs.Execution.{AreCalls}
-use Rattle.strand_core.specs.Hands.{Held, held_at, begins, left_at, HasRunMark}
+use Rattle.strand_core.specs.Hands.{Held, held_at, begins_among, left_at, HasRunMark}
 use Rattle.strand_core.specs.declared.posted.Posted.{Posted}
 use Rattle.strand_core.specs.declared.posted.Posted.TheVariants as posted
 use Rattle.strand_core.proofs.CallLemmas.{calls-append, begins-append, left_at-or}
 
 -- one call that begins nothing
 pub has_called : {H : Type 0} (hands : Held H) (call : Posted) (made more : List Posted) (T U : List Posted → Type 0) →
-    ((n : ℕ) → begins n (call ∷ []) ≡ false) → more ≡ made ++ call ∷ [] →
+    ((n : ℕ) → begins_among n (call ∷ []) ≡ false) → more ≡ made ++ call ∷ [] →
     ((rest : List Posted) → T (call ∷ rest) → U rest) → HasMade (call ∷ []) hands hands made more T U
 has_called hands call made more T U begins_none is rest =
     record {
@@ -30,8 +30,8 @@ has_made_both xs ys a b c m n o T U V first second = record {
   made = second.made ∙ ap (λ made. made ++ ys) first.made ∙ append_assoc m xs ys;
   script = second.script ∙ first.script;
   spent = λ k.
-      second.spent k ∙ ap (left_at (begins k ys)) (first.spent k)
-      ∙ sym (ap (λ b. left_at b (held_at a k)) (begins-append k xs ys) ∙ left_at-or (begins k xs) (begins k ys) (held_at a k));
+      second.spent k ∙ ap (left_at (begins_among k ys)) (first.spent k)
+      ∙ sym (ap (λ b. left_at b (held_at a k)) (begins-append k xs ys) ∙ left_at-or (begins_among k xs) (begins_among k ys) (held_at a k));
   rest = λ rest taken. second.rest rest (first.rest (ys ++ rest) (subst T (append_assoc xs ys rest) taken));
 }
 

@@ -5,7 +5,7 @@ use Rattle.std.proofs.lemmas.List.{append_assoc}
 use Rattle.asio_types.specs.declared.code.Code.TheVariants as code
 use Rattle.session_script.specs.Script.{ScriptModel}
 use Rattle.strand_core.specs.Execution.{AreCalls, no_act, outside, inside, execution_of}
-use Rattle.strand_core.specs.Hands.{begins, left_at}
+use Rattle.strand_core.specs.Hands.{begins_among, left_at}
 use Rattle.strand_core.specs.declared.posted.Posted.{Posted}
 use Rattle.strand_core.specs.declared.posted.Posted.TheVariants as posted
 
@@ -32,10 +32,10 @@ either_way true all first second same = refl
 either_way false all first second same = same
 
 -- what begins in one list after another
-pub begins-append : (n : ℕ) (xs ys : List Posted) → begins n (xs ++ ys) ≡ (begins n xs || begins n ys)
+pub begins-append : (n : ℕ) (xs ys : List Posted) → begins_among n (xs ++ ys) ≡ (begins_among n xs || begins_among n ys)
 begins-append n [] ys = refl
 begins-append n (posted.Begin op code size begun ∷ xs) ys =
-    either_way (op == n) (begins n (xs ++ ys)) (begins n xs) (begins n ys) (begins-append n xs ys)
+    either_way (op == n) (begins_among n (xs ++ ys)) (begins_among n xs) (begins_among n ys) (begins-append n xs ys)
 begins-append n (posted.Call act ∷ xs) ys = begins-append n xs ys
 begins-append n (posted.Back act ∷ xs) ys = begins-append n xs ys
 begins-append n (posted.End op ran ∷ xs) ys = begins-append n xs ys

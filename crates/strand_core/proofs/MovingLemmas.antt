@@ -9,7 +9,7 @@ use Rattle.std.proofs.lemmas.Option.{slice_get_within}
 use Rattle.asio_types.specs.declared.number.Lane.{Lane}
 use Rattle.session_script.specs.Script.{ScriptModel, parent_of}
 use Rattle.session_script.specs.WellFormed.{HasParent}
-use Rattle.strand_core.specs.Hands.{KeepsInline, behind, in_list, is_op_of, left_at, or_else, taken_at}
+use Rattle.strand_core.specs.Hands.{KeepsInline, behind, in_list, is_op_of, left_at, or_other, taken_at}
 use Rattle.strand_core.proofs.BehindLemmas.{free-behind, in_behind, length-behind, none_past, set-behind}
 use Rattle.strand_core.proofs.HandLemmas.{taken_other, taken_same}
 use Rattle.strand_core.proofs.LaneLemmas.{callee_of}
@@ -126,7 +126,7 @@ keeps_of script ordered of all hs there taken caller some n inside =
 
 -- the handlers below number a are back: those of a list from its first number on are in another
 pub record GivenTo {H : Type 0} (first a : ℕ) (all before held to : List (Option H)) : Type 0 where
-  pub put : (n : ℕ) → n < a → in_list to n ≡ or_else (in_list (behind first all) n) (in_list before n)
+  pub put : (n : ℕ) → n < a → in_list to n ≡ or_other (in_list (behind first all) n) (in_list before n)
   pub rest : (n : ℕ) → a ≤ n → in_list (behind first held) n ≡ in_list (behind first all) n
   pub later : (n : ℕ) → a ≤ n → slice_get to n ≡ slice_get before n
   pub size : length held ≡ length all
@@ -145,8 +145,8 @@ module _ {H : Type 0} (first : ℕ) (all before : List (Option H)) where
 
       pub none_back : in_list held k ≡ None → GivenTo first (a + 1) all before (slice_set held k None) to
       none_back none = record {
-        put = below_more (λ n. in_list to n ≡ or_else (in_list (behind first all) n) (in_list before n)) a far.put
-            (ap option_flatten (far.later a (omega arith)) ∙ sym (ap (λ h. or_else h (in_list before a)) (here ∙ none)));
+        put = below_more (λ n. in_list to n ≡ or_other (in_list (behind first all) n) (in_list before n)) a far.put
+            (ap option_flatten (far.later a (omega arith)) ∙ sym (ap (λ h. or_other h (in_list before a)) (here ∙ none)));
         rest = rest_after;
         later = λ n more. far.later n (omega arith);
         size = length-set held k None ∙ far.size;
@@ -164,12 +164,12 @@ module _ {H : Type 0} (first : ℕ) (all before : List (Option H)) where
         put =
             below_more
             (λ n.
-            in_list (slice_set to a (Some handler)) n ≡ or_else (in_list (behind first all) n) (in_list before n)) a
+            in_list (slice_set to a (Some handler)) n ≡ or_other (in_list (behind first all) n) (in_list before n)) a
             (λ n less.
             ap option_flatten (get-set_other to a n (Some handler) (λ same. absurd (omega (arith, same, less))))
             ∙ far.put n less)
             (ap option_flatten (get-set_same to a (Some handler) (slice_get_within to a None free))
-            ∙ sym (ap (λ h. or_else h (in_list before a)) (here ∙ is)));
+            ∙ sym (ap (λ h. or_other h (in_list before a)) (here ∙ is)));
         rest = rest_after;
         later = λ n more.
             get-set_other to a n (Some handler) (λ same. absurd (omega (arith, same, more)))
@@ -179,11 +179,11 @@ module _ {H : Type 0} (first : ℕ) (all before : List (Option H)) where
       }
 
   pub all_back : (a : ℕ) (held to : List (Option H)) → GivenTo first a all before held to → first + length all ≤ a →
-      (n : ℕ) → in_list to n ≡ or_else (in_list (behind first all) n) (in_list before n)
+      (n : ℕ) → in_list to n ≡ or_other (in_list (behind first all) n) (in_list before n)
   all_back a held to far past n = elim (cases_lt n a) [
     | inl less ↦ far.put n less
     | inr more ↦
         let none : in_list (behind first all) n ≡ None =
         none_past (behind first all) n (omega (arith, past, length-behind first all)) in
-        ap option_flatten (far.later n more) ∙ sym (ap (λ h. or_else h (in_list before n)) none)
+        ap option_flatten (far.later n more) ∙ sym (ap (λ h. or_other h (in_list before n)) none)
   ]

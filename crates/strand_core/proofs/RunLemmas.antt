@@ -16,7 +16,7 @@ use Rattle.session_script.specs.Lanes.{is_inline}
 use Rattle.session_script.specs.WellFormed.{HasParent}
 use Rattle.strand_core.specs.Answer.{HasExecuted, HasMade, HasRun, TakesWhole}
 use Rattle.strand_core.specs.Execution.{AreCalls, IsWholeExecution, no_act, outside, inside, execution_of, AnyMark}
-use Rattle.strand_core.specs.Hands.{Held, HasInlineOf, CallerIsGone, held_at, begins, in_list, left_at, HasRunMark}
+use Rattle.strand_core.specs.Hands.{Held, HasInlineOf, CallerIsGone, held_at, begins_among, in_list, left_at, HasRunMark}
 use Rattle.strand_core.specs.declared.posted.Posted.{Posted}
 use Rattle.strand_core.specs.declared.posted.Posted.TheVariants as posted
 use Rattle.strand_core.proofs.CallLemmas.{with_marks, calls-append}
@@ -33,19 +33,19 @@ operation_of (Some at) = at.0
 -- a handler was taken, and the execution that spent it is that of the hands before
 pub made_with : {H : Type 0} (now taken next : Held H) (act : ℕ) (calls made more : List Posted)
     (U V : List Posted → Type 0) → taken.handlers ≡ slice_set now.handlers act None → taken.script ≡ now.script →
-    begins act calls ≡ true → HasMade calls taken next made more U V → HasMade calls now next made more U V
+    begins_among act calls ≡ true → HasMade calls taken next made more U V → HasMade calls now next made more U V
 made_with now taken next act calls made more U V is_taken same itself did = record {
   made = did.made;
   script = did.script ∙ same;
   spent = λ n.
       did.spent n
       ∙ elim (same_or_not act n) as
-      (λ v. left_at (begins n calls) (held_at taken n) ≡ left_at (begins n calls) (held_at now n)) [
+      (λ v. left_at (begins_among n calls) (held_at taken n) ≡ left_at (begins_among n calls) (held_at now n)) [
         | inl is ↦
-            let begun : begins n calls ≡ true = ap (λ k. begins k calls) (sym is) ∙ itself in
+            let begun : begins_among n calls ≡ true = ap (λ k. begins_among k calls) (sym is) ∙ itself in
             ap (λ b. left_at b (held_at taken n)) begun ∙ sym (ap (λ b. left_at b (held_at now n)) begun)
         | inr differ ↦
-            ap (left_at (begins n calls)) (ap (λ hs. in_list hs n) is_taken ∙ taken_other now.handlers act n differ)
+            ap (left_at (begins_among n calls)) (ap (λ hs. in_list hs n) is_taken ∙ taken_other now.handlers act n differ)
       ];
   rest = did.rest;
 }
@@ -154,7 +154,7 @@ module _ {H : Type 0} {script : ScriptModel} {marks : H → Marks} {op : ℕ} {c
       ran.did.rest (posted.Back act ∷ further)
       (after_call (calls ++ posted.Back act ∷ further) (takes_inside takes is_in calls whole))
 
-  not_begun_by : (b : Bool) → begins act here.far.done ≡ b → b ≡ false
+  not_begun_by : (b : Bool) → begins_among act here.far.done ≡ b → b ≡ false
   not_begun_by false is_b = refl
   not_begun_by true is_b =
       absurd (elim (begins_in script here.ordered (HasRunMark marks old) op here.far.acts
@@ -182,8 +182,8 @@ module _ {H : Type 0} {script : ScriptModel} {marks : H → Marks} {op : ℕ} {c
   -- its handler is where it was
   pub still_held : held_at now act ≡ held_at old act
   still_held =
-      let begun_not : begins act (posted.Begin op code size begun ∷ here.far.done) ≡ false =
-      rw (op_differs (op == act) refl) (not_begun_by (begins act here.far.done) refl) in
+      let begun_not : begins_among act (posted.Begin op code size begun ∷ here.far.done) ≡ false =
+      rw (op_differs (op == act) refl) (not_begun_by (begins_among act here.far.done) refl) in
       here.far.did.spent act ∙ ap (λ b. left_at b (held_at old act)) begun_not
 
   pub is_there : HasInlineOf script old.handlers op → is_inline script act ≡ true → IsSome (held_at now act)
@@ -195,7 +195,7 @@ module _ {H : Type 0} {script : ScriptModel} {marks : H → Marks} {op : ℕ} {c
       sym parent ∙ ap (λ (s : ScriptModel). parent_of s act) (sym (here.far.did.script ∙ here.same_script))
       ∙ inline.1 in
       let number : op ≡ caller = ap operation_of same in
-      let begun_is : begins op (posted.Begin op code size begun ∷ here.far.done) ≡ true = rw (eq-eqb op op refl) refl in
+      let begun_is : begins_among op (posted.Begin op code size begun ∷ here.far.done) ≡ true = rw (eq-eqb op op refl) refl in
       ap (held_at now) (sym number) ∙ here.far.did.spent op ∙ ap (λ b. left_at b (held_at old op)) begun_is
 
   mark_before : (taken : Held H) → taken.handlers ≡ slice_set now.handlers act None → (o mark : ℕ) →
@@ -208,7 +208,7 @@ module _ {H : Type 0} {script : ScriptModel} {marks : H → Marks} {op : ℕ} {c
             ∙ taken_same now.handlers act in
             cc (ap (option_map (λ h. (marks h).run)) none, marked))
         | inr differ ↦
-            mark_left marks old now o mark (begins o (posted.Begin op code size begun ∷ here.far.done))
+            mark_left marks old now o mark (begins_among o (posted.Begin op code size begun ∷ here.far.done))
             (here.far.did.spent o) (ap (option_map (λ h. (marks h).run))
             (sym (ap (λ hs. in_list hs o) is_taken ∙ taken_other now.handlers act o differ)) ∙ marked)
       ]
@@ -235,7 +235,7 @@ module _ {H : Type 0} {script : ScriptModel} {marks : H → Marks} {op : ℕ} {c
       X
   inside_more is_in mark inner there is_mark taken next is_taken same called ended more V W X first ran last =
       let calls : List Posted = execution_of act codes.Ok 0 ran.begun mark ran.body in
-      let itself : begins act calls ≡ true = rw (eq-eqb act act refl) refl in
+      let itself : begins_among act calls ≡ true = rw (eq-eqb act act refl) refl in
       let script_is : taken.script ≡ script = same ∙ here.far.did.script ∙ here.same_script in
       let body : AreCalls script (HasRunMark marks taken) (branch_of script act class.Ok) ran.body =
       subst (λ (s : ScriptModel). AreCalls s (HasRunMark marks taken) (branch_of s act class.Ok) ran.body) script_is ran.acts in
@@ -333,7 +333,7 @@ pub executed : {H : Type 0} (marks : H → Marks) (op : ℕ) (code : Code) (size
     HasRun marks mark op code size taken next made more T U → HasExecuted marks op code size old next made more T U
 executed marks op code size mark inner old taken next made more T U there is_mark is_taken same ran =
     let calls : List Posted = execution_of op code size ran.begun mark ran.body in
-    let itself : begins op calls ≡ true = rw (eq-eqb op op refl) refl in
+    let itself : begins_among op calls ≡ true = rw (eq-eqb op op refl) refl in
     let body : AreCalls old.script (HasRunMark marks taken) (branch_of old.script op (class_of_code code)) ran.body =
     subst (λ (s : ScriptModel). AreCalls s (HasRunMark marks taken) (branch_of s op (class_of_code code)) ran.body) same
     ran.acts in

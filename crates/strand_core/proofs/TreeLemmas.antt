@@ -10,7 +10,7 @@ use Rattle.session_script.specs.Script.{Place, Entry, ScriptModel, same_place, n
 use Rattle.session_script.specs.WellFormed.{HasParent}
 use Rattle.session_script.proofs.OrderLemmas.{same_place-true}
 use Rattle.strand_core.specs.Execution.{AreCalls, no_act, outside, inside, execution_of}
-use Rattle.strand_core.specs.Hands.{begins}
+use Rattle.strand_core.specs.Hands.{begins_among}
 use Rattle.strand_core.specs.declared.posted.Posted.{Posted}
 use Rattle.strand_core.specs.declared.posted.Posted.TheVariants as posted
 use Rattle.strand_core.proofs.CallLemmas.{begins-append}
@@ -126,7 +126,7 @@ module _ (script : ScriptModel) (ordered : (n : ℕ) → HasParent script.acts n
     later_than op a class is = (subst (HasParent script.acts a) is (ordered a)).0
 
     begins_either : (n op : ℕ) (calls : List Posted) (is : Bool) → (op == n) ≡ is →
-        cond is true (begins n calls) ≡ true → (op ≡ n) ⊎ (begins n calls ≡ true)
+        cond is true (begins_among n calls) ≡ true → (op ≡ n) ⊎ (begins_among n calls ≡ true)
     begins_either n op calls true is begun = inl (eqb-true op n is)
     begins_either n op calls false is begun = inr begun
 
@@ -135,19 +135,19 @@ module _ (script : ScriptModel) (ordered : (n : ℕ) → HasParent script.acts n
     or_either false b is = inr is
 
     begins_around : (n act begun mark : ℕ) (body calls : List Posted) →
-        begins n (execution_of act code.Ok 0 begun mark body ++ posted.Back act ∷ calls) ≡ true →
-        (act ≡ n) ⊎ ((begins n body ≡ true) ⊎ (begins n calls ≡ true))
+        begins_among n (execution_of act code.Ok 0 begun mark body ++ posted.Back act ∷ calls) ≡ true →
+        (act ≡ n) ⊎ ((begins_among n body ≡ true) ⊎ (begins_among n calls ≡ true))
     begins_around n act begun mark body calls is =
         let end : Posted = posted.End act (record { mark = mark; class = class.Ok; begun = begun }) in
-        let parts : begins n ((body ++ end ∷ []) ++ posted.Back act ∷ calls)
-        ≡ ((begins n body || false) || begins n calls) =
+        let parts : begins_among n ((body ++ end ∷ []) ++ posted.Back act ∷ calls)
+        ≡ ((begins_among n body || false) || begins_among n calls) =
         begins-append n (body ++ end ∷ []) (posted.Back act ∷ calls)
-        ∙ ap (λ b. b || begins n calls) (begins-append n body (end ∷ [])) in
+        ∙ ap (λ b. b || begins_among n calls) (begins-append n body (end ∷ [])) in
         elim (begins_either n act ((body ++ end ∷ []) ++ posted.Back act ∷ calls) (act == n) refl is) [
           | inl same ↦ inl same
-          | inr more ↦ elim (or_either (begins n body || false) (begins n calls) (sym parts ∙ more)) [
+          | inr more ↦ elim (or_either (begins_among n body || false) (begins_among n calls) (sym parts ∙ more)) [
             | inl first ↦
-                elim (or_either (begins n body) false first) [
+                elim (or_either (begins_among n body) false first) [
                   | inl body_begins ↦ inr (inl body_begins)
                   | inr none ↦ absurd (cc)
                 ]
@@ -157,7 +157,7 @@ module _ (script : ScriptModel) (ordered : (n : ℕ) → HasParent script.acts n
 
     -- what begins in the calls of acts under an operation is one of the acts, or stands under a later operation
     pub begins_in : (op : ℕ) {acts : List ℕ} {calls : List Posted} → AreCalls script P acts calls → Under op acts →
-        (n : ℕ) → begins n calls ≡ true → Among n acts ⊎ Below op n
+        (n : ℕ) → begins_among n calls ≡ true → Among n acts ⊎ Below op n
     begins_in op no_act under n is = absurd (cc)
     begins_in op (outside {act} {acts} {calls} is_not more) under n is =
         elim (begins_in op more (λ a among. under a (inr among)) n is) [

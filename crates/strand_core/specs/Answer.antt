@@ -6,7 +6,7 @@ use Rattle.op_handlers.specs.Marks.{Marks}
 use Rattle.session_script.specs.Script.{ScriptModel, branch_of}
 use Rattle.session_script.specs.Lanes.{is_inline}
 use Rattle.strand_core.specs.Execution.{AreCalls, IsWholeExecution, AnyMark, execution_of}
-use Rattle.strand_core.specs.Hands.{Held, held_at, HasRunMark, begins, left_at}
+use Rattle.strand_core.specs.Hands.{Held, held_at, HasRunMark, begins_among, left_at}
 use Rattle.strand_core.specs.declared.posted.Posted.{Posted}
 use Rattle.strand_core.specs.declared.execution.Execution.{Execution}
 use Rattle.strand_core.specs.declared.execution.Execution.TheVariants as execution
@@ -37,7 +37,7 @@ pub record HasMade {H : Type 0} (calls : List Posted) (old new : Held H)
     (old_made new_made : List Posted) (OldTakes NewTakes : List Posted → Type 0) : Type 0 where
   pub made : new_made ≡ old_made ++ calls
   pub script : new.script ≡ old.script
-  pub spent : (n : ℕ) → held_at new n ≡ left_at (begins n calls) (held_at old n)
+  pub spent : (n : ℕ) → held_at new n ≡ left_at (begins_among n calls) (held_at old n)
   pub rest : (rest : List Posted) → OldTakes (calls ++ rest) → NewTakes rest
 
 -- one whole execution was made, with the marks of the handlers that were held

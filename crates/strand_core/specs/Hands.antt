@@ -76,17 +76,18 @@ abbrev pub left_at : {H : Type 0} → Bool → Option H → Option H
 left_at is_taken handler = if is_taken then None else handler
 
 -- the first of two, where it is there
-abbrev pub or_else : {H : Type 0} → Option H → Option H → Option H
-or_else (Some handler) other = Some handler
-or_else None other = other
+abbrev pub or_other : {H : Type 0} → Option H → Option H → Option H
+or_other (Some handler) other = Some handler
+or_other None other = other
 
 -- whether an operation begins among these calls
-abbrev pub begins : ℕ → List Posted → Bool
-begins n [] = false
-begins n (posted.Begin op code size begun ∷ calls) = if op == n then true else begins n calls
-begins n (posted.Call act ∷ calls) = begins n calls
-begins n (posted.Back act ∷ calls) = begins n calls
-begins n (posted.End op ran ∷ calls) = begins n calls
+abbrev pub begins_among : ℕ → List Posted → Bool
+begins_among n [] = false
+begins_among n (posted.Begin op code size begun ∷ calls) =
+    if op == n then true else begins_among n calls
+begins_among n (posted.Call act ∷ calls) = begins_among n calls
+begins_among n (posted.Back act ∷ calls) = begins_among n calls
+begins_among n (posted.End op ran ∷ calls) = begins_among n calls
 
 -- the run mark of a handler that is held
 abbrev pub HasRunMark : {H : Type 0} → (H → Marks) → Held H → ℕ → ℕ → Type 0

@@ -2,7 +2,7 @@ ghost use Rattle.std.specs.Prelude.{◌≡◌, ◌<◌, ℕ, length, true, None,
 ghost use Rattle.std.specs.Option.{option_map};
 ghost use Rattle.op_handlers.specs.Rack.{handler_at, handlers_in};
 ghost use Rattle.session_script.specs.Script.{is_op};
-ghost use Rattle.strand_core.specs.Hands.{CallerIsGone, HasInlineOf, held_at, is_op_of, is_of_lane, left_at, or_else, taken_at};
+ghost use Rattle.strand_core.specs.Hands.{CallerIsGone, HasInlineOf, held_at, is_op_of, is_of_lane, left_at, or_other, taken_at};
 
 use crate::lane::{is_of, span_of};
 use asio_types::{ActNo, Lane, NoMemory, OpNo};
@@ -167,7 +167,7 @@ impl<'a, H: CompletionHandler> Hands<'a, H> {
         requires { (n : ℕ) → IsSome (held_at self n) →
             slice_get (handlers_in rack.old) n ≡ Some None }
         ensures put { (n : ℕ) →
-            handler_at rack.new n ≡ or_else (held_at self.entry n) (handler_at rack.old n) }
+            handler_at rack.new n ≡ or_other (held_at self.entry n) (handler_at rack.old n) }
         ensures count { length (handlers_in rack.new) ≡ length (handlers_in rack.old) }
     {
         let Hands {

@@ -13,15 +13,15 @@ use Rattle.asio_types.specs.declared.world.Line.{Line}
 use Rattle.stream_rules.specs.Stream.{Stream, new_stream, marked_last}
 use Rattle.stream_rules.specs.World.{changed_at, lines_at, lines_after, perform_line, perform_lines}
 use Rattle.stream_rules.specs.declared.pipe.Pipe.{Pipe}
-use Rattle.stream_rules.specs.Pipes.{stream_of, fed, roomed, fed_to, room_to, HasRoom, UsesRoom, KeepsRoom, IsMarked}
+use Rattle.stream_rules.specs.Pipes.{pipe_stream, fed, roomed, fed_to, room_to, HasRoom, UsesRoom, KeepsRoom, IsMarked}
 
 -- one stream changed
 pub changed-set : (f : Stream → Stream) (pipes : List Pipe) (d : ℕ) (any new : Pipe) → d < length pipes →
-    stream_of new ≡ f (stream_of (get_or pipes d any)) →
-    map stream_of (set pipes d new) ≡ changed_at d f (map stream_of pipes)
+    pipe_stream new ≡ f (pipe_stream (get_or pipes d any)) →
+    map pipe_stream (set pipes d new) ≡ changed_at d f (map pipe_stream pipes)
 changed-set f pipes d any new b same =
-    let there = get_or-map stream_of pipes d any new_stream b in
-    map-set stream_of pipes d new ∙ ap (λ s. set (map stream_of pipes) d s) (same ∙ ap f (sym there))
+    let there = get_or-map pipe_stream pipes d any new_stream b in
+    map-set pipe_stream pipes d new ∙ ap (λ s. set (map pipe_stream pipes) d s) (same ∙ ap f (sym there))
 
 fed_to-append : (d : ℕ) (xs ys : List Line) → fed_to d (xs ++ ys) ≡ fed_to d xs + fed_to d ys
 fed_to-append d [] ys = grind arith
@@ -148,17 +148,17 @@ within-due due k n line all e =
 
 -- one more stream is marked
 pub mark-more : (pipes init : List Pipe) (k : ℕ) (any new : Pipe) → length pipes ≡ length init → k < length init →
-    stream_of new ≡ marked_last (stream_of (get_or pipes k any)) →
-    map stream_of pipes ≡ map marked_last (take k (map stream_of init)) ++ drop k (map stream_of init) →
-    map stream_of (set pipes k new)
-    ≡ map marked_last (take (k + 1) (map stream_of init)) ++ drop (k + 1) (map stream_of init)
+    pipe_stream new ≡ marked_last (pipe_stream (get_or pipes k any)) →
+    map pipe_stream pipes ≡ map marked_last (take k (map pipe_stream init)) ++ drop k (map pipe_stream init) →
+    map pipe_stream (set pipes k new)
+    ≡ map marked_last (take (k + 1) (map pipe_stream init)) ++ drop (k + 1) (map pipe_stream init)
 mark-more pipes init k any new long b same so_far =
-    let streams = map stream_of init in
-    let old = stream_of (get_or pipes k any) in
-    let there = get_or-map stream_of pipes k any old (omega arith) in
+    let streams = map pipe_stream init in
+    let old = pipe_stream (get_or pipes k any) in
+    let there = get_or-map pipe_stream pipes k any old (omega arith) in
     let next =
-    map_over_more marked_last streams (map stream_of pipes) k old (omega (arith, length-map init stream_of)) so_far (sym there) in
-    map-set stream_of pipes k new ∙ ap (λ s. set (map stream_of pipes) k s) same ∙ next
+    map_over_more marked_last streams (map pipe_stream pipes) k old (omega (arith, length-map init pipe_stream)) so_far (sym there) in
+    map-set pipe_stream pipes k new ∙ ap (λ s. set (map pipe_stream pipes) k s) same ∙ next
 
 -- the memory that is reserved stays where one stream keeps its own
 pub keeps-more : (init pipes : List Pipe) (k : ℕ) (any new : Pipe) → k < length pipes →
@@ -202,18 +202,18 @@ left-push f g pipes new n long so_far is d pipe b =
     ]
 
 -- one more new stream
-pub pipes-push : (pipes : List Pipe) (new : Pipe) (n : ℕ) (lines : List Line) → stream_of new ≡ new_stream →
+pub pipes-push : (pipes : List Pipe) (new : Pipe) (n : ℕ) (lines : List Line) → pipe_stream new ≡ new_stream →
     new.inbound.left ≡ fed_to n lines → new.outbound.left ≡ room_to n lines →
-    (map stream_of pipes ≡ replicate n new_stream) × (length pipes ≡ n)
+    (map pipe_stream pipes ≡ replicate n new_stream) × (length pipes ≡ n)
     × ((d : ℕ) (pipe : Pipe) → d < length pipes → (get_or pipes d pipe).inbound.left ≡ fed_to d lines)
     × ((d : ℕ) (pipe : Pipe) → d < length pipes → (get_or pipes d pipe).outbound.left ≡ room_to d lines) →
-    (map stream_of (pipes ++ new ∷ []) ≡ replicate (n + 1) new_stream) × (length (pipes ++ new ∷ []) ≡ n + 1)
+    (map pipe_stream (pipes ++ new ∷ []) ≡ replicate (n + 1) new_stream) × (length (pipes ++ new ∷ []) ≡ n + 1)
     × ((d : ℕ) (pipe : Pipe) → d < length (pipes ++ new ∷ []) →
     (get_or (pipes ++ new ∷ []) d pipe).inbound.left ≡ fed_to d lines)
     × ((d : ℕ) (pipe : Pipe) → d < length (pipes ++ new ∷ []) →
     (get_or (pipes ++ new ∷ []) d pipe).outbound.left ≡ room_to d lines)
 pipes-push pipes new n lines stream bytes room so_far = (
-  map-append stream_of pipes (new ∷ []) ∙ rw (so_far.0, stream) (replicate_more n new_stream),
+  map-append pipe_stream pipes (new ∷ []) ∙ rw (so_far.0, stream) (replicate_more n new_stream),
   omega (arith, length-append pipes (new ∷ []), so_far.1),
   left-push (λ p. p.inbound.left) (λ d. fed_to d lines) pipes new n so_far.1 so_far.2 bytes,
   left-push (λ p. p.outbound.left) (λ d. room_to d lines) pipes new n so_far.1 so_far.3 room,

@@ -22,7 +22,7 @@ use Rattle.stream_rules.specs.Serving.{read_code, some_of, write_code}
 use Rattle.stream_rules.proofs.PipeLemmas.{HasRoom-at, HasRoom-after}
 use Rattle.stream_rules.specs.Timetable.{Timetable}
 use Rattle.stream_rules.specs.declared.pipe.Pipe.{Pipe}
-use Rattle.stream_rules.specs.Pipes.{stream_of, HasRoom, UsesRoom, IsMarked, IsPlaying}
+use Rattle.stream_rules.specs.Pipes.{pipe_stream, HasRoom, UsesRoom, IsMarked, IsPlaying}
 
 -- the lines that are due name streams that are there
 pub within-at : (time n : ℕ) (lines : List Line) → All (λ (line : Line). line.stream < n) lines →
@@ -84,22 +84,22 @@ marked-write offered (suc there) mark h e =
     let some : (suc there == 0) ≡ false = grind (arith, nat_tests) in let took = rw some at e in cc
 
 -- a read of a stream that has its mark has an answer
-pub read-marked : (wanted : ℕ) (pipe : Pipe) → IsMarked pipe → read_answer wanted (stream_of pipe) ≢ moved.NotYet
+pub read-marked : (wanted : ℕ) (pipe : Pipe) → IsMarked pipe → read_answer wanted (pipe_stream pipe) ≢ moved.NotYet
 read-marked wanted pipe marked = marked-read wanted (length pipe.inbound.arrived) pipe.inbound.mark marked.0
 
 -- a write to a stream that has its mark has an answer
-pub write-marked : (bytes : List ℕ) (pipe : Pipe) → IsMarked pipe → write_answer bytes (stream_of pipe) ≢ moved.NotYet
+pub write-marked : (bytes : List ℕ) (pipe : Pipe) → IsMarked pipe → write_answer bytes (pipe_stream pipe) ≢ moved.NotYet
 write-marked bytes pipe marked = marked-write (length bytes) pipe.outbound.room pipe.outbound.mark marked.1
 
 -- a world that is set up
 pub IsPlaying-first : (closed : List Bool) (table : Timetable) (n : ℕ) (pipes after : List Pipe) →
     closed ≡ replicate n false → table.time ≡ 0 → All (λ (line : Line). line.stream < n) table.lines →
-    map stream_of pipes ≡ replicate n new_stream → HasRoom table.lines pipes →
+    map pipe_stream pipes ≡ replicate n new_stream → HasRoom table.lines pipes →
     UsesRoom (lines_at table.time table.lines) pipes after → length after ≡ length pipes →
     IsPlaying false closed table after
 IsPlaying-first closed table n pipes after flags is within streams has uses long =
     let count : length pipes ≡ n =
-    sym (length-map pipes stream_of) ∙ ap length streams ∙ length-replicate n new_stream in
+    sym (length-map pipes pipe_stream) ∙ ap length streams ∙ length-replicate n new_stream in
     record {
       counted = ap length flags ∙ length-replicate n false ∙ sym count ∙ sym long;
       within = λ k l b. let here = within k l b in omega arith;
@@ -109,9 +109,9 @@ IsPlaying-first closed table n pipes after flags is within streams has uses long
 
 -- the lines of a new world name its streams
 pub within-first : (time n : ℕ) (lines : List Line) (pipes : List Pipe) → All (λ (line : Line). line.stream < n) lines →
-    map stream_of pipes ≡ replicate n new_stream →
+    map pipe_stream pipes ≡ replicate n new_stream →
     All (λ (line : Line). line.stream < length pipes) (lines_at time lines)
 within-first time n lines pipes all streams =
     let count : length pipes ≡ n =
-    sym (length-map pipes stream_of) ∙ ap length streams ∙ length-replicate n new_stream in
+    sym (length-map pipes pipe_stream) ∙ ap length streams ∙ length-replicate n new_stream in
     rw count (within-at time n lines all)

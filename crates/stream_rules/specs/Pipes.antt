@@ -9,8 +9,8 @@ use Rattle.stream_rules.specs.World.{lines_after}
 use Rattle.stream_rules.specs.Timetable.{Timetable}
 use Rattle.stream_rules.specs.declared.pipe.Pipe.{Pipe}
 
-abbrev pub stream_of : Pipe → Stream
-stream_of pipe =
+abbrev pub pipe_stream : Pipe → Stream
+pipe_stream pipe =
     record {
       arrived = pipe.inbound.arrived;
       room = pipe.outbound.room;

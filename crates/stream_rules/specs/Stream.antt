@@ -31,16 +31,16 @@ first_mark None new = Some new
 first_mark (Some old) new = Some old
 
 -- what a world line does: a side that has its mark is left alone
-abbrev pub performed : What → Stream → Stream
-performed (what.Feed bytes) s =
+abbrev pub line_performed : What → Stream → Stream
+line_performed (what.Feed bytes) s =
     record s { arrived = if is_some s.read_mark then s.arrived else s.arrived ++ bytes }
-performed what.End s = record s { read_mark = first_mark s.read_mark read_mark.Eof }
-performed what.Reset s =
+line_performed what.End s = record s { read_mark = first_mark s.read_mark read_mark.Eof }
+line_performed what.Reset s =
     record s {
       read_mark = first_mark s.read_mark read_mark.Reset;
       write_mark = first_mark s.write_mark write_mark.Reset;
     }
-performed (what.Room count) s =
+line_performed (what.Room count) s =
     record s { room = if is_some s.write_mark then s.room else s.room + count }
 
 -- once no further time point exists, each side without a mark has reached its end

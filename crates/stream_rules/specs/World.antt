@@ -5,7 +5,7 @@ use Rattle.asio_types.specs.declared.outside.Point.{Point}
 use Rattle.asio_types.specs.declared.outside.Point.TheVariants as point
 use Rattle.asio_types.specs.declared.world.Line.{Line}
 use Rattle.asio_types.specs.declared.world.World.{World}
-use Rattle.stream_rules.specs.Stream.{Stream, new_stream, performed, marked_last}
+use Rattle.stream_rules.specs.Stream.{Stream, new_stream, line_performed, marked_last}
 
 -- the stream with this number
 abbrev pub stream_at : List Stream → ℕ → Stream
@@ -16,7 +16,7 @@ abbrev pub changed_at : ℕ → (Stream → Stream) → List Stream → List Str
 changed_at number change streams = slice_set streams number (change (stream_at streams number))
 
 abbrev pub perform_line : List Stream → Line → List Stream
-perform_line streams line = changed_at line.stream (performed line.what) streams
+perform_line streams line = changed_at line.stream (line_performed line.what) streams
 
 -- the lines, in their order
 abbrev pub perform_lines : List Line → List Stream → List Stream

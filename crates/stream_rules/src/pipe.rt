@@ -1,8 +1,8 @@
 ghost use Rattle.std.specs.Prelude.{◌≡◌, ◌<◌, ◌≤◌, ◌+◌, ◌^◌, IfOk, IsNone, length, take};
-ghost use Rattle.stream_rules.specs.Stream.{closed_stream, marked_last, new_stream, performed};
-ghost use Rattle.stream_rules.specs.Asked.{reading_of, writing_of, IsCountable};
+ghost use Rattle.stream_rules.specs.Stream.{closed_stream, marked_last, new_stream, line_performed};
+ghost use Rattle.stream_rules.specs.Asked.{reading_view, writing_view, IsCountable};
 ghost use Rattle.stream_rules.specs.Moving.{moved_count, read_answer, write_answer};
-ghost use Rattle.stream_rules.specs.Pipes.{fed, roomed, stream_of, IsMarked};
+ghost use Rattle.stream_rules.specs.Pipes.{fed, roomed, pipe_stream, IsMarked};
 ghost use Rattle.stream_rules.specs.Queue.{reading_side, writing_side};
 ghost use Rattle.stream_rules.specs.Serving.{Some_of, after_reading, after_writing};
 
@@ -22,7 +22,7 @@ pub struct Pipe {
 impl Pipe {
     /// A new stream, with memory for so many bytes and so much room.
     pub fn make(alloc: Global, bytes: u32, room: u32) -> Result<Pipe, NoMemory>
-        ensures stream { IfOk result (λ pipe. stream_of pipe ≡ new_stream) }
+        ensures stream { IfOk result (λ pipe. pipe_stream pipe ≡ new_stream) }
         ensures bytes_left { IfOk result (λ pipe. pipe.inbound.left ≡ bytes) }
         ensures room_left { IfOk result (λ pipe. pipe.outbound.left ≡ room) }
     {
@@ -36,7 +36,7 @@ impl Pipe {
     pub fn perform(&mut self, what: &What)
         requires bytes { fed what.now ≤ self.old.inbound.left }
         requires room { roomed what.now ≤ self.old.outbound.left }
-        ensures stream { stream_of self.new ≡ performed what.now (stream_of self.old) }
+        ensures stream { pipe_stream self.new ≡ line_performed what.now (pipe_stream self.old) }
         ensures marked { IsMarked self.old → IsMarked self.new }
         ensures bytes_left { self.new.inbound.left + fed what.now ≡ self.old.inbound.left }
         ensures room_left { self.new.outbound.left + roomed what.now ≡ self.old.outbound.left }
@@ -54,7 +54,7 @@ impl Pipe {
 
     /// No further time point exists.
     pub fn mark_last(&mut self)
-        ensures stream { stream_of self.new ≡ marked_last (stream_of self.old) }
+        ensures stream { pipe_stream self.new ≡ marked_last (pipe_stream self.old) }
         ensures marked { IsMarked self.new }
         ensures bytes_left { self.new.inbound.left ≡ self.old.inbound.left }
         ensures room_left { self.new.outbound.left ≡ self.old.outbound.left }
@@ -67,9 +67,10 @@ impl Pipe {
     /// what it used. Costs as `served_read` does.
     pub fn serve_read(&mut self, reading: Reading, moved: u32) -> Served
         ensures served { result
-            ≡ reading_side.served (reading_of reading.entry) moved (stream_of self.old) }
-        ensures stream { stream_of self.new
-            ≡ reading_side.after (reading_of reading.entry) moved result.used (stream_of self.old) }
+            ≡ reading_side.served (reading_view reading.entry) moved (pipe_stream self.old) }
+        ensures stream { pipe_stream self.new
+            ≡ reading_side.after (reading_view reading.entry) moved result.used
+            (pipe_stream self.old) }
         ensures countable { IsNone result.outcome → moved + result.used < 2 ^ 32 }
         ensures bytes_left { self.new.inbound.left ≡ self.old.inbound.left }
         ensures room_left { self.new.outbound.left ≡ self.old.outbound.left }
@@ -82,11 +83,12 @@ impl Pipe {
     /// What a writing operation of which `moved` bytes were taken before gives on this stream; the
     /// bytes for which there was room are sent. Copies just these.
     pub fn serve_write(&mut self, writing: Writing, moved: u32) -> Served
-        requires { IsCountable (writing_of writing) }
+        requires { IsCountable (writing_view writing) }
         ensures served { result
-            ≡ writing_side.served (writing_of writing.entry) moved (stream_of self.old) }
-        ensures stream { stream_of self.new
-            ≡ writing_side.after (writing_of writing.entry) moved result.used (stream_of self.old) }
+            ≡ writing_side.served (writing_view writing.entry) moved (pipe_stream self.old) }
+        ensures stream { pipe_stream self.new
+            ≡ writing_side.after (writing_view writing.entry) moved result.used
+            (pipe_stream self.old) }
         ensures countable { IsNone result.outcome → moved + result.used < 2 ^ 32 }
         ensures bytes_left { self.new.inbound.left ≡ self.old.inbound.left }
         ensures room_left { self.new.outbound.left ≡ self.old.outbound.left }
@@ -102,11 +104,11 @@ impl Pipe {
     /// Gives the next bytes, or says by the mark why none is there. Copies just what it gives.
     pub fn read(&mut self, buf: &mut [u8]) -> Moved
         requires { 0 < length buf.old }
-        ensures answer { result ≡ read_answer (length buf.old) (stream_of self.old) }
+        ensures answer { result ≡ read_answer (length buf.old) (pipe_stream self.old) }
         ensures bytes { take (moved_count result) buf.new
             ≡ take (moved_count result) self.old.inbound.arrived }
-        ensures stream { stream_of self.new
-            ≡ after_reading (moved_count result) (stream_of self.old) }
+        ensures stream { pipe_stream self.new
+            ≡ after_reading (moved_count result) (pipe_stream self.old) }
         ensures bytes_left { self.new.inbound.left ≡ self.old.inbound.left }
         ensures room_left { self.new.outbound.left ≡ self.old.outbound.left }
     {
@@ -117,9 +119,9 @@ impl Pipe {
     /// Copies just these.
     pub fn write(&mut self, bytes: &[u8]) -> Moved
         requires { 0 < length bytes.now }
-        ensures answer { result ≡ write_answer bytes.now (stream_of self.old) }
-        ensures stream { stream_of self.new
-            ≡ after_writing (Some_of bytes.now) 0 (moved_count result) (stream_of self.old) }
+        ensures answer { result ≡ write_answer bytes.now (pipe_stream self.old) }
+        ensures stream { pipe_stream self.new
+            ≡ after_writing (Some_of bytes.now) 0 (moved_count result) (pipe_stream self.old) }
         ensures bytes_left { self.new.inbound.left ≡ self.old.inbound.left }
         ensures room_left { self.new.outbound.left ≡ self.old.outbound.left }
     {
@@ -128,7 +130,7 @@ impl Pipe {
 
     /// Drops the bytes there and the room.
     pub fn close(&mut self)
-        ensures stream { stream_of self.new ≡ closed_stream (stream_of self.old) }
+        ensures stream { pipe_stream self.new ≡ closed_stream (pipe_stream self.old) }
         ensures bytes_left { self.new.inbound.left ≡ self.old.inbound.left }
         ensures room_left { self.new.outbound.left ≡ self.old.outbound.left }
     {

@@ -1,7 +1,7 @@
 ghost use Rattle.std.specs.Prelude.{◌≡◌, ◌<◌, All, IfOk, IfSome, length, map, replicate};
 ghost use Rattle.stream_rules.specs.Stream.{new_stream};
 ghost use Rattle.stream_rules.specs.World.{lines_at, perform_lines, streams_at_last};
-ghost use Rattle.stream_rules.specs.Pipes.{fed, fed_to, room_to, roomed, stream_of, HasRoom, IsMarked, KeepsRoom, UsesRoom};
+ghost use Rattle.stream_rules.specs.Pipes.{fed, fed_to, room_to, roomed, pipe_stream, HasRoom, IsMarked, KeepsRoom, UsesRoom};
 
 use crate::pipe::Pipe;
 use crate::schedule::Schedule;
@@ -55,7 +55,7 @@ fn room_to(stream: StreamNo, lines: &[Line]) -> Option<u32>
 }
 
 fn pipe_for(alloc: Global, stream: StreamNo, lines: &[Line]) -> Result<Pipe, NoMemory>
-    ensures stream { IfOk result (λ pipe. stream_of pipe ≡ new_stream) }
+    ensures stream { IfOk result (λ pipe. pipe_stream pipe ≡ new_stream) }
     ensures bytes { IfOk result (λ pipe. pipe.inbound.left ≡ fed_to stream lines.now) }
     ensures room { IfOk result (λ pipe. pipe.outbound.left ≡ room_to stream lines.now) }
 {
@@ -69,7 +69,7 @@ fn pipe_for(alloc: Global, stream: StreamNo, lines: &[Line]) -> Result<Pipe, NoM
 /// for each stream.
 pub fn pipes_for(alloc: Global, streams: u8, lines: &[Line]) -> Result<Vec<Pipe>, NoMemory>
     ensures streams { IfOk result
-        (λ pipes. map stream_of pipes.items ≡ replicate streams new_stream) }
+        (λ pipes. map pipe_stream pipes.items ≡ replicate streams new_stream) }
     ensures room { IfOk result (λ pipes. HasRoom lines.now pipes.items) }
 {
     let mut pipes = Vec::with_capacity(alloc, streams as usize)?;
@@ -84,8 +84,9 @@ pub fn perform_due(schedule: &Schedule, pipes: &mut [Pipe])
     requires within { All (λ line. line.stream < length pipes.old)
         (lines_at schedule.now.time schedule.now.lines) }
     requires room { HasRoom (lines_at schedule.now.time schedule.now.lines) pipes.old }
-    ensures streams { map stream_of pipes.new
-        ≡ perform_lines (lines_at schedule.now.time schedule.now.lines) (map stream_of pipes.old) }
+    ensures streams { map pipe_stream pipes.new
+        ≡ perform_lines (lines_at schedule.now.time schedule.now.lines)
+        (map pipe_stream pipes.old) }
     ensures room { UsesRoom (lines_at schedule.now.time schedule.now.lines) pipes.old pipes.new }
     ensures marked { All IsMarked pipes.old → All IsMarked pipes.new }
 {
@@ -98,7 +99,7 @@ pub fn perform_due(schedule: &Schedule, pipes: &mut [Pipe])
 
 /// No further time point exists.
 pub fn mark_last(pipes: &mut [Pipe])
-    ensures streams { map stream_of pipes.new ≡ streams_at_last (map stream_of pipes.old) }
+    ensures streams { map pipe_stream pipes.new ≡ streams_at_last (map pipe_stream pipes.old) }
     ensures room { KeepsRoom pipes.old pipes.new }
     ensures marked { All IsMarked pipes.new }
 {

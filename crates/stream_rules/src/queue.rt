@@ -1,8 +1,8 @@
 ghost use Rattle.std.specs.Prelude.{◌≡◌, ◌↔◌, ℕ, ◌+◌, ◌^◌, ◌<◌, ◌≤◌, [], ◌∷◌, ◌++◌, All, IfNone, IfSome, IsNone, IsTrue, map};
 ghost use Rattle.std.specs.Vec.{vec_len, vec_capacity};
 ghost use Rattle.std.specs.VecDeque.{deque_len, deque_capacity};
-ghost use Rattle.stream_rules.specs.Asked.{reading_of, writing_of, IsCountable};
-ghost use Rattle.stream_rules.specs.Pipes.{stream_of};
+ghost use Rattle.stream_rules.specs.Asked.{reading_view, writing_view, IsCountable};
+ghost use Rattle.stream_rules.specs.Pipes.{pipe_stream};
 ghost use Rattle.stream_rules.specs.Queue.{asked, reading_side, served_queue, writing_side};
 ghost use Rattle.stream_rules.specs.Serving.{Reading as reading, Writing as writing};
 
@@ -48,13 +48,13 @@ pub trait Asks {
     /// What an operation that reads asks for.
     fn reading(&self, op: OpNo) -> Reading<'_>
         requires { IsReading self.now op }
-        ensures { reading_of result ≡ reads self.now op };
+        ensures { reading_view result ≡ reads self.now op };
 
     /// What an operation that writes has to write.
     fn writing(&self, op: OpNo) -> Writing<'_>
         requires { IsWriting self.now op }
-        ensures bytes { writing_of result ≡ writes self.now op }
-        ensures countable { IsCountable (writing_of result) };
+        ensures bytes { writing_view result ≡ writes self.now op }
+        ensures countable { IsCountable (writing_view result) };
 }
 
 /// Puts a head that was served back where it stays, and else lists it. Answers whether it stays.
@@ -110,13 +110,13 @@ pub fn serve_reads<A: Asks>(
     ensures completed { completed.new.items
         ≡ completed.old.items
         ++ (served_queue reading_side (map (asked (A.reads asks.now)) queue.old.items)
-        (stream_of pipe.old)).completed }
+        (pipe_stream pipe.old)).completed }
     ensures staying { map (asked (A.reads asks.now)) queue.new.items
         ≡ (served_queue reading_side (map (asked (A.reads asks.now)) queue.old.items)
-        (stream_of pipe.old)).staying }
-    ensures stream { stream_of pipe.new
+        (pipe_stream pipe.old)).staying }
+    ensures stream { pipe_stream pipe.new
         ≡ (served_queue reading_side (map (asked (A.reads asks.now)) queue.old.items)
-        (stream_of pipe.old)).stream }
+        (pipe_stream pipe.old)).stream }
     ensures reads { All (λ queued. A.IsReading asks.now queued.op) queue.new.items }
     ensures each_once { vec_len completed.new + deque_len queue.new
         ≡ vec_len completed.old + deque_len queue.old }
@@ -145,13 +145,13 @@ pub fn serve_writes<A: Asks>(
     ensures completed { completed.new.items
         ≡ completed.old.items
         ++ (served_queue writing_side (map (asked (A.writes asks.now)) queue.old.items)
-        (stream_of pipe.old)).completed }
+        (pipe_stream pipe.old)).completed }
     ensures staying { map (asked (A.writes asks.now)) queue.new.items
         ≡ (served_queue writing_side (map (asked (A.writes asks.now)) queue.old.items)
-        (stream_of pipe.old)).staying }
-    ensures stream { stream_of pipe.new
+        (pipe_stream pipe.old)).staying }
+    ensures stream { pipe_stream pipe.new
         ≡ (served_queue writing_side (map (asked (A.writes asks.now)) queue.old.items)
-        (stream_of pipe.old)).stream }
+        (pipe_stream pipe.old)).stream }
     ensures writes { All (λ queued. A.IsWriting asks.now queued.op) queue.new.items }
     ensures each_once { vec_len completed.new + deque_len queue.new
         ≡ vec_len completed.old + deque_len queue.old }

@@ -1,6 +1,6 @@
 ghost use Rattle.std.specs.Prelude.{◌≡◌, ◌≤◌, ◌<◌, ◌+◌, ◌^◌, IfSome, IsNone, length};
 ghost use Rattle.std.specs.Option.{option_map};
-ghost use Rattle.stream_rules.specs.Asked.{reading_of, writing_of, IsCountable};
+ghost use Rattle.stream_rules.specs.Asked.{reading_view, writing_view, IsCountable};
 ghost use Rattle.stream_rules.specs.Serving.{all_of, bytes_of, ended_by, read_code, served_read, served_write, some_of, until_found, write_code};
 
 use crate::delimiter::first_end;
@@ -114,7 +114,7 @@ fn until_found(found: Option<usize>, max: u32, there: usize, mark: Option<Code>)
 
 /// The bytes of a writing operation.
 pub(crate) fn bytes_of<'a>(writing: Writing<'a>) -> &'a [u8]
-    ensures { result.now ≡ bytes_of (writing_of writing.entry) }
+    ensures { result.now ≡ bytes_of (writing_view writing.entry) }
 {
     match writing {
         Writing::Some { bytes } | Writing::All { bytes } => bytes,
@@ -124,7 +124,7 @@ pub(crate) fn bytes_of<'a>(writing: Writing<'a>) -> &'a [u8]
 /// What a reading operation that got `moved` bytes before gives where these bytes are there; a mark
 /// is seen behind them. Costs nothing that grows, and for `Until` the search for the delimiter.
 pub fn served_read(reading: Reading, moved: u32, there: &[u8], mark: Option<ReadMark>) -> Served
-    ensures served { result ≡ served_read (reading_of reading.entry) moved there.now mark }
+    ensures served { result ≡ served_read (reading_view reading.entry) moved there.now mark }
     ensures within { result.used ≤ length there.now }
     ensures countable { IsNone result.outcome → moved + result.used < 2 ^ 32 }
 {
@@ -142,8 +142,8 @@ pub fn served_read(reading: Reading, moved: u32, there: &[u8], mark: Option<Read
 /// What a writing operation of which `moved` bytes were taken before gives where there is so much
 /// room; a mark is seen behind it. Constant cost.
 pub fn served_write(writing: Writing, moved: u32, room: u32, mark: Option<WriteMark>) -> Served
-    requires { IsCountable (writing_of writing) }
-    ensures served { result ≡ served_write (writing_of writing.entry) moved room mark }
+    requires { IsCountable (writing_view writing) }
+    ensures served { result ≡ served_write (writing_view writing.entry) moved room mark }
     ensures within { result.used ≤ room }
     ensures countable { IsNone result.outcome → moved + result.used < 2 ^ 32 }
 {

@@ -12,6 +12,6 @@ mod steps;
 #[cfg(test)]
 mod tests;
 
-pub use entry::Entry;
+pub use entry::TimerEntry;
 pub use queue::TimerQueue;
 pub use steps::Steps;

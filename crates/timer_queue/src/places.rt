@@ -27,7 +27,7 @@ impl Places {
     }
 
     /// An operation is at this index of the heap now. An operation without a place isn't noted.
-    pub(crate) fn note(&mut self, op: OpNo, at: usize)
+    pub(crate) fn remember(&mut self, op: OpNo, at: usize)
         requires { at < 2 ^ 32 }
         ensures { self.new ≡ slice_set self.old op at }
     {

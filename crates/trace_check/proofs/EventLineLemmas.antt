@@ -13,9 +13,9 @@ use Rattle.asio_types.specs.declared.event.Event.TheVariants as event
 use Rattle.history_book.specs.Trace.{space, line_end, line_of, word_of_code, HasItsNumbers}
 use Rattle.trace_check.specs.EventLine.{code_in, mark_in, outcome_in, stop_event, bare_event, event_with, event_in, line_event}
 use Rattle.trace_check.specs.Number.{number}
-use Rattle.trace_check.specs.Split.{◌>>=◌, split_once, count_of}
+use Rattle.trace_check.specs.Split.{◌>>=◌, split_once, byte_count}
 use Rattle.trace_check.proofs.NumberLemmas.{number_is, number_spelled}
-use Rattle.trace_check.proofs.SplitLemmas.{split_is, split_first, count_of-append}
+use Rattle.trace_check.proofs.SplitLemmas.{split_is, split_first, byte_count-append}
 
 -- what holds of both outcomes of a test holds of the choice
 by_test : {A : Type 0} (P : A → Type 0) (test : Bool) (first second : A) → (test ≡ true → P first) → P second →
@@ -96,9 +96,9 @@ by_outcome P bytes given missing =
     missing) missing) missing) missing) missing
 
 -- what is read of a line is what it says
-abbrev Says : List ℕ → Option Event → Type 0
-Says line None = Unit {0}
-Says line (Some event) = HasItsNumbers event × (line ++ line_end ≡ line_of event)
+abbrev SaysItsEvent : List ℕ → Option Event → Type 0
+SaysItsEvent line None = Unit {0}
+SaysItsEvent line (Some event) = HasItsNumbers event × (line ++ line_end ≡ line_of event)
 
 -- a word and the fields behind it
 spelled : (word name fields text : List ℕ) → word ≡ name → fields ≡ text →
@@ -106,27 +106,27 @@ spelled : (word name fields text : List ℕ) → word ≡ name → fields ≡ te
 spelled word name fields text first second =
     ap (λ w. (w ++ 32 ∷ fields) ++ line_end) first ∙ ap (λ f. (name ++ 32 ∷ f) ++ line_end) second
 
-bare_says : (word : List ℕ) → Says word (bare_event word)
+bare_says : (word : List ℕ) → SaysItsEvent word (bare_event word)
 unfolding bare_event
 bare_says word =
-    by_word (Says word) word _ _ _ (λ is. (tt, ap (λ w. w ++ line_end) is))
-    (by_word (Says word) word _ _ _ (λ is. (tt, ap (λ w. w ++ line_end) is))
-    (by_word (Says word) word _ _ _ (λ is. (tt, ap (λ w. w ++ line_end) is))
-    (by_word (Says word) word _ _ _ (λ is. (tt, ap (λ w. w ++ line_end) is))
-    (by_word (Says word) word _ _ _ (λ is. (tt, ap (λ w. w ++ line_end) is))
-    (by_word (Says word) word _ _ _ (λ is. (tt, ap (λ w. w ++ line_end) is)) tt)))))
+    by_word (SaysItsEvent word) word _ _ _ (λ is. (tt, ap (λ w. w ++ line_end) is))
+    (by_word (SaysItsEvent word) word _ _ _ (λ is. (tt, ap (λ w. w ++ line_end) is))
+    (by_word (SaysItsEvent word) word _ _ _ (λ is. (tt, ap (λ w. w ++ line_end) is))
+    (by_word (SaysItsEvent word) word _ _ _ (λ is. (tt, ap (λ w. w ++ line_end) is))
+    (by_word (SaysItsEvent word) word _ _ _ (λ is. (tt, ap (λ w. w ++ line_end) is))
+    (by_word (SaysItsEvent word) word _ _ _ (λ is. (tt, ap (λ w. w ++ line_end) is)) tt)))))
 
-stop_says : (word fields : List ℕ) → word ≡ codes "stop" → Says (word ++ 32 ∷ fields) (stop_event fields)
+stop_says : (word fields : List ℕ) → word ≡ codes "stop" → SaysItsEvent (word ++ 32 ∷ fields) (stop_event fields)
 unfolding stop_event
 stop_says word fields is =
-    let P = λ (o : Option Event). Says (word ++ 32 ∷ fields) o in
+    let P = λ (o : Option Event). SaysItsEvent (word ++ 32 ∷ fields) o in
     by_word P fields (codes "-") _ _ (λ dash. (tt, spelled word (codes "stop") fields (codes "-") is dash))
     (by_number P (2 ^ 32) fields _ (λ act fits text. (fits, spelled word (codes "stop") fields (decimal act) is text)) tt)
 
-with_says : (word fields : List ℕ) → Says (word ++ 32 ∷ fields) (event_with word fields)
+with_says : (word fields : List ℕ) → SaysItsEvent (word ++ 32 ∷ fields) (event_with word fields)
 unfolding event_with
 with_says word fields =
-    let P = λ (o : Option Event). Says (word ++ 32 ∷ fields) o in
+    let P = λ (o : Option Event). SaysItsEvent (word ++ 32 ∷ fields) o in
     by_word P word (codes "call") _ _
     (λ is. by_number P (2 ^ 32) fields _ (λ act fits text. (fits, spelled word _ fields _ is text)) tt)
     (by_word P word (codes "back") _ _
@@ -153,14 +153,14 @@ with_says word fields =
     (λ op mark below fits text. ((below, fits), spelled word _ fields _ is text)) tt) tt))))))))
 
 line_says : (line : List ℕ) (cut : Option (List ℕ × List ℕ)) → split_once 32 line ≡ cut →
-    Says line (line_event line cut)
+    SaysItsEvent line (line_event line cut)
 line_says line (Some parts) e =
-    subst (λ l. Says l (event_with parts.0 parts.1)) (sym (split_is 32 line parts e)) (with_says parts.0 parts.1)
+    subst (λ l. SaysItsEvent l (event_with parts.0 parts.1)) (sym (split_is 32 line parts e)) (with_says parts.0 parts.1)
 line_says line None e = bare_says line
 
 pub event_is : (line : List ℕ) (e : Event) → event_in line ≡ Some e → HasItsNumbers e × (line ++ line_end ≡ line_of e)
 unfolding event_in
-event_is line e read = subst (Says line) read (line_says line (split_once 32 line) refl)
+event_is line e read = subst (SaysItsEvent line) read (line_says line (split_once 32 line) refl)
 
 -- the line of an event, without its LF
 abbrev pub text_of : Event → List ℕ
@@ -203,12 +203,12 @@ wide : (n : ℕ) → n < 2 ^ 32 → n < 2 ^ 64
 wide n fits = omega arith
 
 -- digits are neither LF nor a space
-digits_lack : (separator n : ℕ) → separator < 48 → n < 2 ^ 64 → count_of separator (decimal n) ≡ 0
+digits_lack : (separator n : ℕ) → separator < 48 → n < 2 ^ 64 → byte_count separator (decimal n) ≡ 0
 digits_lack separator n low fits =
-    decimal_by_steps (λ m ds. count_of separator ds ≡ 0) (λ m small. grind (arith, nat_tests))
-    (λ m ds large none. grind (arith, nat_tests, count_of-append separator ds ((48 + m % 10) ∷ []), none)) n fits
+    decimal_by_steps (λ m ds. byte_count separator ds ≡ 0) (λ m small. grind (arith, nat_tests))
+    (λ m ds large none. grind (arith, nat_tests, byte_count-append separator ds ((48 + m % 10) ∷ []), none)) n fits
 
-code_lacks_space : (c : Code) → count_of 32 (word_of_code c) ≡ 0
+code_lacks_space : (c : Code) → byte_count 32 (word_of_code c) ≡ 0
 code_lacks_space code.Ok = refl
 code_lacks_space code.Aborted = refl
 code_lacks_space code.Eof = refl
@@ -217,7 +217,7 @@ code_lacks_space code.Bad = refl
 code_lacks_space code.Broken = refl
 code_lacks_space code.Reset = refl
 
-code_lacks_end : (c : Code) → count_of 10 (word_of_code c) ≡ 0
+code_lacks_end : (c : Code) → byte_count 10 (word_of_code c) ≡ 0
 code_lacks_end code.Ok = refl
 code_lacks_end code.Aborted = refl
 code_lacks_end code.Eof = refl
@@ -226,33 +226,33 @@ code_lacks_end code.Bad = refl
 code_lacks_end code.Broken = refl
 code_lacks_end code.Reset = refl
 
-mark_lacks_end : (op mark : ℕ) → op < 2 ^ 32 → mark < 2 ^ 64 → count_of 10 (mark_text op mark) ≡ 0
+mark_lacks_end : (op mark : ℕ) → op < 2 ^ 32 → mark < 2 ^ 64 → byte_count 10 (mark_text op mark) ≡ 0
 mark_lacks_end op mark below fits =
-    count_of-append 10 (decimal op ++ space) (decimal mark)
+    byte_count-append 10 (decimal op ++ space) (decimal mark)
     ∙ omega (
       arith,
-      count_of-append 10 (decimal op) space,
+      byte_count-append 10 (decimal op) space,
       digits_lack 10 op (omega arith) (wide op below),
       digits_lack 10 mark (omega arith) fits,
     )
 
 outcome_lacks_end : (op : ℕ) (c : Code) (size : ℕ) → op < 2 ^ 32 → size < 2 ^ 32 →
-    count_of 10 (outcome_text op c size) ≡ 0
+    byte_count 10 (outcome_text op c size) ≡ 0
 outcome_lacks_end op c size below fits =
     let front = decimal op ++ space in
     omega (
       arith,
-      count_of-append 10 ((front ++ word_of_code c) ++ space) (decimal size),
-      count_of-append 10 (front ++ word_of_code c) space,
-      count_of-append 10 front (word_of_code c),
-      count_of-append 10 (decimal op) space,
+      byte_count-append 10 ((front ++ word_of_code c) ++ space) (decimal size),
+      byte_count-append 10 (front ++ word_of_code c) space,
+      byte_count-append 10 front (word_of_code c),
+      byte_count-append 10 (decimal op) space,
       digits_lack 10 op (omega arith) (wide op below),
       code_lacks_end c,
       digits_lack 10 size (omega arith) (wide size fits),
     )
 
 -- one line ends where the event's does
-pub line_lacks_end : (e : Event) → HasItsNumbers e → count_of 10 (text_of e) ≡ 0
+pub line_lacks_end : (e : Event) → HasItsNumbers e → byte_count 10 (text_of e) ≡ 0
 line_lacks_end (event.Call act) h = digits_lack 10 act (omega arith) (wide act h)
 line_lacks_end (event.Back act) h = digits_lack 10 act (omega arith) (wide act h)
 line_lacks_end (event.Stop (Some act)) h = digits_lack 10 act (omega arith) (wide act h)

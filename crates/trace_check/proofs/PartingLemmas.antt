@@ -5,10 +5,11 @@ use Rattle.std.proofs.Math.Seq.{drop-append_seam, get_or-append_seam, take-appen
 use Rattle.std.proofs.lemmas.Bool.{cases_lt}
 use Rattle.std.proofs.lemmas.List.{drop-drop, get_or-take, length-drop, length-take, length-take-le, take-append-drop, take_more}
 use Rattle.history_book.specs.Trace.{line_end}
-use Rattle.trace_check.specs.Parting.{AreLines, HasNoParting, IsParted, Parts, LineStandsAt, parting_line}
+use Rattle.trace_check.specs.Parting.{AreLines, HasNoParting, IsPartedInput, InputParts, LineStandsAt, parting_line}
 
 -- a place where it stands parts the input
-parted_at : (input : List ℕ) (at : ℕ) → LineStandsAt input at → IsParted input (take at input) (drop (at + 3) input)
+parted_at : (input : List ℕ) (at : ℕ) → LineStandsAt input at →
+    IsPartedInput input (take at input) (drop (at + 3) input)
 parted_at input at stands =
     record {
       text =
@@ -45,7 +46,7 @@ lines_end input at inside some = (back, λ same. inr (take (at - 1) input, last 
         ∙ ap (λ n. get_or (front ++ line_end) n 0) place ∙ get_or-append_seam front 10 [] 0
 
 -- and where the input is parted, it stands
-stands_between : (before after input : List ℕ) → IsParted input before after → LineStandsAt input (length before)
+stands_between : (before after input : List ℕ) → IsPartedInput input before after → LineStandsAt input (length before)
 stands_between before after input parted =
     record {
       line =
@@ -55,21 +56,21 @@ stands_between before after input parted =
     }
 
 -- it stands inside the input
-stands_inside : (before after input : List ℕ) → IsParted input before after → length before < length input
+stands_inside : (before after input : List ℕ) → IsPartedInput input before after → length before < length input
 stands_inside before after input parted =
     omega (arith, ap length parted.text, length-append before (parting_line ++ after), length-append parting_line after)
 
 -- the first place where it stands parts the input
 pub first_parts : (input : List ℕ) (at : ℕ) → at ≤ length input → LineStandsAt input at →
-    ((k : ℕ) → k < at → LineStandsAt input k → ⊥) → Parts input (take at input) (drop (at + 3) input)
+    ((k : ℕ) → k < at → LineStandsAt input k → ⊥) → InputParts input (take at input) (drop (at + 3) input)
 first_parts input at inside stands none =
     record {
       parted = parted_at input at stands;
       first = λ before after parted. by_place before after parted (cases_lt (length before) at);
     }
   where
-    by_place : (before after : List ℕ) → IsParted input before after → (length before < at) ⊎ (at ≤ length before) →
-        length (take at input) ≤ length before
+    by_place : (before after : List ℕ) → IsPartedInput input before after →
+        (length before < at) ⊎ (at ≤ length before) → length (take at input) ≤ length before
     by_place before after parted (inl less) =
         absurd (none (length before) less (stands_between before after input parted))
     by_place before after parted (inr more) = omega (arith, length-take-le at input inside, more)
@@ -80,8 +81,8 @@ no_parting input none before after parted =
     none (length before) (stands_inside before after input parted) (stands_between before after input parted)
 
 -- an input is parted in one way
-pub one_parting : (input script trace script' trace' : List ℕ) → Parts input script trace → Parts input script' trace' →
-    (script ≡ script') × (trace ≡ trace')
+pub one_parting : (input script trace script' trace' : List ℕ) → InputParts input script trace →
+    InputParts input script' trace' → (script ≡ script') × (trace ≡ trace')
 one_parting input script trace script' trace' parts parts' = (same_front, same_rest)
   where
     same_length : length script ≡ length script'
@@ -95,7 +96,7 @@ one_parting input script trace script' trace' parts parts' = (same_front, same_r
         ∙ ap (take (length script')) parts'.parted.text
         ∙ take-append_seam script' (parting_line ++ trace')
 
-    rest_of : (front rest : List ℕ) → IsParted input front rest → drop 3 (drop (length front) input) ≡ rest
+    rest_of : (front rest : List ℕ) → IsPartedInput input front rest → drop 3 (drop (length front) input) ≡ rest
     rest_of front rest parted =
         ap (λ xs. drop 3 (drop (length front) xs)) parted.text
         ∙ ap (drop 3) (drop-append_seam front (parting_line ++ rest)) ∙ drop-append_seam parting_line rest

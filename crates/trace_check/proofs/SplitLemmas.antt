@@ -2,7 +2,7 @@
 use Rattle.std.proofs.Common.{◌≡◌, ◌≢◌, ℕ, zero, suc, ◌+◌, ◌<◌, ◌≤◌, Bool, true, false, ◌==◌, cond, List, [], ◌∷◌, ◌++◌, length, take, drop, get_or, Option, Some, None, if◌then◌else◌, refl, ap, subst, ◌∙◌, arith}
 use Rattle.std.proofs.lemmas.Bool.Decides.{Decides-eqb, nat_tests}
 use Rattle.std.proofs.lemmas.List.{take_more}
-use Rattle.trace_check.specs.Split.{split_once, count_of, ◌>>=◌}
+use Rattle.trace_check.specs.Split.{split_once, byte_count, ◌>>=◌}
 
 same_byte : (a b : ℕ) → a ≡ b → (a == b) ≡ true
 same_byte a b e = grind (arith, nat_tests)
@@ -33,15 +33,15 @@ split_nowhere separator (byte ∷ bytes) none =
     ) refl
 
 -- a byte stands in two texts as often as in both
-pub count_of-append : (separator : ℕ) (front back : List ℕ) →
-    count_of separator (front ++ back) ≡ count_of separator front + count_of separator back
-count_of-append separator [] back = omega arith
-count_of-append separator (byte ∷ front) back = grind (arith, nat_tests, count_of-append separator front back)
+pub byte_count-append : (separator : ℕ) (front back : List ℕ) →
+    byte_count separator (front ++ back) ≡ byte_count separator front + byte_count separator back
+byte_count-append separator [] back = omega arith
+byte_count-append separator (byte ∷ front) back = grind (arith, nat_tests, byte_count-append separator front back)
 
 -- what was cut is the whole
 record IsCut (separator : ℕ) (bytes : List ℕ) (parts : List ℕ × List ℕ) : Type 0 where
   whole : bytes ≡ parts.0 ++ separator ∷ parts.1
-  count : count_of separator bytes ≡ count_of separator parts.1 + 1
+  count : byte_count separator bytes ≡ byte_count separator parts.1 + 1
 
 abbrev IsCutBy : ℕ → List ℕ → Option (List ℕ × List ℕ) → Type 0
 IsCutBy separator bytes None = Unit {0}
@@ -52,7 +52,7 @@ cut_behind : (separator byte : ℕ) (bytes : List ℕ) (cut : Option (List ℕ �
 cut_behind separator byte bytes None other is = tt
 cut_behind separator byte bytes (Some parts) other is = record {
   whole = ap (λ bs. byte ∷ bs) is.whole;
-  count = ap (λ test. cond test (count_of separator bytes + 1) (count_of separator bytes)) other ∙ is.count;
+  count = ap (λ test. cond test (byte_count separator bytes + 1) (byte_count separator bytes)) other ∙ is.count;
 }
 
 cut_here : (separator byte : ℕ) (bytes : List ℕ) (test : Bool) → (byte == separator) ≡ test →
@@ -61,7 +61,7 @@ cut_here : (separator byte : ℕ) (bytes : List ℕ) (test : Bool) → (byte == 
     (if test then Some ([], bytes) else (split_once separator bytes >>= λ parts. Some (byte ∷ parts.0, parts.1)))
 cut_here separator byte bytes true same is = record {
   whole = ap (λ b. b ∷ bytes) ((Decides-eqb byte separator).0 same);
-  count = ap (λ test. cond test (count_of separator bytes + 1) (count_of separator bytes)) same;
+  count = ap (λ test. cond test (byte_count separator bytes + 1) (byte_count separator bytes)) same;
 }
 cut_here separator byte bytes false other is = cut_behind separator byte bytes (split_once separator bytes) other is
 
@@ -75,16 +75,16 @@ split_is separator bytes parts e =
     let is : IsCut separator bytes parts = subst (IsCutBy separator bytes) e (is_cut separator bytes) in is.whole
 
 pub split_counts : (separator : ℕ) (bytes : List ℕ) (parts : List ℕ × List ℕ) →
-    split_once separator bytes ≡ Some parts → count_of separator bytes ≡ count_of separator parts.1 + 1
+    split_once separator bytes ≡ Some parts → byte_count separator bytes ≡ byte_count separator parts.1 + 1
 split_counts separator bytes parts e =
     let is : IsCut separator bytes parts = subst (IsCutBy separator bytes) e (is_cut separator bytes) in is.count
 
-no_more : (separator byte : ℕ) (bytes : List ℕ) → count_of separator (byte ∷ bytes) ≡ 0 →
-    ((byte == separator) ≡ false) × (count_of separator bytes ≡ 0)
+no_more : (separator byte : ℕ) (bytes : List ℕ) → byte_count separator (byte ∷ bytes) ≡ 0 →
+    ((byte == separator) ≡ false) × (byte_count separator bytes ≡ 0)
 no_more separator byte bytes none = (grind (arith, nat_tests), grind (arith, nat_tests))
 
 -- a text is cut behind what has no such byte
-pub split_first : (separator : ℕ) (front back : List ℕ) → count_of separator front ≡ 0 →
+pub split_first : (separator : ℕ) (front back : List ℕ) → byte_count separator front ≡ 0 →
     split_once separator (front ++ separator ∷ back) ≡ Some (front, back)
 split_first separator [] back none = rw (same_byte separator separator refl) refl
 split_first separator (byte ∷ front) back none =
@@ -92,20 +92,20 @@ split_first separator (byte ∷ front) back none =
     rw (parts.0, split_first separator front back parts.1) refl
 
 -- a text has no more of a byte than it has bytes
-pub count_of-le : (separator : ℕ) (bytes : List ℕ) → count_of separator bytes ≤ length bytes
-count_of-le separator [] = omega arith
-count_of-le separator (byte ∷ bytes) = grind (arith, nat_tests, count_of-le separator bytes)
+pub byte_count-le : (separator : ℕ) (bytes : List ℕ) → byte_count separator bytes ≤ length bytes
+byte_count-le separator [] = omega arith
+byte_count-le separator (byte ∷ bytes) = grind (arith, nat_tests, byte_count-le separator bytes)
 
 -- one byte more
 pub count_more : (separator i : ℕ) (bytes : List ℕ) → i < length bytes →
-    count_of separator (take (i + 1) bytes)
-    ≡ count_of separator (take i bytes) + count_of separator (get_or bytes i 0 ∷ [])
+    byte_count separator (take (i + 1) bytes)
+    ≡ byte_count separator (take i bytes) + byte_count separator (get_or bytes i 0 ∷ [])
 count_more separator i bytes within =
-    ap (count_of separator) (take_more bytes i 0 within)
-    ∙ count_of-append separator (take i bytes) (get_or bytes i 0 ∷ [])
+    ap (byte_count separator) (take_more bytes i 0 within)
+    ∙ byte_count-append separator (take i bytes) (get_or bytes i 0 ∷ [])
 
-pub count_of_same : (separator byte : ℕ) → byte ≡ separator → count_of separator (byte ∷ []) ≡ 1
-count_of_same separator byte e = rw (same_byte byte separator e) refl
+pub byte_count_same : (separator byte : ℕ) → byte ≡ separator → byte_count separator (byte ∷ []) ≡ 1
+byte_count_same separator byte e = rw (same_byte byte separator e) refl
 
-pub count_of_other : (separator byte : ℕ) → byte ≢ separator → count_of separator (byte ∷ []) ≡ 0
-count_of_other separator byte e = rw (other_byte byte separator e) refl
+pub byte_count_other : (separator byte : ℕ) → byte ≢ separator → byte_count separator (byte ∷ []) ≡ 0
+byte_count_other separator byte e = rw (other_byte byte separator e) refl

@@ -1,22 +1,22 @@
 -- The forms of the command, by their words.
 use Rattle.std.specs.Prelude.{◌≡◌, ℕ, Bool, true, false, List, [], ◌∷◌, codes}
-use Rattle.trace_check.specs.declared.form.Form.{Form}
-use Rattle.trace_check.specs.declared.form.Form.TheVariants as forms
+use Rattle.trace_check.specs.declared.form.CheckForm.{CheckForm}
+use Rattle.trace_check.specs.declared.form.CheckForm.TheVariants as forms
 
 -- the words of a form: none, or the one word for a reactor over a network
-abbrev pub words_of : Form → List (List ℕ)
-words_of forms.Told = []
-words_of forms.Untold = codes "--net" ∷ []
+abbrev pub check_words_of : CheckForm → List (List ℕ)
+check_words_of forms.Told = []
+check_words_of forms.Untold = codes "--net" ∷ []
 
 -- whether the reactor of the trace tells its bytes
-abbrev pub tells : Form → Bool
-tells forms.Told = true
-tells forms.Untold = false
+abbrev pub form_tells : CheckForm → Bool
+form_tells forms.Told = true
+form_tells forms.Untold = false
 
 -- the words are those of this form
-abbrev pub IsForm : List (List ℕ) → Form → Type 0
-IsForm words form = words ≡ words_of form
+abbrev pub IsCheckForm : List (List ℕ) → CheckForm → Type 0
+IsCheckForm words form = words ≡ check_words_of form
 
 -- the words are those of a form
-abbrev pub HasForm : List (List ℕ) → Type 0
-HasForm words = (form : Form) × IsForm words form
+abbrev pub HasCheckForm : List (List ℕ) → Type 0
+HasCheckForm words = (form : CheckForm) × IsCheckForm words form

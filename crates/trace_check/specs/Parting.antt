@@ -13,8 +13,8 @@ abbrev pub most_input : ℕ
 most_input = most_bytes + length parting_line + most_trace
 
 -- the bytes of which a session has any use: one more shows that an input is too long
-abbrev pub most_read : ℕ
-most_read = most_input + 1
+abbrev pub most_input_read : ℕ
+most_input_read = most_input + 1
 
 -- whole lines: nothing, or a text that ends with LF
 abbrev pub AreLines : List ℕ → Type 0
@@ -26,15 +26,16 @@ pub record LineStandsAt (input : List ℕ) (at : ℕ) : Type 0 where
   pub lines : AreLines (take at input)
 
 -- between these two stands a line that is exactly `--`
-pub record IsParted (input before after : List ℕ) : Type 0 where
+pub record IsPartedInput (input before after : List ℕ) : Type 0 where
   pub text : input ≡ before ++ (parting_line ++ after)
   pub lines : AreLines before
 
 -- the first such line parts the input into its script and its trace
-pub record Parts (input script trace : List ℕ) : Type 0 where
-  pub parted : IsParted input script trace
-  pub first : (before after : List ℕ) → IsParted input before after → length script ≤ length before
+pub record InputParts (input script trace : List ℕ) : Type 0 where
+  pub parted : IsPartedInput input script trace
+  pub first : (before after : List ℕ) → IsPartedInput input before after
+      → length script ≤ length before
 
 -- there is no such line
 abbrev pub HasNoParting : List ℕ → Type 0
-HasNoParting input = (before after : List ℕ) → IsParted input before after → ⊥
+HasNoParting input = (before after : List ℕ) → IsPartedInput input before after → ⊥

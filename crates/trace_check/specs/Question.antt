@@ -4,17 +4,17 @@ use Rattle.asio_types.specs.declared.event.Event.{Event}
 use Rattle.session_script.specs.Grammar.{IsScript, first_fault}
 use Rattle.session_script.specs.Script.{ScriptModel}
 use Rattle.session_script.specs.declared.refusal.Refusal.{Refusal}
-use Rattle.trace_check.specs.Parting.{HasNoParting, Parts, most_input}
+use Rattle.trace_check.specs.Parting.{HasNoParting, InputParts, most_input}
 use Rattle.trace_check.specs.Reading.{IsBadTrace, IsTraceOf, most_trace}
 
 -- the input isn't too long and has these two parts
 pub record HasParts (input script_text trace_text : List ℕ) : Type 0 where
   pub few : length input ≤ most_input
-  pub parts : Parts input script_text trace_text
+  pub parts : InputParts input script_text trace_text
 
 -- the first part is the text of this script, and the second one isn't too long and is the trace of
 -- these events
-pub record Asks (input : List ℕ) (script : ScriptModel) (events : List Event) : Type 0 where
+pub record IsQuestionOf (input : List ℕ) (script : ScriptModel) (events : List Event) : Type 0 where
   pub script_text : List ℕ
   pub trace_text : List ℕ
   pub has : HasParts input script_text trace_text
@@ -23,7 +23,7 @@ pub record Asks (input : List ℕ) (script : ScriptModel) (events : List Event) 
   pub is_trace : IsTraceOf trace_text events
 
 -- the first part is no script, and this is its first fault
-pub record HasFault (input : List ℕ) (refusal : Refusal) : Type 0 where
+pub record HasScriptFault (input : List ℕ) (refusal : Refusal) : Type 0 where
   pub script_text : List ℕ
   pub trace_text : List ℕ
   pub has : HasParts input script_text trace_text

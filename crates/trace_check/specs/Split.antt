@@ -14,7 +14,7 @@ split_once separator (byte ∷ bytes) =
     else (split_once separator bytes >>= λ parts. Some (byte ∷ parts.0, parts.1))
 
 -- how often a byte stands in a text
-abbrev pub count_of : ℕ → List ℕ → ℕ
-count_of separator [] = 0
-count_of separator (byte ∷ bytes) =
-    if byte == separator then count_of separator bytes + 1 else count_of separator bytes
+abbrev pub byte_count : ℕ → List ℕ → ℕ
+byte_count separator [] = 0
+byte_count separator (byte ∷ bytes) =
+    if byte == separator then byte_count separator bytes + 1 else byte_count separator bytes

@@ -8,34 +8,34 @@ use Rattle.trace_check.specs.Line.{numbered_line}
 use Rattle.trace_check.specs.declared.status.CheckStatus.{CheckStatus}
 use Rattle.trace_check.specs.declared.status.CheckStatus.TheVariants as status
 
-abbrev pub number_of : CheckStatus → ℕ
-number_of status.Done = 0
-number_of status.Usage = 1
-number_of status.Refused = 2
-number_of status.ReadFault = 3
-number_of status.WriteFault = 4
-number_of status.NoMemory = 6
-number_of status.BadTrace = 7
-number_of status.Illegal = 8
+abbrev pub check_number_of : CheckStatus → ℕ
+check_number_of status.Done = 0
+check_number_of status.Usage = 1
+check_number_of status.Refused = 2
+check_number_of status.ReadFault = 3
+check_number_of status.WriteFault = 4
+check_number_of status.NoMemory = 6
+check_number_of status.BadTrace = 7
+check_number_of status.Illegal = 8
 
 -- a line of the program
-abbrev pub note_line : List ℕ → List ℕ
-note_line text = codes "asio_check: " ++ text ++ line_end
+abbrev pub check_note_line : List ℕ → List ℕ
+check_note_line text = codes "asio_check: " ++ text ++ line_end
 
 -- the note of a status; those of a refusal and of a bad trace name what is wrong
-abbrev pub note_of : CheckStatus → List ℕ
-note_of status.Done = []
-note_of status.Usage = note_line (codes "usage: asio_check [--net]")
-note_of status.Refused = []
-note_of status.ReadFault = note_line (codes "read fault")
-note_of status.WriteFault = note_line (codes "write fault")
-note_of status.NoMemory = note_line (codes "no memory")
-note_of status.BadTrace = []
-note_of status.Illegal = []
+abbrev pub check_note_of : CheckStatus → List ℕ
+check_note_of status.Done = []
+check_note_of status.Usage = check_note_line (codes "usage: asio_check [--net]")
+check_note_of status.Refused = []
+check_note_of status.ReadFault = check_note_line (codes "read fault")
+check_note_of status.WriteFault = check_note_line (codes "write fault")
+check_note_of status.NoMemory = check_note_line (codes "no memory")
+check_note_of status.BadTrace = []
+check_note_of status.Illegal = []
 
 -- the note of a refusal
-abbrev pub refused_note : Refusal → List ℕ
-refused_note refusal =
+abbrev pub check_refused_note : Refusal → List ℕ
+check_refused_note refusal =
     refusal_note (codes "asio_check: refused ") (number_of_rule refusal.rule) refusal.line
     refusal.token
 

@@ -1,7 +1,7 @@
 ghost use Rattle.std.specs.Prelude.{◌≡◌, OnOk, OnErr};
 ghost use Rattle.asio_types.specs.Faults.{CountsFaults};
 ghost use Rattle.asio_types.specs.Sink.{Extends, ExtendsByPart};
-ghost use Rattle.trace_check.specs.Ending.{note_at, status_of};
+ghost use Rattle.trace_check.specs.Ending.{check_note_at, check_status_of};
 
 use crate::line::write_numbered;
 use crate::status::CheckStatus;
@@ -12,7 +12,7 @@ use text_io::write_refusal;
 
 /// How a session ended, before its note is written.
 #[derive(Clone, Copy, Debug, PartialEq, Eq)]
-pub(crate) enum Ending {
+pub(crate) enum CheckEnding {
     /// This verdict was written.
     Judged(Verdict),
     /// The words are no form of the command.
@@ -29,41 +29,45 @@ pub(crate) enum Ending {
     BadTrace(u32),
 }
 
-impl Ending {
+impl CheckEnding {
     /// The status that is answered.
     pub(crate) fn status(self) -> CheckStatus
-        ensures { result ≡ status_of self }
+        ensures { result ≡ check_status_of self }
     {
         match self {
-            Ending::Judged(Verdict::Legal) => CheckStatus::Done,
-            Ending::Judged(_) => CheckStatus::Illegal,
-            Ending::Usage => CheckStatus::Usage,
-            Ending::Refused(_) => CheckStatus::Refused,
-            Ending::ReadFault => CheckStatus::ReadFault,
-            Ending::WriteFault => CheckStatus::WriteFault,
-            Ending::NoMemory => CheckStatus::NoMemory,
-            Ending::BadTrace(_) => CheckStatus::BadTrace,
+            CheckEnding::Judged(Verdict::Legal) => CheckStatus::Done,
+            CheckEnding::Judged(_) => CheckStatus::Illegal,
+            CheckEnding::Usage => CheckStatus::Usage,
+            CheckEnding::Refused(_) => CheckStatus::Refused,
+            CheckEnding::ReadFault => CheckStatus::ReadFault,
+            CheckEnding::WriteFault => CheckStatus::WriteFault,
+            CheckEnding::NoMemory => CheckStatus::NoMemory,
+            CheckEnding::BadTrace(_) => CheckStatus::BadTrace,
         }
     }
 }
 
 /// Writes the note of an ending, piece by piece. Takes no memory.
-pub(crate) fn write_note<N: Sink>(notes: &mut N, ending: Ending) -> Result<(), Failed>
+pub(crate) fn write_note<N: Sink>(notes: &mut N, ending: CheckEnding) -> Result<(), Failed>
     ensures whole { OnOk result
-        (Extends (N.written notes.old) (note_at ending) (N.written notes.new)) }
+        (Extends (N.written notes.old) (check_note_at ending) (N.written notes.new)) }
     ensures part { OnErr result
-        (ExtendsByPart (N.written notes.old) (note_at ending) (N.written notes.new)) }
+        (ExtendsByPart (N.written notes.old) (check_note_at ending) (N.written notes.new)) }
     ensures counts { CountsFaults result (N.faults notes.old) (N.faults notes.new) }
 {
     match ending {
-        Ending::Refused(refusal) => write_refusal(
+        CheckEnding::Refused(refusal) => write_refusal(
             notes,
             b"asio_check: refused ",
             refusal.rule.number(),
             refusal.line,
             refusal.token,
         ),
-        Ending::BadTrace(line) => write_numbered(notes, b"asio_check: bad trace at line ", line),
+        CheckEnding::BadTrace(line) => write_numbered(
+            notes,
+            b"asio_check: bad trace at line ",
+            line,
+        ),
         other => write_all(notes, other.status().note()),
     }
 }

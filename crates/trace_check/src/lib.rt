@@ -15,9 +15,9 @@ mod session;
 mod status;
 mod verdict;
 
-pub use form::Form;
+pub use form::CheckForm;
 pub use law::{legal_traces_are_found_legal, verdicts_are_unique};
-pub use parting::{MOST_INPUT, MOST_READ};
+pub use parting::{MOST_INPUT, MOST_INPUT_READ};
 pub use reading::{MOST_TRACE, TraceFault, read_trace};
 pub use session::check_session;
 pub use status::CheckStatus;

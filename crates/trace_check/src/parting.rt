@@ -1,5 +1,5 @@
 ghost use Rattle.std.specs.Prelude.{◌≡◌, ◌+◌, ◌≤◌, ◌↔◌, length, take, IsTrue, IfSome, IfNone};
-ghost use Rattle.trace_check.specs.Parting.{AreLines, HasNoParting, Parts, LineStandsAt, parting_line};
+ghost use Rattle.trace_check.specs.Parting.{AreLines, HasNoParting, InputParts, LineStandsAt, parting_line};
 
 use crate::reading::MOST_TRACE;
 use session_script::MOST_BYTES;
@@ -11,7 +11,7 @@ const PARTING_LINE: &[u8] = b"--\n";
 pub const MOST_INPUT: usize = MOST_BYTES + PARTING_LINE.len() + MOST_TRACE;
 
 /// The bytes of which a session has any use: one more shows that an input is too long.
-pub const MOST_READ: usize = MOST_INPUT + 1;
+pub const MOST_INPUT_READ: usize = MOST_INPUT + 1;
 
 /// The two parts of an input.
 #[derive(Clone, Copy)]
@@ -46,7 +46,8 @@ fn stands_at(input: &[u8], at: usize) -> bool
 
 /// The parts of an input round the first line that parts it. Looks at each byte once.
 pub(crate) fn part<'a>(input: &'a [u8]) -> Option<Parted<'a>>
-    ensures some { IfSome result (λ parted. Parts input.now parted.script.now parted.trace.now) }
+    ensures some { IfSome result
+        (λ parted. InputParts input.now parted.script.now parted.trace.now) }
     ensures none { IfNone result (HasNoParting input.now) }
 {
     for at in 0..input.len() {

@@ -1,6 +1,6 @@
 ghost use Rattle.std.specs.Prelude.{◌≡◌, ◌<◌, ◌^◌, ℕ, Err, IfOk, length};
 ghost use Rattle.session_script.specs.declared.refusal.Refusal.{Refusal as Refusal_of};
-ghost use Rattle.trace_check.specs.Question.{Asks, HasFault, HasNoTrace};
+ghost use Rattle.trace_check.specs.Question.{HasNoTrace, HasScriptFault, IsQuestionOf};
 
 use crate::parting::{MOST_INPUT, part};
 use crate::reading::{TraceFault, read_trace};
@@ -29,10 +29,10 @@ pub(crate) enum NoQuestion {
 /// Reads the script and the trace of an input, in this order.
 pub(crate) fn question_of(alloc: Global, input: &[u8]) -> Result<Question, NoQuestion>
     ensures asks { IfOk result
-        (λ question. Asks input.now question.script question.history.events) }
+        (λ question. IsQuestionOf input.now question.script question.history.events) }
     ensures few { IfOk result (λ question. length question.history.events < 2 ^ 32) }
     ensures refused { (refusal : Refusal_of) → result ≡ Err (NoQuestion.Refused refusal) →
-        HasFault input.now refusal }
+        HasScriptFault input.now refusal }
     ensures bad { (line : ℕ) → result ≡ Err (NoQuestion.BadTrace line) → HasNoTrace input.now line }
 {
     if input.len() > MOST_INPUT {

@@ -2,7 +2,7 @@ ghost use Rattle.std.specs.Prelude.{◌≡◌, ◌≤◌, ◌+◌, ℕ, List, le
 ghost use Rattle.std.specs.Result.{IsOkUnless};
 ghost use Rattle.asio_types.specs.declared.event.Event.{Event};
 ghost use Rattle.history_book.specs.Trace.{HasItsNumbers, line_of};
-ghost use Rattle.trace_check.specs.Split.{count_of};
+ghost use Rattle.trace_check.specs.Split.{byte_count};
 ghost use Rattle.trace_check.specs.Reading.{most_trace, IsTraceOf, IsBadTrace, IsFaultOf, NamesLine, BeginsWithEvent};
 ghost use Rattle.trace_check.specs.declared.reading.TraceFault.TheVariants.{NoMemory};
 
@@ -42,7 +42,7 @@ impl From<NoMemory> for TraceFault {
 /// How many lines end in a text.
 fn line_count(bytes: &[u8]) -> u32
     requires { length bytes.now ≤ most_trace }
-    ensures { result ≡ count_of 10 bytes.now }
+    ensures { result ≡ byte_count 10 bytes.now }
 {
     let mut count = 0;
     for byte in bytes {
@@ -57,7 +57,8 @@ fn line_count(bytes: &[u8]) -> u32
 fn first_event(text: &[u8]) -> Option<(Event, &[u8])>
     ensures event { MatchOption result (BeginsWithEvent text.now → ⊥)
         (λ found. HasItsNumbers found.0 × (text.now ≡ line_of found.0 ++ found.1.now)) }
-    ensures lines { IfSome result (λ found. count_of 10 text.now ≡ count_of 10 found.1.now + 1) }
+    ensures lines { IfSome result
+        (λ found. byte_count 10 text.now ≡ byte_count 10 found.1.now + 1) }
 {
     let (line, rest) = split_once(text, b'\n')?;
     let event = event_of(line)?;

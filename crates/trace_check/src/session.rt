@@ -5,21 +5,21 @@ ghost use Rattle.session_script.specs.declared.refusal.Refusal.{Refusal as Refus
 ghost use Rattle.text_io.specs.Counts.{CountsFailures, Stood};
 ghost use Rattle.text_io.specs.Seen.{Writes, WritesPart, seen_by};
 ghost use Rattle.text_io.specs.Text.{TakesSome};
-ghost use Rattle.trace_check.specs.Answer.{Answers, CountsReads, CountsWrites, Decides, IsBad, IsJudged, IsRefused, LeavesOut, Says};
-ghost use Rattle.trace_check.specs.Ending.{note_at, status_of};
-ghost use Rattle.trace_check.specs.Form.{HasForm, IsForm, tells};
+ghost use Rattle.trace_check.specs.Answer.{CheckAnswers, CheckCountsReads, CheckCountsWrites, CheckSays, Decides, IsBad, IsJudged, IsRefused, LeavesOut};
+ghost use Rattle.trace_check.specs.Ending.{check_note_at, check_status_of};
+ghost use Rattle.trace_check.specs.Form.{HasCheckForm, IsCheckForm, form_tells};
 ghost use Rattle.trace_check.specs.Line.{verdict_line};
-ghost use Rattle.trace_check.specs.Parting.{most_read};
-ghost use Rattle.trace_check.specs.Question.{Asks, HasFault, HasNoTrace};
+ghost use Rattle.trace_check.specs.Parting.{most_input_read};
+ghost use Rattle.trace_check.specs.Question.{HasNoTrace, HasScriptFault, IsQuestionOf};
 ghost use Rattle.trace_check.specs.Verdict.{IsVerdict};
-ghost use Rattle.trace_check.specs.declared.form.Form.{Form as Form_of};
+ghost use Rattle.trace_check.specs.declared.form.CheckForm.{CheckForm as CheckForm_of};
 ghost use Rattle.trace_check.specs.declared.status.CheckStatus.TheVariants as status;
 ghost use Rattle.trace_check.specs.declared.verdict.Verdict.{Verdict as Verdict_of};
 
-use crate::ending::{Ending, write_note};
-use crate::form::{Form, form_of};
+use crate::ending::{CheckEnding, write_note};
+use crate::form::{CheckForm, form_of};
 use crate::line::write_verdict;
-use crate::parting::MOST_READ;
+use crate::parting::MOST_INPUT_READ;
 use crate::question::{NoQuestion, Question, question_of};
 use crate::status::CheckStatus;
 use crate::verdict::{Verdict, check};
@@ -30,19 +30,19 @@ use text_io::{Unfinished, read_text};
 /// Judges the events of a question, and writes the verdict's line.
 fn judge<K: Sink>(
     alloc: Global,
-    form: Form,
+    form: CheckForm,
     question: &Question,
     out: &mut K,
 ) -> Result<Verdict, Unfinished>
     requires { length question.now.history.events < 2 ^ 32 }
     ensures verdict { IfOk result
-        (IsVerdict question.now.script (tells form) question.now.history.events) }
+        (IsVerdict question.now.script (form_tells form) question.now.history.events) }
     ensures written { IfOk result (λ verdict.
         Writes (seen_by K.written K.faults out.old out.new)
         (verdict_line verdict (length question.now.history.events))) }
     ensures cut_off { result ≡ Err Unfinished.Failed →
         (verdict : Verdict_of)
-        × IsVerdict question.now.script (tells form) question.now.history.events verdict
+        × IsVerdict question.now.script (form_tells form) question.now.history.events verdict
         × WritesPart (seen_by K.written K.faults out.old out.new)
         (verdict_line verdict (length question.now.history.events)) }
     ensures quiet { result ≡ Err Unfinished.NoMemory → out.new ≡ out.old }
@@ -59,37 +59,44 @@ fn judge<K: Sink>(
 }
 
 /// The session without its notes.
-fn end<S: Source, K: Sink>(alloc: Global, words: &[String], source: &mut S, out: &mut K) -> Ending
-    ensures says { Says
+fn end<S: Source, K: Sink>(
+    alloc: Global,
+    words: &[String],
+    source: &mut S,
+    out: &mut K,
+) -> CheckEnding
+    ensures says { CheckSays
         (record {
           words = map string_bytes words.now;
           source = seen_by S.left S.faults source.old source.new;
           out = seen_by K.written K.faults out.old out.new;
-        }) (status_of result) (note_at result) }
-    ensures quiet { LeavesOut (status_of result) → out.new ≡ out.old }
-    ensures unread { status_of result ≡ status.Usage → source.new ≡ source.old }
-    ensures taken { TakesSome most_read (S.left source.old) (S.left source.new) }
-    ensures reads { CountsReads (status_of result) (S.faults source.old) (S.faults source.new) }
-    ensures writes { CountsWrites (status_of result) (K.faults out.old) (K.faults out.new) }
+        }) (check_status_of result) (check_note_at result) }
+    ensures quiet { LeavesOut (check_status_of result) → out.new ≡ out.old }
+    ensures unread { check_status_of result ≡ status.Usage → source.new ≡ source.old }
+    ensures taken { TakesSome most_input_read (S.left source.old) (S.left source.new) }
+    ensures reads { CheckCountsReads (check_status_of result)
+        (S.faults source.old) (S.faults source.new) }
+    ensures writes { CheckCountsWrites (check_status_of result)
+        (K.faults out.old) (K.faults out.new) }
 {
     let Some(form) = form_of(words) else {
-        return Ending::Usage;
+        return CheckEnding::Usage;
     };
-    let input = match read_text(alloc, source, MOST_READ) {
+    let input = match read_text(alloc, source, MOST_INPUT_READ) {
         Ok(input) => input,
-        Err(Unfinished::Failed) => return Ending::ReadFault,
-        Err(Unfinished::NoMemory) => return Ending::NoMemory,
+        Err(Unfinished::Failed) => return CheckEnding::ReadFault,
+        Err(Unfinished::NoMemory) => return CheckEnding::NoMemory,
     };
     let question = match question_of(alloc, input.as_slice()) {
         Ok(question) => question,
-        Err(NoQuestion::Refused(refusal)) => return Ending::Refused(refusal),
-        Err(NoQuestion::BadTrace(line)) => return Ending::BadTrace(line),
-        Err(NoQuestion::NoMemory) => return Ending::NoMemory,
+        Err(NoQuestion::Refused(refusal)) => return CheckEnding::Refused(refusal),
+        Err(NoQuestion::BadTrace(line)) => return CheckEnding::BadTrace(line),
+        Err(NoQuestion::NoMemory) => return CheckEnding::NoMemory,
     };
     match judge(alloc, form, &question, out) {
-        Ok(verdict) => Ending::Judged(verdict),
-        Err(Unfinished::Failed) => Ending::WriteFault,
-        Err(Unfinished::NoMemory) => Ending::NoMemory,
+        Ok(verdict) => CheckEnding::Judged(verdict),
+        Err(Unfinished::Failed) => CheckEnding::WriteFault,
+        Err(Unfinished::NoMemory) => CheckEnding::NoMemory,
     }
 }
 
@@ -102,8 +109,8 @@ fn end<S: Source, K: Sink>(alloc: Global, words: &[String], source: &mut S, out:
 /// number of all lines. Marks don't matter. The status says how far this went, with its cause; the
 /// notes get the status's note, and change no status.
 ///
-/// Reads at most `MOST_READ` bytes. With the statuses 1, 2, 3, 6 and 7 nothing was written. Memory
-/// is taken for the input, the script, the events and a replay, before anything is written.
+/// Reads at most `MOST_INPUT_READ` bytes. With the statuses 1, 2, 3, 6 and 7 nothing was written.
+/// Memory is taken for the input, the script, the events and a replay, before anything is written.
 pub fn check_session<S: Source, K: Sink, N: Sink>(
     alloc: Global,
     words: &[String],
@@ -111,7 +118,7 @@ pub fn check_session<S: Source, K: Sink, N: Sink>(
     out: &mut K,
     notes: &mut N,
 ) -> CheckStatus
-    ensures answer { Answers
+    ensures answer { CheckAnswers
         (record {
           words = map string_bytes words.now;
           source = seen_by S.left S.faults source.old source.new;
@@ -120,30 +127,30 @@ pub fn check_session<S: Source, K: Sink, N: Sink>(
     // With these statuses nothing was written.
     ensures quiet { LeavesOut result → out.new ≡ out.old }
     ensures unread { result ≡ status.Usage → source.new ≡ source.old }
-    ensures taken { TakesSome most_read (S.left source.old) (S.left source.new) }
+    ensures taken { TakesSome most_input_read (S.left source.old) (S.left source.new) }
     // Status 3 comes exactly where the source's count of faults rose, and status 4 exactly where
     // out's did.
-    ensures reads { CountsReads result (S.faults source.old) (S.faults source.new) }
-    ensures writes { CountsWrites result (K.faults out.old) (K.faults out.new) }
+    ensures reads { CheckCountsReads result (S.faults source.old) (S.faults source.new) }
+    ensures writes { CheckCountsWrites result (K.faults out.old) (K.faults out.new) }
     // A whole input whose reading and writing don't fail is judged, unless memory runs out.
     ensures complete { (input : List ℕ) (script : ScriptModel) (events : List Event_of) →
-        HasForm (map string_bytes words.now) → S.left source.old ≡ Some input →
-        Asks input script events → Stood (S.faults source.old) (S.faults source.new) →
+        HasCheckForm (map string_bytes words.now) → S.left source.old ≡ Some input →
+        IsQuestionOf input script events → Stood (S.faults source.old) (S.faults source.new) →
         Stood (K.faults out.old) (K.faults out.new) → IsJudged result }
     // An input whose script has a fault is refused, and one that has no trace is bad, unless
     // reading fails or memory runs out.
     ensures refused { (input : List ℕ) (refusal : Refusal_of) →
-        HasForm (map string_bytes words.now) → S.left source.old ≡ Some input →
-        HasFault input refusal → Stood (S.faults source.old) (S.faults source.new) →
+        HasCheckForm (map string_bytes words.now) → S.left source.old ≡ Some input →
+        HasScriptFault input refusal → Stood (S.faults source.old) (S.faults source.new) →
         IsRefused result }
-    ensures bad { (input : List ℕ) (line : ℕ) → HasForm (map string_bytes words.now) →
+    ensures bad { (input : List ℕ) (line : ℕ) → HasCheckForm (map string_bytes words.now) →
         S.left source.old ≡ Some input → HasNoTrace input line →
         Stood (S.faults source.old) (S.faults source.new) → IsBad result }
     // A verdict of a whole input is the right one: status 0 for a legal history, and status 8 for
     // no other.
-    ensures right { (form : Form_of) (input : List ℕ) (script : ScriptModel)
-        (events : List Event_of) → IsForm (map string_bytes words.now) form →
-        S.left source.old ≡ Some input → Asks input script events →
+    ensures right { (form : CheckForm_of) (input : List ℕ) (script : ScriptModel)
+        (events : List Event_of) → IsCheckForm (map string_bytes words.now) form →
+        S.left source.old ≡ Some input → IsQuestionOf input script events →
         Decides result script form events }
 {
     let ending = end(alloc, words, source, out);

@@ -1,5 +1,5 @@
 ghost use Rattle.std.specs.Prelude.{◌≡◌};
-ghost use Rattle.trace_check.specs.Status.{note_of, number_of};
+ghost use Rattle.trace_check.specs.Status.{check_note_of, check_number_of};
 
 /// How a session of the checker ended: the program's exit status.
 #[derive(Clone, Copy, Debug, PartialEq, Eq)]
@@ -25,7 +25,7 @@ pub enum CheckStatus {
 impl CheckStatus {
     /// The exit status. 5 is missing: it is that of a failed reactor, of which there is none here.
     pub fn number(self) -> u8
-        ensures { result ≡ number_of self }
+        ensures { result ≡ check_number_of self }
     {
         match self {
             CheckStatus::Done => 0,
@@ -42,7 +42,7 @@ impl CheckStatus {
     /// The line that is written to the notes: none with a verdict, and none here for a refusal or a
     /// bad trace, whose lines name what is wrong.
     pub fn note(self) -> &'static [u8]
-        ensures { result.now ≡ note_of self }
+        ensures { result.now ≡ check_note_of self }
     {
         match self {
             CheckStatus::Done

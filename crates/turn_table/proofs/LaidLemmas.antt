@@ -6,8 +6,8 @@ use mathlib.Core.Option.{some}
 use lib.ListN.{get_elem?, length-map, get_or-append}
 use lib.Seq.{get_or_at}
 use Rattle.std.specs.Global.{Vec}
-use Rattle.turn_table.specs.declared.place.Place.{Place}
-use Rattle.turn_table.specs.declared.place.Place.TheVariants.{Empty, Value, Room}
+use Rattle.turn_table.specs.declared.place.TablePlace.{TablePlace}
+use Rattle.turn_table.specs.declared.place.TablePlace.TheVariants.{Empty, Value, Room}
 use Rattle.turn_table.specs.Laid.{AreAtHome, AreLaid}
 
 abbrev tail_of : {A : Type 0} → List A → List A
@@ -26,26 +26,26 @@ last_same xs ys x y e =
 
 module _ {T : Type 0} where
   -- the values that were not laid yet stand last first
-  pub record Laying (all : List T) (values : Vec T) (places : Vec (Place T)) : Type 0 where
+  pub record Laying (all : List T) (values : Vec T) (places : Vec (TablePlace T)) : Type 0 where
     pub laid : places.items ++ map Value (reverse values.items) ≡ map Value all
     pub room : length all ≤ vec_capacity values
     pub spare : vec_len places + vec_len values + 1 ≤ vec_capacity places
 
-  abbrev pub AreValues : List (Place T) → Type 0
+  abbrev pub AreValues : List (TablePlace T) → Type 0
   AreValues [] = Unit {0}
   AreValues (Value v ∷ ps) = AreValues ps
   AreValues (Empty ∷ ps) = ⊥
   AreValues (Room r ∷ ps) = ⊥
 
   -- the values that lie in the places
-  abbrev pub values_of : List (Place T) → List T
+  abbrev pub values_of : List (TablePlace T) → List T
   values_of [] = []
   values_of (Value v ∷ ps) = v ∷ values_of ps
   values_of (Empty ∷ ps) = values_of ps
   values_of (Room r ∷ ps) = values_of ps
 
   -- the values that were picked up stand last first
-  pub record Picking (all : List T) (places : Vec (Place T)) (room : Vec T) : Type 0 where
+  pub record Picking (all : List T) (places : Vec (TablePlace T)) (room : Vec T) : Type 0 where
     pub values : AreValues places.items
     pub kept : values_of places.items ++ reverse room.items ≡ all
     pub spare : vec_len places + vec_len room ≤ vec_capacity room
@@ -58,25 +58,25 @@ module _ {T : Type 0} where
   values_of-map [] = refl
   values_of-map (v ∷ vs) = ap (λ l. v ∷ l) (values_of-map vs)
 
-  pub AreValues-front : (ps : List (Place T)) (p : Place T) → AreValues (ps ++ p ∷ []) → AreValues ps
+  pub AreValues-front : (ps : List (TablePlace T)) (p : TablePlace T) → AreValues (ps ++ p ∷ []) → AreValues ps
   AreValues-front [] p h = tt
   AreValues-front (Value v ∷ ps) p h = AreValues-front ps p h
   AreValues-front (Empty ∷ ps) p h = h
   AreValues-front (Room r ∷ ps) p h = h
 
-  pub AreValues-last : (ps : List (Place T)) (p : Place T) → AreValues (ps ++ p ∷ []) → AreValues (p ∷ [])
+  pub AreValues-last : (ps : List (TablePlace T)) (p : TablePlace T) → AreValues (ps ++ p ∷ []) → AreValues (p ∷ [])
   AreValues-last [] p h = h
   AreValues-last (Value v ∷ ps) p h = AreValues-last ps p h
   AreValues-last (Empty ∷ ps) p h = absurd h
   AreValues-last (Room r ∷ ps) p h = absurd h
 
-  pub values_of-append : (ps : List (Place T)) (v : T) → values_of (ps ++ Value v ∷ []) ≡ values_of ps ++ v ∷ []
+  pub values_of-append : (ps : List (TablePlace T)) (v : T) → values_of (ps ++ Value v ∷ []) ≡ values_of ps ++ v ∷ []
   values_of-append [] v = refl
   values_of-append (Value w ∷ ps) v = ap (λ l. w ∷ l) (values_of-append ps v)
   values_of-append (Empty ∷ ps) v = values_of-append ps v
   values_of-append (Room r ∷ ps) v = values_of-append ps v
 
-  pub all_laid : (given all : List T) (values left : Vec T) (places full : Vec (Place T)) → all ≡ given →
+  pub all_laid : (given all : List T) (values left : Vec T) (places full : Vec (TablePlace T)) → all ≡ given →
       Laying all values places → values.items ≡ [] → left.items ≡ [] → vec_capacity left ≡ vec_capacity values →
       full.items ≡ places.items ++ Room left ∷ [] → AreLaid given full.items
   all_laid given all values left places full same h none empty cap pushed = record {
@@ -88,16 +88,17 @@ module _ {T : Type 0} where
         ∙ (ap (λ vs. places.items ++ map Value (reverse vs)) (sym none) ∙ (h.laid ∙ ap (map Value) same)));
   }
 
-  abbrev room_or : Vec T → Place T → Vec T
+  abbrev room_or : Vec T → TablePlace T → Vec T
   room_or d (Room r) = r
   room_or d _ = d
 
-  abbrev pub value_or : T → Place T → T
+  abbrev pub value_or : T → TablePlace T → T
   value_or d (Value v) = v
   value_or d _ = d
 
-  pub begins : (values : List T) (all left : Vec (Place T)) (last : Place T) (room : Vec T) → AreLaid values all.items →
-      all.items ≡ left.items ++ last ∷ [] → last ≡ Room room → Picking (values_of left.items) left room
+  pub begins : (values : List T) (all left : Vec (TablePlace T)) (last : TablePlace T) (room : Vec T) →
+      AreLaid values all.items → all.items ≡ left.items ++ last ∷ [] → last ≡ Room room →
+      Picking (values_of left.items) left room
   begins values all left last room h popped is =
       let same = last_same left.items (map Value values) last (Room h.room) (sym popped ∙ h.are) in
       let its : h.room ≡ room = ap (room_or room) (sym same.1 ∙ is) in
@@ -110,12 +111,12 @@ module _ {T : Type 0} where
             let n = left.ok.0 in let m = room.ok.0 ∙ ap length empty in omega (arith);
       }
 
-  pub is_value : (p : Place T) → AreValues (p ∷ []) → ((v : T) → p ≡ Value v → ⊥) → ⊥
+  pub is_value : (p : TablePlace T) → AreValues (p ∷ []) → ((v : T) → p ≡ Value v → ⊥) → ⊥
   is_value (Value v) h none = none v refl
   is_value Empty h none = h
   is_value (Room r) h none = h
 
-  pub picks : (all : List T) (places left : Vec (Place T)) (room more : Vec T) (place : Place T) (value : T) →
+  pub picks : (all : List T) (places left : Vec (TablePlace T)) (room more : Vec T) (place : TablePlace T) (value : T) →
       Picking all places room → places.items ≡ left.items ++ place ∷ [] → place ≡ Value value →
       more.items ≡ room.items ++ value ∷ [] → vec_capacity more ≡ vec_capacity room → Picking all left more
   picks all places left room more place value h popped is pushed cap =
@@ -135,7 +136,7 @@ module _ {T : Type 0} where
             let n = room.ok.0 in let s = h.spare in omega arith;
       }
 
-  pub all_picked : (values : List T) (all left end : Vec (Place T)) (last : Place T) (room : Vec T) →
+  pub all_picked : (values : List T) (all left end : Vec (TablePlace T)) (last : TablePlace T) (room : Vec T) →
       AreLaid values all.items → all.items ≡ left.items ++ last ∷ [] → Picking (values_of left.items) end room →
       end.items ≡ [] → reverse room.items ≡ values
   all_picked values all left end last room h popped done none =
@@ -153,19 +154,19 @@ module _ {T : Type 0} where
       (cases_lt k (length values))
 
   -- a value among others that lie in the slots
-  pub at_value : (values : List T) (last : Place T) (lane : ℕ) → lane < length values
+  pub at_value : (values : List T) (last : TablePlace T) (lane : ℕ) → lane < length values
       → (value : T) × (get_elem? (map some (map Value values ++ last ∷ [])) lane ≡ some (some (Value value)))
       × ((other : T) → get_or values lane other ≡ value)
   at_value [] last lane l = absurd (omega arith)
   at_value (v ∷ vs) last zero l = (v, refl, λ _. refl)
   at_value (v ∷ vs) last (suc lane) l = at_value vs last lane (omega arith)
 
-  pub at_room : (values : List T) (last : Place T) →
+  pub at_room : (values : List T) (last : TablePlace T) →
       get_elem? (map some (map Value values ++ last ∷ [])) (length values) ≡ some (some last)
   at_room [] last = refl
   at_room (v ∷ vs) last = at_room vs last
 
-  pub count_of : (values : List T) (last : Place T) →
-      length (map (λ (p : Place T). some p) (map Value values ++ last ∷ [])) ≡ length values + 1
+  pub count_of : (values : List T) (last : TablePlace T) →
+      length (map (λ (p : TablePlace T). some p) (map Value values ++ last ∷ [])) ≡ length values + 1
   count_of [] last = refl
   count_of (v ∷ vs) last = let e = count_of vs last in omega arith

@@ -3,7 +3,7 @@ use Rattle.std.proofs.Common.{◌≡◌, ◌≢◌, ℕ, zero, suc, ◌+◌, ◌
 use Rattle.std.proofs.lemmas.Bool.{true≢false, or_left, or_right, or_cases, cases_lt, cases_eq}
 use Rattle.std.proofs.lemmas.Map.Views.{any-filter_same}
 use Rattle.std.proofs.lemmas.List.Folds.{list_any-append}
-use Rattle.turn_table.specs.Numbers.{has, Has, without, greatest, run_from}
+use Rattle.turn_table.specs.Numbers.{has, Has, without_number, greatest, run_from}
 
 pub has_head : (n : ℕ) (xs : List ℕ) → Has (n ∷ xs) n
 has_head n xs = or_left (eqb n n) (has n xs) (eq-eqb n n refl)
@@ -26,17 +26,17 @@ has-append_right n xs ys h = list_any-append (eqb n) xs ys ∙ or_right (has n x
 pub has-append_cases : (n : ℕ) (xs ys : List ℕ) → Has (xs ++ ys) n → Has xs n ⊎ Has ys n
 has-append_cases n xs ys h = or_cases (has n xs) (has n ys) (sym (list_any-append (eqb n) xs ys) ∙ h)
 
-pub has-without_same : (n : ℕ) (xs : List ℕ) → has n (without n xs) ≡ false
+pub has-without_same : (n : ℕ) (xs : List ℕ) → has n (without_number n xs) ≡ false
 has-without_same n xs = any-filter_same (eqb n) (λ x. not (eqb n x)) false (λ x e. ap not e) xs
 
-pub has-without_other : (k n : ℕ) (xs : List ℕ) → k ≢ n → has k (without n xs) ≡ has k xs
+pub has-without_other : (k n : ℕ) (xs : List ℕ) → k ≢ n → has k (without_number n xs) ≡ has k xs
 has-without_other k n xs other =
     any-filter_same (eqb k) (λ x. not (eqb n x)) true (λ x e. ap not (ne_eqb n x (λ same. other (eqb-true k x e ∙ sym same)))) xs
 
 -- a number among all others of them is another one
-pub has_without : (k n : ℕ) (xs : List ℕ) → Has (without n xs) k → (k ≢ n) × Has xs k
+pub has_without : (k n : ℕ) (xs : List ℕ) → Has (without_number n xs) k → (k ≢ n) × Has xs k
 has_without k n xs h =
-    let apart : k ≢ n = λ e. true≢false (sym h ∙ (ap (λ m. has m (without n xs)) e ∙ has-without_same n xs)) in
+    let apart : k ≢ n = λ e. true≢false (sym h ∙ (ap (λ m. has m (without_number n xs)) e ∙ has-without_same n xs)) in
     (apart, sym (has-without_other k n xs apart) ∙ h)
 
 greatest_of : (x : ℕ) (xs : List ℕ) → (0 < greatest xs → Has xs (greatest xs)) → Has (x ∷ xs) (greatest (x ∷ xs))
@@ -83,38 +83,38 @@ run-greatest first (suc count) =
     let g : ℕ = greatest (run_from (suc first) (suc count)) in let e' : g ≡ suc first + count = e in
     let goal : max first g ≡ first + suc count = omega arith in goal
 
-filter_yes : (x n : ℕ) (xs : List ℕ) → n ≢ x → without n (x ∷ xs) ≡ x ∷ without n xs
-filter_yes x n xs other = ap (λ b. cond (not b) (x ∷ without n xs) (without n xs)) (ne_eqb n x other)
+filter_yes : (x n : ℕ) (xs : List ℕ) → n ≢ x → without_number n (x ∷ xs) ≡ x ∷ without_number n xs
+filter_yes x n xs other = ap (λ b. cond (not b) (x ∷ without_number n xs) (without_number n xs)) (ne_eqb n x other)
 
-filter_no : (n : ℕ) (xs : List ℕ) → without n (n ∷ xs) ≡ without n xs
-filter_no n xs = ap (λ b. cond (not b) (n ∷ without n xs) (without n xs)) (eq-eqb n n refl)
+filter_no : (n : ℕ) (xs : List ℕ) → without_number n (n ∷ xs) ≡ without_number n xs
+filter_no n xs = ap (λ b. cond (not b) (n ∷ without_number n xs) (without_number n xs)) (eq-eqb n n refl)
 
 -- what is not among them isn't missed
-pub without_none : (n : ℕ) (xs : List ℕ) → (¬ Has xs n) → without n xs ≡ xs
+pub without_none : (n : ℕ) (xs : List ℕ) → (¬ Has xs n) → without_number n xs ≡ xs
 without_none n [] h = refl
 without_none n (x ∷ xs) h =
     filter_yes x n xs (λ e. h (or_left (eqb n x) (has n xs) (eq-eqb n x e)))
     ∙ ap (λ l. x ∷ l) (without_none n xs (λ there. h (has_tail n x xs there)))
 
 -- a turn that was taken and given is as if it had not been taken
-pub without_cons : (n : ℕ) (xs : List ℕ) → (¬ Has xs n) → without n (n ∷ xs) ≡ xs
+pub without_cons : (n : ℕ) (xs : List ℕ) → (¬ Has xs n) → without_number n (n ∷ xs) ≡ xs
 without_cons n xs h = filter_no n xs ∙ without_none n xs h
 
 pub run-without_greatest : (first count : ℕ) →
-    without (greatest (run_from first (suc count))) (run_from first (suc count)) ≡ run_from first count
+    without_number (greatest (run_from first (suc count))) (run_from first (suc count)) ≡ run_from first count
 run-without_greatest first count =
-    ap (λ g. without g (run_from first (suc count))) (run-greatest first count) ∙ last first count
+    ap (λ g. without_number g (run_from first (suc count))) (run-greatest first count) ∙ last first count
   where
-    last : (first count : ℕ) → without (first + count) (run_from first (suc count)) ≡ run_from first count
+    last : (first count : ℕ) → without_number (first + count) (run_from first (suc count)) ≡ run_from first count
     last first zero =
-        ap (λ g. without g (first ∷ [])) (let e : first + 0 ≡ first = omega arith in e) ∙ filter_no first []
+        ap (λ g. without_number g (first ∷ [])) (let e : first + 0 ≡ first = omega arith in e) ∙ filter_no first []
     last first (suc count) = filter_yes first (first + suc count) (run_from (suc first) (suc count)) (λ e. omega arith)
-        ∙ ap (λ l. first ∷ l) (ap (λ g. without g (run_from (suc first) (suc count)))
+        ∙ ap (λ l. first ∷ l) (ap (λ g. without_number g (run_from (suc first) (suc count)))
         (let e : first + suc count ≡ suc first + count = omega arith in e) ∙ last (suc first) count)
 
 -- of two different numbers, one is left without the third
 pub kept_number : (g : ℕ) (xs : List ℕ) (one other : ℕ) → one ≢ other → Has xs one → Has xs other →
-    (n : ℕ) × Has (without g xs) n
+    (n : ℕ) × Has (without_number g xs) n
 kept_number g xs one other apart first second =
     ⊎_elim (λ (e : one ≡ g). (other, has-without_other other g xs (λ f. apart (e ∙ sym f)) ∙ second))
     (λ ne. (one, has-without_other one g xs ne ∙ first)) (cases_eq one g)

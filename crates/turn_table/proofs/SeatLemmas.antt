@@ -4,7 +4,7 @@ use Rattle.std.proofs.lemmas.List.{reverse-append}
 use Rattle.atomic_table.specs.Seated.{TableId}
 use Rattle.turn_table.specs.declared.place.TurnView.{TurnView}
 use Rattle.turn_table.specs.Numbers.{Has, run_from}
-use Rattle.turn_table.specs.Seated.{Seated, seated, IsSeatReady, Lanes, StandsForTwo, first_seat, new_seat, without_greatest, greatest_alone}
+use Rattle.turn_table.specs.Seated.{Seated, seated, IsSeatReady, Lanes, StandsForTwo, first_seat, new_turn_seat, without_greatest, greatest_alone}
 use Rattle.turn_table.proofs.NumberLemmas.{has_run, run-greatest, run-without_greatest}
 
 pub record IsSat (seat : Seated) (view : TurnView) : Type 0 where
@@ -42,15 +42,17 @@ parted_one lanes seat rest left m e is parted =
 -- and the new seats, the last made first
 pub made_one : (lanes : Lanes) (seat made : Seated) (left m count : ℕ) (old new : List Seated) → left ≡ suc m →
     left ≤ count → seat ≡ first_seat lanes left → made ≡ greatest_alone seat →
-    reverse old ≡ map (new_seat lanes) (run_from left (count - left)) → new ≡ old ++ made ∷ [] →
-    reverse new ≡ map (new_seat lanes) (run_from m (count - m))
+    reverse old ≡ map (new_turn_seat lanes) (run_from left (count - left)) → new ≡ old ++ made ∷ [] →
+    reverse new ≡ map (new_turn_seat lanes) (run_from m (count - m))
 made_one lanes seat made left m count old new e below is alone others pushed =
-    let one : made ≡ new_seat lanes m =
+    let one : made ≡ new_turn_seat lanes m =
     alone
-    ∙ (ap greatest_alone (is ∙ ap (first_seat lanes) e) ∙ ap (new_seat lanes) (run-greatest 0 m ∙ zero-add m)) in
+    ∙ (ap greatest_alone (is ∙ ap (first_seat lanes) e) ∙ ap (new_turn_seat lanes) (run-greatest 0 m ∙ zero-add m)) in
     let size : suc (count - left) ≡ count - m = omega arith in
-    ap reverse pushed ∙ (reverse-append old (made ∷ []) ∙ (ap (λ s. s ∷ reverse old) one ∙ (ap (λ l. new_seat lanes m ∷ l) others
-    ∙ (ap (λ n. new_seat lanes m ∷ map (new_seat lanes) (run_from n (count - left))) e ∙ ap (λ k. map (new_seat lanes) (run_from m k)) size))))
+    ap reverse pushed ∙ (reverse-append old (made ∷ []) ∙ (ap (λ s. s ∷ reverse old) one
+    ∙ (ap (λ l. new_turn_seat lanes m ∷ l) others
+    ∙ (ap (λ n. new_turn_seat lanes m ∷ map (new_turn_seat lanes) (run_from n (count - left))) e
+    ∙ ap (λ k. map (new_turn_seat lanes) (run_from m k)) size))))
 
 -- a seat of more than one number may part
 pub two_of : (lanes : Lanes) (seat : Seated) (left : ℕ) → 1 < left → seat ≡ first_seat lanes left → StandsForTwo seat

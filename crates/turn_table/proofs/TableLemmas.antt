@@ -4,8 +4,8 @@ use Rattle.std.proofs.lemmas.Bool.{true≢false}
 use mathlib.Core.Option.{some, some-injective}
 use lib.ListN.{get_elem?, length-replicate, get_or-replicate}
 use Rattle.atomic_table.specs.Table.{opening, Final, Seen}
-use Rattle.turn_table.specs.declared.place.Place.{Place}
-use Rattle.turn_table.specs.declared.place.Place.TheVariants.{Value, Room}
+use Rattle.turn_table.specs.declared.place.TablePlace.{TablePlace}
+use Rattle.turn_table.specs.declared.place.TablePlace.TheVariants.{Value, Room}
 use Rattle.turn_table.specs.declared.place.Sizes.{Sizes}
 use Rattle.turn_table.specs.declared.place.TurnView.{TurnView as V}
 use Rattle.turn_table.specs.Laid.{AreAtHome, IsRoomFor, AreLaid, IsWhole}
@@ -18,13 +18,13 @@ use Rattle.turn_table.proofs.ListLemmas.{alone}
 
 module _ {T : Type 0} (home_of : T → ℕ) (sizes : Sizes) where
   -- the table as it is made
-  pub opens : (words : List ℕ) (slots : List (Place T)) (values : List T) → words ≡ replicate (sizes.lanes + 1) 0 →
+  pub opens : (words : List ℕ) (slots : List (TablePlace T)) (values : List T) → words ≡ replicate (sizes.lanes + 1) 0 →
       AreLaid values slots → length values ≡ sizes.lanes → AreAtHome home_of values →
       TurnRule home_of sizes (opening words slots (first_view sizes))
   opens words slots values zeros laid long home =
       let first = first_view sizes in
       let are : map some slots ≡ map some (map Value values ++ Room laid.room ∷ []) =
-      ap (map (λ (p : Place T). some p)) laid.are in
+      ap (map (λ (p : TablePlace T). some p)) laid.are in
       record {
         holder = λ _. 0;
         owner = λ _. 0;
@@ -71,7 +71,7 @@ module _ {T : Type 0} (home_of : T → ℕ) (sizes : Sizes) where
       }
 
   -- what lies in the slots at the end, where one seat stands for all numbers and has no turn
-  pub closes : (id : ℕ) (v : V) (words : List ℕ) (slots : List (Place T)) →
+  pub closes : (id : ℕ) (v : V) (words : List ℕ) (slots : List (TablePlace T)) →
       Final (Seen (TurnRule home_of sizes) id v) words slots →
       ((n : ℕ) → n < sizes.seats → Has v.numbers n) → v.turns ≡ [] → IsWhole home_of sizes.lanes slots
   closes id v words slots end all no_turn = let s = end.0 in let r = end.1.0 in let at = end.1.1 in record {

@@ -9,14 +9,14 @@ use lib.Seq.{set-get_or}
 use prog.Atomic.{either}
 use Rattle.atomic_table.specs.Table.{State, step, keeps, takes, gives, stepped, Allows}
 use Rattle.atomic_table.proofs.Lists.{at_set, set_here, set_else}
-use Rattle.turn_table.specs.declared.place.Place.{Place}
-use Rattle.turn_table.specs.declared.place.Place.TheVariants.{Empty, Value}
+use Rattle.turn_table.specs.declared.place.TablePlace.{TablePlace}
+use Rattle.turn_table.specs.declared.place.TablePlace.TheVariants.{Empty, Value}
 use Rattle.turn_table.specs.declared.place.Sizes.{Sizes}
 use Rattle.turn_table.specs.declared.place.TurnView.{TurnView as V}
 use Rattle.turn_table.specs.Numbers.{has, Has}
 use Rattle.turn_table.specs.Past.{Deed, taking, giving}
 use Rattle.turn_table.specs.TurnRule.{IsFree, IsHeldBy, TurnRule}
-use Rattle.turn_table.specs.TurnSteps.{Hands, after_take, after_rest, after_reach, after_give, after_miss, tried, rested, reached, gave}
+use Rattle.turn_table.specs.TurnSteps.{SeatHands, after_take, after_rest, after_reach, after_give, after_miss, tried, rested, reached, gave}
 use Rattle.turn_table.proofs.PastLemmas.{Next, next_taking, next_giving, next_same, came_further}
 use Rattle.turn_table.proofs.NumberLemmas.{has_head, has-cons_other, has-without_same, has-without_other}
 use Rattle.turn_table.proofs.ListLemmas.{put, put_here, put_else, at_below}
@@ -24,13 +24,13 @@ use Rattle.turn_table.proofs.ViewLemmas.{noted}
 
 module _ {T : Type 0} (home_of : T → ℕ) (sizes : Sizes) where
   abbrev St : Type 0
-  St = State (Place T) V
+  St = State (TablePlace T) V
 
   abbrev Rule : St → Type 0
   Rule = TurnRule home_of sizes
 
   -- the state after a step on the lane k: the word is x, and the slot has y
-  abbrev moved : St → ℕ → ℕ → maybe.Option (Place T) → ℕ → V → St
+  abbrev moved : St → ℕ → ℕ → maybe.Option (TablePlace T) → ℕ → V → St
   moved s k x y me w = record { words = set s.words k x; homes = set s.homes k y; views = set s.views me w }
 
   -- what a step on the lane k leaves of a seat's view
@@ -43,7 +43,7 @@ module _ {T : Type 0} (home_of : T → ℕ) (sizes : Sizes) where
     number : (n : ℕ) × Has w.numbers n
 
   -- the turn of another lane stays where it is
-  held_elsewhere : (s : St) (k x j seat me : ℕ) (y : maybe.Option (Place T)) (v w : V) → j ≢ k → Moves k v w →
+  held_elsewhere : (s : St) (k x j seat me : ℕ) (y : maybe.Option (TablePlace T)) (v w : V) → j ≢ k → Moves k v w →
       get_elem? s.views me ≡ some v → IsHeldBy s j seat → IsHeldBy (moved s k x y me w) j seat
   held_elsewhere s k x j seat me y v w other c at h =
       let word = get_or-set_other s.words k j x 0 other ∙ h.word in let slot = set_else s.homes k j y other in ⊎_elim
@@ -67,7 +67,7 @@ module _ {T : Type 0} (home_of : T → ℕ) (sizes : Sizes) where
       })
       (cases_eq seat me)
 
-  free_elsewhere : (s : St) (k x j me : ℕ) (y : maybe.Option (Place T)) (w : V) → j ≢ k → IsFree home_of s j →
+  free_elsewhere : (s : St) (k x j me : ℕ) (y : maybe.Option (TablePlace T)) (w : V) → j ≢ k → IsFree home_of s j →
       IsFree home_of (moved s k x y me w) j
   free_elsewhere s k x j me y w other f = record {
     word = get_or-set_other s.words k j x 0 other ∙ f.word;
@@ -77,7 +77,7 @@ module _ {T : Type 0} (home_of : T → ℕ) (sizes : Sizes) where
   }
 
   -- a step on the lane k by the seat me, after which its turn is free or the seat `who` has it
-  lane_step : (s : St) (r : Rule s) (k me x who : ℕ) (y : maybe.Option (Place T)) (v w : V) (after : List Deed) →
+  lane_step : (s : St) (r : Rule s) (k me x who : ℕ) (y : maybe.Option (TablePlace T)) (v w : V) (after : List Deed) →
       Next k x who r.past after → Moves k v w → get_elem? s.views me ≡ some v → k < sizes.lanes →
       (IsFree home_of (moved s k x y me w) k ⊎ IsHeldBy (moved s k x y me w) k who) →
       ((seat : ℕ) (u : V) → get_elem? (set s.views me w) seat ≡ some u → Has u.turns k →
@@ -150,8 +150,8 @@ module _ {T : Type 0} (home_of : T → ℕ) (sizes : Sizes) where
   its_view s k me v at h = some-injective h.view v (sym h.seated ∙ at)
 
   -- taking a turn: the word was 0, and the value comes with it; or it was 1, and that is a miss
-  pub tries : (slots id : ℕ) (me : Hands T) (k : ℕ) → k < sizes.lanes → me.0.hand ≡ None → me.0.seats ≡ sizes.seats →
-      (n : ℕ) × Has me.0.numbers n →
+  pub tries : (slots id : ℕ) (me : SeatHands T) (k : ℕ) → k < sizes.lanes → me.0.hand ≡ None →
+      me.0.seats ≡ sizes.seats → (n : ℕ) × Has me.0.numbers n →
       Allows Rule slots id me k (λ n. either (eqb n 0) 1 n) (tried home_of (step slots k 0 1 none) me)
   tries slots id me k inside hand told number s r _ at _ = ⊎_elim
       (λ f.
@@ -227,7 +227,7 @@ module _ {T : Type 0} (home_of : T → ℕ) (sizes : Sizes) where
       (r.each_lane k inside)
 
   -- putting the empty slot back
-  pub rests : (slots id : ℕ) (me : Hands T) (k : ℕ) → me.0.hand ≡ Some k → Has me.0.turns k →
+  pub rests : (slots id : ℕ) (me : SeatHands T) (k : ℕ) → me.0.hand ≡ Some k → Has me.0.turns k →
       (n : ℕ) × Has me.0.numbers n → me.1 ≡ (k, Empty) ∷ [] →
       Allows Rule slots id me k (λ n. n) (rested (step slots k 0 0 none) me)
   rests slots id me k hand turn number carried s r _ at _ =
@@ -237,7 +237,7 @@ module _ {T : Type 0} (home_of : T → ℕ) (sizes : Sizes) where
         w,
         gives,
         tt,
-        subst (λ (cs : List (ℕ × Place T)). Rule (stepped s k x id cs w gives)) (sym carried)
+        subst (λ (cs : List (ℕ × TablePlace T)). Rule (stepped s k x id cs w gives)) (sym carried)
             (lane_step s r k id x id (some Empty) me.0 w r.past
             (next_same k x id r.past t.1 r.came.right (r.came.held k inside t.1 ∙ ap Some (sym t.2)))
             (record {
@@ -260,11 +260,11 @@ module _ {T : Type 0} (home_of : T → ℕ) (sizes : Sizes) where
               ⊎_elim (λ p. p.0) (λ p. (r.each_turn seat k u p.1 has').2 ∙ sym t.2)
                   (at_set s.views id seat w u there),
             ))),
-        ap (λ (cs : List (ℕ × Place T)). (w, Rattle.atomic_table.specs.Table.rest cs)) carried,
+        ap (λ (cs : List (ℕ × TablePlace T)). (w, Rattle.atomic_table.specs.Table.rest cs)) carried,
       )
 
   -- taking the empty slot in hand again
-  pub reaches : (slots id : ℕ) (me : Hands T) (k : ℕ) → me.0.hand ≡ None → Has me.0.turns k →
+  pub reaches : (slots id : ℕ) (me : SeatHands T) (k : ℕ) → me.0.hand ≡ None → Has me.0.turns k →
       (n : ℕ) × Has me.0.numbers n → me.1 ≡ [] → Allows Rule slots id me k (λ n. n) (reached (step slots k 0 0 none) me)
   reaches slots id me k hand turn number carried s r _ at _ =
       let w = after_reach k me.0 in
@@ -298,11 +298,11 @@ module _ {T : Type 0} (home_of : T → ℕ) (sizes : Sizes) where
               ⊎_elim (λ p. p.0) (λ p. (r.each_turn seat k u p.1 has').2 ∙ sym t.2)
                   (at_set s.views id seat w u there),
             )),
-        ap (λ (cs : List (ℕ × Place T)). (w, (k, Empty) ∷ cs)) carried,
+        ap (λ (cs : List (ℕ × TablePlace T)). (w, (k, Empty) ∷ cs)) carried,
       )
 
   -- giving the turn back, and the slot with its value
-  pub gives_back : (slots id : ℕ) (me : Hands T) (k : ℕ) (value : T) → me.0.hand ≡ Some k → Has me.0.turns k →
+  pub gives_back : (slots id : ℕ) (me : SeatHands T) (k : ℕ) (value : T) → me.0.hand ≡ Some k → Has me.0.turns k →
       (n : ℕ) × Has me.0.numbers n → me.1 ≡ (k, Value value) ∷ [] → home_of value ≡ k →
       Allows Rule slots id me k (λ _. 0) (λ _. gave (step slots k 0 0 none) me 0)
   gives_back slots id me k value hand turn number carried home s r _ at _ =
@@ -314,7 +314,7 @@ module _ {T : Type 0} (home_of : T → ℕ) (sizes : Sizes) where
         w,
         gives,
         tt,
-        subst (λ (cs : List (ℕ × Place T)). Rule (stepped s k 0 id cs w gives)) (sym carried)
+        subst (λ (cs : List (ℕ × TablePlace T)). Rule (stepped s k 0 id cs w gives)) (sym carried)
             (lane_step s r k id 0 id (some (Value value)) me.0 w (giving k id ∷ r.past)
             (next_giving k id r.past r.came.right (r.came.held k inside t.1 ∙ ap Some (sym t.2)))
             (record {
@@ -335,5 +335,5 @@ module _ {T : Type 0} (home_of : T → ℕ) (sizes : Sizes) where
             (λ (p : (seat ≡ id) × (w ≡ u)).
             true≢false (sym has' ∙ (ap (λ (z : V). has k z.turns) (sym p.1) ∙ has-without_same k me.0.turns)))
             (λ p. p.0 ((r.each_turn seat k u p.1 has').2 ∙ sym t.2)) (at_set s.views id seat w u there)))),
-        ap (λ (cs : List (ℕ × Place T)). (w, Rattle.atomic_table.specs.Table.rest cs)) carried,
+        ap (λ (cs : List (ℕ × TablePlace T)). (w, Rattle.atomic_table.specs.Table.rest cs)) carried,
       )

@@ -5,19 +5,19 @@ use mathlib.Core.Option.{some, some-injective}
 use lib.ListN.{get_elem?}
 use Rattle.atomic_table.specs.Table.{State, Splits, Joins}
 use Rattle.atomic_table.proofs.Lists.{at_set, set_here, set_else, at_longer, at_last}
-use Rattle.turn_table.specs.declared.place.Place.{Place}
+use Rattle.turn_table.specs.declared.place.TablePlace.{TablePlace}
 use Rattle.turn_table.specs.declared.place.Sizes.{Sizes}
 use Rattle.turn_table.specs.declared.place.TurnView.{TurnView as V}
 use Rattle.turn_table.specs.Numbers.{has, Has, greatest}
 use Rattle.turn_table.specs.Past.{Deed, missing, misses_in, IsPastOf}
 use Rattle.turn_table.specs.TurnRule.{IsHeldBy, TurnRule}
-use Rattle.turn_table.specs.TurnSteps.{after_miss, parted_left, parted_right, gathered, spent}
+use Rattle.turn_table.specs.TurnSteps.{after_miss, parted_left, parted_right, gathered_turns, spent_turns}
 use Rattle.turn_table.proofs.NumberLemmas.{has_head, has_one, has-append_left, has-append_right, has-append_cases, has-without_other, has_without, has_greatest, kept_number}
 use Rattle.turn_table.proofs.ListLemmas.{put, put_here, put_else, at_below, at_end}
 
 module _ {T : Type 0} (home_of : T → ℕ) (sizes : Sizes) where
   -- a step that only moves numbers: each seat's turns and hand stay, and no seat gets a turn
-  views_step : (s : State (Place T) V) (r : TurnRule home_of sizes s) (views' : List V) (owner' : ℕ → ℕ)
+  views_step : (s : State (TablePlace T) V) (r : TurnRule home_of sizes s) (views' : List V) (owner' : ℕ → ℕ)
       → ((i : ℕ) (u : V) → get_elem? s.views i ≡ some u →
       (u' : V) × (get_elem? views' i ≡ some u') × (u'.turns ≡ u.turns) × (u'.hand ≡ u.hand))
       → ((i j : ℕ) (u' : V) → get_elem? views' i ≡ some u' → Has u'.turns j →
@@ -54,7 +54,7 @@ module _ {T : Type 0} (home_of : T → ℕ) (sizes : Sizes) where
   }
 
   -- a turn of another seat is missed in the past too, and a seat's own turn is no miss
-  noted_past : (s : State (Place T) V) (r : TurnRule home_of sizes s) (id k : ℕ) (v : V) →
+  noted_past : (s : State (TablePlace T) V) (r : TurnRule home_of sizes s) (id k : ℕ) (v : V) →
       get_elem? s.views id ≡ some v → k < sizes.lanes → IsHeldBy s k (r.holder k) →
       (has k v.turns ≡ true) ⊎ (has k v.turns ≡ false) →
       (past' : List Deed) × IsPastOf sizes.lanes r.holder s.words (set s.views id (after_miss k v)) past'
@@ -104,7 +104,7 @@ module _ {T : Type 0} (home_of : T → ℕ) (sizes : Sizes) where
       )
 
   -- a miss is noted
-  pub noted : (s : State (Place T) V) (r : TurnRule home_of sizes s) (id k : ℕ) (v : V) →
+  pub noted : (s : State (TablePlace T) V) (r : TurnRule home_of sizes s) (id k : ℕ) (v : V) →
       get_elem? s.views id ≡ some v → k < sizes.lanes → IsHeldBy s k (r.holder k) →
       TurnRule home_of sizes record { words = s.words; homes = s.homes; views = set s.views id (after_miss k v) }
   noted s r id k v at inside h =
@@ -248,15 +248,16 @@ module _ {T : Type 0} (home_of : T → ℕ) (sizes : Sizes) where
 
   -- gathering a seat that has no turn: its numbers go to the other, and it is spent
   pub gathers : (id : ℕ) (v : V) (other : ℕ) (w : V) → (n : ℕ) × Has v.numbers n → w.turns ≡ [] → w.hand ≡ None →
-      Joins (TurnRule home_of sizes) id v other w (gathered v w) spent
+      Joins (TurnRule home_of sizes) id v other w (gathered_turns v w) spent_turns
   gathers id v other w number no_turn no_hand s r at apart there' =
-      let both = gathered v w in let inner = set s.views id both in let outer = set inner other spent in
+      let both = gathered_turns v w in let inner = set s.views id both in let outer = set inner other spent_turns in
       let there : get_elem? s.views other ≡ some w = sym (set_else s.views id other both apart) ∙ there' in
       let mine' : get_elem? outer id ≡ some both =
-      set_else inner other id spent (λ e. apart (sym e)) ∙ set_here s.views id both (at_below s.views id v at) in
-      let gone : get_elem? outer other ≡ some spent = set_here inner other spent (at_below inner other w there') in
+      set_else inner other id spent_turns (λ e. apart (sym e)) ∙ set_here s.views id both (at_below s.views id v at) in
+      let gone : get_elem? outer other ≡ some spent_turns =
+      set_here inner other spent_turns (at_below inner other w there') in
       let rest' : (i : ℕ) (u : V) → i ≢ id → i ≢ other → get_elem? s.views i ≡ some u → get_elem? outer i ≡ some u =
-      λ i u a b h. set_else inner other i spent b ∙ (set_else s.views id i both a ∙ h) in
+      λ i u a b h. set_else inner other i spent_turns b ∙ (set_else s.views id i both a ∙ h) in
       let owner' : ℕ → ℕ = λ n. cond (eqb (r.owner n) other) id (r.owner n) in
       let moved' : (n : ℕ) → r.owner n ≡ other → owner' n ≡ id = λ n e.
       ap (λ b. cond b id (r.owner n)) (eq-eqb (r.owner n) other e) in
@@ -272,7 +273,7 @@ module _ {T : Type 0} (home_of : T → ℕ) (sizes : Sizes) where
       ⊎_elim
       (λ (e : i ≡ other).
       let same : w ≡ u = some-injective w u (sym there ∙ (ap (get_elem? s.views) (sym e) ∙ h)) in (
-        spent,
+        spent_turns,
         ap (get_elem? outer) e ∙ gone,
         sym no_turn ∙ ap (λ (z : V). z.turns) same,
         sym no_hand ∙ ap (λ (z : V). z.hand) same,
@@ -280,13 +281,13 @@ module _ {T : Type 0} (home_of : T → ℕ) (sizes : Sizes) where
       (λ b. (u, rest' i u a b h, refl, refl)) (cases_eq i other)) (cases_eq i id))
       (λ i j u h turn.
       ⊎_elim
-      (λ (p : (i ≡ other) × (spent ≡ u)).
+      (λ (p : (i ≡ other) × (spent_turns ≡ u)).
       absurd (true≢false (sym turn ∙ ap (λ (z : V). has j z.turns) (sym p.1))))
       (λ p.
       ⊎_elim
       (λ (q : (i ≡ id) × (both ≡ u)).
       (v, ap (get_elem? s.views) q.0 ∙ at, ap (λ (z : V). has j z.turns) q.1 ∙ turn)) (λ q. (u, q.1, turn))
-      (at_set s.views id i both u p.1)) (at_set inner other i spent u h))
+      (at_set s.views id i both u p.1)) (at_set inner other i spent_turns u h))
       (λ n l. let o = r.each_number n l in ⊎_elim
       (λ (e : r.owner n ≡ other).
       let same : o.0 ≡ w = some-injective o.0 w (sym o.1 ∙ (ap (get_elem? s.views) e ∙ there)) in (
@@ -305,7 +306,7 @@ module _ {T : Type 0} (home_of : T → ℕ) (sizes : Sizes) where
       (cases_eq (r.owner n) other))
       (λ i n u h has'.
       ⊎_elim
-      (λ (p : (i ≡ other) × (spent ≡ u)).
+      (λ (p : (i ≡ other) × (spent_turns ≡ u)).
       absurd (true≢false (sym has' ∙ ap (λ (z : V). has n z.numbers) (sym p.1))))
       (λ p.
       ⊎_elim
@@ -317,32 +318,32 @@ module _ {T : Type 0} (home_of : T → ℕ) (sizes : Sizes) where
       (λ in_w. let o = r.one_owner other n w there in_w in (o.0, q.0 ∙ sym (moved' n (sym o.1))))
       (has-append_cases n v.numbers w.numbers (ap (λ (z : V). has n z.numbers) q.1 ∙ has')))
       (λ q. let o = r.one_owner i n u q.1 has' in (o.0, o.1 ∙ sym (stayed n (λ e. p.0 (o.1 ∙ e)))))
-      (at_set s.views id i both u p.1)) (at_set inner other i spent u h))
+      (at_set s.views id i both u p.1)) (at_set inner other i spent_turns u h))
       (λ i j u h turn.
       ⊎_elim
-      (λ (p : (i ≡ other) × (spent ≡ u)).
+      (λ (p : (i ≡ other) × (spent_turns ≡ u)).
       absurd (true≢false (sym turn ∙ ap (λ (z : V). has j z.turns) (sym p.1))))
       (λ p.
       ⊎_elim
       (λ (q : (i ≡ id) × (both ≡ u)).
       let o = r.stands id j v at (ap (λ (z : V). has j z.turns) q.1 ∙ turn) in
       (o.0, ap (λ (z : V). has o.0 z.numbers) (sym q.1) ∙ has-append_left o.0 v.numbers w.numbers o.1))
-      (λ q. r.stands i j u q.1 turn) (at_set s.views id i both u p.1)) (at_set inner other i spent u h))
+      (λ q. r.stands i j u q.1 turn) (at_set s.views id i both u p.1)) (at_set inner other i spent_turns u h))
       r.past record {
         right = r.came.right;
         held = r.came.held;
         free = r.came.free;
         misses = λ i n u h has'.
             ⊎_elim
-            (λ (p : (i ≡ other) × (spent ≡ u)).
+            (λ (p : (i ≡ other) × (spent_turns ≡ u)).
             absurd (true≢false (sym has' ∙ ap (λ (z : V). has n z.numbers) (sym p.1))))
             (λ p. ⊎_elim
             (λ (q : (i ≡ id) × (both ≡ u)).
             ap (λ (z : V). z.misses) (sym q.1)
             ∙ (r.came.misses id number.0 v at number.1 ∙ ap (misses_in r.past) (sym q.0)))
             (λ q. r.came.misses i n u q.1 has') (at_set s.views id i both u p.1))
-            (at_set inner other i spent u h);
+            (at_set inner other i spent_turns u h);
         unborn = λ seat beyond.
-            let e = length-set inner other spent in
+            let e = length-set inner other spent_turns in
             let f = length-set s.views id both in r.came.unborn seat (omega arith);
       }

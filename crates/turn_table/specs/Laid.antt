@@ -3,8 +3,8 @@ use Rattle.std.specs.Prelude.{◌≡◌, ℕ, ◌<◌, ◌≤◌, List, [], ◌�
 use Rattle.std.specs.Global.{Vec}
 use mathlib.Core.Option.{some}
 use lib.ListN.{get_elem?}
-use Rattle.turn_table.specs.declared.place.Place.{Place}
-use Rattle.turn_table.specs.declared.place.Place.TheVariants.{Value, Room}
+use Rattle.turn_table.specs.declared.place.TablePlace.{TablePlace}
+use Rattle.turn_table.specs.declared.place.TablePlace.TheVariants.{Value, Room}
 
 module _ {T : Type 0} where
   -- the n-th value, from 0, belongs to lane n
@@ -18,13 +18,13 @@ module _ {T : Type 0} where
     pub fits : count ≤ vec_capacity room
 
   -- the values of all lanes, and then the room that they left
-  pub record AreLaid (values : List T) (places : List (Place T)) : Type 0 where
+  pub record AreLaid (values : List T) (places : List (TablePlace T)) : Type 0 where
     pub room : Vec T
     pub is_room : IsRoomFor (length values) room
     pub are : places ≡ map Value values ++ Room room ∷ []
 
   -- each slot has its lane's value, and the last one has room for all
-  pub record IsWhole (home_of : T → ℕ) (lanes : ℕ) (places : List (Place T)) : Type 0 where
+  pub record IsWhole (home_of : T → ℕ) (lanes : ℕ) (places : List (TablePlace T)) : Type 0 where
     pub each : (lane : ℕ) → lane < lanes →
         (value : T) × (home_of value ≡ lane) × (get_elem? places lane ≡ some (Value value))
     pub room : Vec T

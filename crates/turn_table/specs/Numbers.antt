@@ -10,8 +10,8 @@ abbrev pub Has : List ℕ → ℕ → Type 0
 Has xs n = has n xs ≡ true
 
 -- all others of them
-abbrev pub without : ℕ → List ℕ → List ℕ
-without n = filter (λ x. not (n == x))
+abbrev pub without_number : ℕ → List ℕ → List ℕ
+without_number n = filter (λ x. not (n == x))
 
 abbrev pub greatest : List ℕ → ℕ
 greatest [] = 0

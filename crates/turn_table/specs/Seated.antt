@@ -4,7 +4,7 @@ use Rattle.std.specs.Prelude.{◌≡◌, ◌≢◌, ℕ, ◌+◌, ◌<◌, None,
 use Rattle.atomic_table.specs.Seated.{TableId}
 use Rattle.turn_table.specs.declared.place.Sizes.{Sizes}
 use Rattle.turn_table.specs.declared.place.TurnView.{TurnView}
-use Rattle.turn_table.specs.Numbers.{has, Has, without, greatest, run_from}
+use Rattle.turn_table.specs.Numbers.{has, Has, without_number, greatest, run_from}
 
 -- a table: what no other table shares with it, the count of its lanes, and how many numbers its
 -- seats stand for
@@ -13,8 +13,8 @@ pub record Lanes : Type 0 where
   pub lanes : ℕ
   pub seats : ℕ
 
-abbrev pub lanes_of : TableId → Sizes → Lanes
-lanes_of table sizes = record { table = table; lanes = sizes.lanes; seats = sizes.seats }
+abbrev pub lanes_at : TableId → Sizes → Lanes
+lanes_at table sizes = record { table = table; lanes = sizes.lanes; seats = sizes.seats }
 
 -- a word and a slot for each lane, and one more of each
 abbrev pub IsSized : TableId → Sizes → Type 0
@@ -45,8 +45,8 @@ abbrev pub StandsForTwo : Seated → Type 0
 StandsForTwo seat = (one other : ℕ) × (one ≢ other) × StandsFor seat one × StandsFor seat other
 
 -- the seat of one number
-abbrev pub new_seat : Lanes → ℕ → Seated
-new_seat lanes number = record {
+abbrev pub new_turn_seat : Lanes → ℕ → Seated
+new_turn_seat lanes number = record {
   table = lanes.table;
   seats = lanes.seats;
   turns = [];
@@ -68,7 +68,7 @@ abbrev pub with_turn : ℕ → Seated → Seated
 with_turn lane seat = record seat { turns = lane ∷ seat.turns }
 
 abbrev pub without_turn : ℕ → Seated → Seated
-without_turn lane seat = record seat { turns = without lane seat.turns }
+without_turn lane seat = record seat { turns = without_number lane seat.turns }
 
 -- a turn that the seat has itself is no miss
 abbrev pub missed : ℕ → List ℕ → List ℕ → List ℕ
@@ -81,7 +81,8 @@ abbrev pub with_numbers_of : Seated → Seated → Seated
 with_numbers_of other seat = record seat { numbers = seat.numbers ++ other.numbers }
 
 abbrev pub without_greatest : Seated → Seated
-without_greatest seat = record seat { numbers = without (greatest seat.numbers) seat.numbers }
+without_greatest seat =
+    record seat { numbers = without_number (greatest seat.numbers) seat.numbers }
 
 abbrev pub greatest_alone : Seated → Seated
 greatest_alone seat = record seat { turns = []; numbers = greatest seat.numbers ∷ []; misses = [] }

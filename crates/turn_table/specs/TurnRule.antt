@@ -4,8 +4,8 @@ use Rattle.std.specs.Global.{Vec}
 use mathlib.Core.Option.{none, some}
 use lib.ListN.{get_elem?}
 use Rattle.atomic_table.specs.Table.{State}
-use Rattle.turn_table.specs.declared.place.Place.{Place}
-use Rattle.turn_table.specs.declared.place.Place.TheVariants.{Empty, Value, Room}
+use Rattle.turn_table.specs.declared.place.TablePlace.{TablePlace}
+use Rattle.turn_table.specs.declared.place.TablePlace.TheVariants.{Empty, Value, Room}
 use Rattle.turn_table.specs.declared.place.Sizes.{Sizes}
 use Rattle.turn_table.specs.declared.place.TurnView.{TurnView}
 use Rattle.turn_table.specs.Laid.{IsRoomFor}
@@ -14,14 +14,14 @@ use Rattle.turn_table.specs.Past.{Deed, IsPastOf}
 
 module _ {T : Type 0} where
   -- nobody has the lane's turn: its word is 0, and its slot holds a value of that lane
-  pub record IsFree (home_of : T → ℕ) (s : State (Place T) TurnView) (lane : ℕ) : Type 0 where
+  pub record IsFree (home_of : T → ℕ) (s : State (TablePlace T) TurnView) (lane : ℕ) : Type 0 where
     pub word : slice_index s.words lane ≡ 0
     pub value : T
     pub home : home_of value ≡ lane
     pub slot : get_elem? s.homes lane ≡ some (some (Value value))
 
   -- this seat has the lane's turn: the word is 1, and the slot is empty or in the seat's hand
-  pub record IsHeldBy (s : State (Place T) TurnView) (lane seat : ℕ) : Type 0 where
+  pub record IsHeldBy (s : State (TablePlace T) TurnView) (lane seat : ℕ) : Type 0 where
     pub word : slice_index s.words lane ≡ 1
     pub view : TurnView
     pub seated : get_elem? s.views seat ≡ some view
@@ -29,7 +29,7 @@ module _ {T : Type 0} where
     pub at_rest : view.hand ≢ Some lane → get_elem? s.homes lane ≡ some (some Empty)
     pub in_hand : view.hand ≡ Some lane → get_elem? s.homes lane ≡ some none
 
-  pub record TurnRule (home_of : T → ℕ) (sizes : Sizes) (s : State (Place T) TurnView)
+  pub record TurnRule (home_of : T → ℕ) (sizes : Sizes) (s : State (TablePlace T) TurnView)
       : Type 0 where
     -- the seat that has a lane's turn, where one has it, and the seat that stands for a number
     pub holder : ℕ → ℕ

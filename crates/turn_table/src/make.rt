@@ -3,10 +3,10 @@ ghost use Rattle.std.specs.Prelude.{◌≡◌, ◌+◌, ◌<◌, ◌≤◌, List
 ghost use Rattle.std.specs.Mem.Slots.{slots_items, slots_len, IsFull};
 ghost use Rattle.turn_table.specs.Numbers.{run_from};
 ghost use Rattle.turn_table.specs.Laid.{AreAtHome, AreLaid, IsWhole};
-ghost use Rattle.turn_table.specs.Seated.{IsSeatOf, StandsForAll, first_seat, new_seat};
+ghost use Rattle.turn_table.specs.Seated.{IsSeatOf, StandsForAll, first_seat, new_turn_seat};
 
 use crate::home::{Home, Homes};
-use crate::place::{Place, Sizes};
+use crate::place::{Sizes, TablePlace};
 use crate::seat::{TurnSeat, TurnSeats};
 use crate::table::TurnTable;
 use asio_types::NoMemory;
@@ -16,7 +16,7 @@ use std::alloc::Global;
 // The memory of a table.
 struct Reserved<T> {
     words: Vec<u64>,
-    places: Vec<Place<T>>,
+    places: Vec<TablePlace<T>>,
     seats: Vec<TurnSeat>,
 }
 
@@ -40,29 +40,29 @@ fn reserve<T>(alloc: Global, lanes: usize, seats: u32) -> Result<Reserved<T>, No
 }
 
 // Moves the values to their places, and lays the room that they leave behind them.
-fn lay_out<T>(mut values: Vec<T>, mut places: Vec<Place<T>>) -> Vec<Place<T>>
+fn lay_out<T>(mut values: Vec<T>, mut places: Vec<TablePlace<T>>) -> Vec<TablePlace<T>>
     requires { (places.items ≡ []) × (vec_len values + 1 ≤ vec_capacity places) }
     ensures { AreLaid values.items result.items }
 {
     values.reverse();
     while let Some(value) = values.pop() {
-        places.push_reserved(Place::Value(value));
+        places.push_reserved(TablePlace::Value(value));
     }
-    places.push_reserved(Place::Room(values));
+    places.push_reserved(TablePlace::Room(values));
     places
 }
 
 // The values again, in the room that they left.
-fn pick_up<T>(mut places: Vec<Place<T>>) -> Homes<T>
+fn pick_up<T>(mut places: Vec<TablePlace<T>>) -> Homes<T>
     requires { (values : List T) × AreLaid values places.items }
     ensures { (values : List T) → AreLaid values places.items → result ≡ values }
 {
     let last = places.pop().unwrap();
-    let Place::Room(mut room) = last else {
+    let TablePlace::Room(mut room) = last else {
         unreachable!()
     };
     while let Some(place) = places.pop() {
-        let Place::Value(value) = place else {
+        let TablePlace::Value(value) = place else {
             unreachable!()
         };
         room.push_reserved(value);
@@ -73,20 +73,20 @@ fn pick_up<T>(mut places: Vec<Place<T>>) -> Homes<T>
 }
 
 // Takes the values out of a closed table.
-fn take_out<T: Home>(mut closed: Closed<Place<T>, Global>, lanes: usize) -> Homes<T>
+fn take_out<T: Home>(mut closed: Closed<TablePlace<T>, Global>, lanes: usize) -> Homes<T>
     requires full { IsFull closed.slots × (slots_len closed.slots ≡ lanes + 1) }
     requires whole { IsWhole T.home_of lanes (slots_items closed.slots) }
     ensures lanes { length result ≡ lanes }
     ensures home { AreAtHome T.home_of result }
 {
     let last = closed.take(lanes);
-    let Place::Room(mut values) = last else {
+    let TablePlace::Room(mut values) = last else {
         unreachable!()
     };
     let mut lane = 0;
     while lane < lanes {
         let place = closed.take(lane);
-        let Place::Value(value) = place else {
+        let TablePlace::Value(value) = place else {
             unreachable!()
         };
         values.push_reserved(value);
@@ -109,7 +109,8 @@ impl<T: Home> TurnTable<T> {
         requires home { AreAtHome T.home_of homes }
         ensures lanes { IfOk result (λ made. made.0.lanes ≡ length homes) }
         ensures numbers { IfOk result (λ made. made.0.seats ≡ seats) }
-        ensures seats { IfOk result (λ made. made.1 ≡ map (new_seat made.0) (run_from 0 seats)) }
+        ensures seats { IfOk result
+            (λ made. made.1 ≡ map (new_turn_seat made.0) (run_from 0 seats)) }
         ensures refused { IfErr result (λ back. back.0 ≡ homes) }
     {
         let sizes = Sizes {
@@ -146,7 +147,7 @@ impl<T: Home> TurnTable<T> {
     fn seat_all(&self, mut whole: TurnSeat, mut list: Vec<TurnSeat>, count: u32) -> TurnSeats
         requires seats { (0 < count) × (whole ≡ first_seat self.now count) }
         requires room { (list.items ≡ []) × (count ≤ vec_capacity list) }
-        ensures { result ≡ map (new_seat self.now) (run_from 0 count) }
+        ensures { result ≡ map (new_turn_seat self.now) (run_from 0 count) }
     {
         let mut left = count;
         while left > 1 {

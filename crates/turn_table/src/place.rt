@@ -5,7 +5,7 @@
 use std::collections::LinkedList;
 
 #[derive(Drop)]
-pub enum Place<T> {
+pub enum TablePlace<T> {
     Empty,
     Value(T),
     Room(Vec<T>),

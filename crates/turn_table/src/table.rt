@@ -1,5 +1,5 @@
 use crate::home::Home;
-use crate::place::{Place, Sizes, TurnView};
+use crate::place::{Sizes, TablePlace, TurnView};
 use atomic_table::{Table, TableRule};
 use std::alloc::Global;
 use std::marker::Model;
@@ -7,7 +7,7 @@ use std::marker::Model;
 /// The rule that every step keeps.
 pub struct Turns;
 
-impl<T: Home> TableRule<Place<T>, TurnView, Sizes> for Turns {
+impl<T: Home> TableRule<TablePlace<T>, TurnView, Sizes> for Turns {
     ghost use Rattle.turn_table.specs.TurnRule.{TurnRule};
     ghost use Rattle.turn_table.specs.TurnSteps.{first_view};
 
@@ -20,15 +20,15 @@ impl<T: Home> TableRule<Place<T>, TurnView, Sizes> for Turns {
 /// Contracts see how many lanes and seat numbers it has, and which seats are its own.
 #[derive(Drop)]
 pub struct TurnTable<T: Home> {
-    pub(crate) table: Table<Place<T>, TurnView, Sizes, Turns, Global>,
+    pub(crate) table: Table<TablePlace<T>, TurnView, Sizes, Turns, Global>,
 }
 
 impl<T: Home> Model for TurnTable<T> {
-    ghost use Rattle.turn_table.specs.Seated.{Lanes, lanes_of, IsSized};
+    ghost use Rattle.turn_table.specs.Seated.{Lanes, lanes_at, IsSized};
 
     ghost Value = { Lanes };
 
-    ghost view = { λ t. lanes_of t.table.shared.table_id t.table.shared.key };
+    ghost view = { λ t. lanes_at t.table.shared.table_id t.table.shared.key };
 
     ghost invariant = { λ t. IsSized t.table.shared.table_id t.table.shared.key };
 }

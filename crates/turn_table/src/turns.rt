@@ -5,8 +5,8 @@ ghost use Rattle.turn_table.specs.Seated.{with_turn, with_miss, without_turn, wi
 ghost use Rattle.turn_table.specs.Seated.{without_greatest, greatest_alone};
 
 use crate::home::Home;
-use crate::place::Place;
-use crate::plays::{Gathers, Gives, Parts, Reaches, Rests, Tries};
+use crate::place::TablePlace;
+use crate::plays::{GathersTurns, GivesTurn, PartsTurns, Reaches, Rests, Tries};
 use crate::seat::{TurnSeat, sit};
 use crate::table::TurnTable;
 
@@ -31,8 +31,8 @@ impl<T: Home> TurnTable<T> {
             seat.badge = at.into_badge();
             return None;
         }
-        let found = shared.exchange(&mut at, word, Place::Empty);
-        let Place::Value(value) = found else {
+        let found = shared.exchange(&mut at, word, TablePlace::Empty);
+        let TablePlace::Value(value) = found else {
             unreachable!()
         };
         shared.load::<Rests>(&mut at, word);
@@ -53,9 +53,11 @@ impl<T: Home> TurnTable<T> {
         let word = lane as usize;
         let mut at = sit(&mut seat.badge);
         shared.load::<Reaches>(&mut at, word);
-        let found = shared.exchange(&mut at, word, Place::Value(value));
-        let Place::Empty = found else { unreachable!() };
-        shared.store::<Gives>(&mut at, word, 0);
+        let found = shared.exchange(&mut at, word, TablePlace::Value(value));
+        let TablePlace::Empty = found else {
+            unreachable!()
+        };
+        shared.store::<GivesTurn>(&mut at, word, 0);
         seat.badge = at.into_badge();
     }
 
@@ -70,7 +72,7 @@ impl<T: Home> TurnTable<T> {
         let mut at = sit(&mut seat.badge);
         self.table
             .shared
-            .join_seat::<Gathers>(&mut at, badge.into_seat());
+            .join_seat::<GathersTurns>(&mut at, badge.into_seat());
         seat.badge = at.into_badge();
     }
 
@@ -83,7 +85,7 @@ impl<T: Home> TurnTable<T> {
         ensures made { result ≡ greatest_alone seat.old }
     {
         let mut at = sit(&mut seat.badge);
-        let parted = self.table.shared.split_seat::<Parts>(&mut at);
+        let parted = self.table.shared.split_seat::<PartsTurns>(&mut at);
         seat.badge = at.into_badge();
         TurnSeat {
             badge: parted.into_badge(),

@@ -3,7 +3,7 @@ ghost use Rattle.history_book.specs.Requests.{reactor_after_take};
 ghost use Rattle.history_book.specs.Time.{next_time};
 ghost use Rattle.proactor_core.specs.Proactor.{after_point};
 ghost use Rattle.book_context.specs.Book.{KeepsHistory};
-ghost use Rattle.book_context.specs.BookSteps.{passed};
+ghost use Rattle.book_context.specs.BookSteps.{passed_event};
 ghost use Rattle.book_context.specs.InTurn.{HasBegun, HasBroken, HasBrokenOff};
 ghost use Rattle.book_context.specs.Oldest.{with_request};
 ghost use Rattle.book_context.specs.Recorded.{recorded_half};
@@ -29,8 +29,8 @@ pub(super) fn begin_take<N: Session>(recording: &mut Record<'_>, a: ActNo)
 }
 
 /// The event of a time point that has passed.
-fn passed(point: &Point) -> Event
-    ensures { result ≡ passed point.now }
+fn passed_event(point: &Point) -> Event
+    ensures { result ≡ passed_event point.now }
 {
     match *point {
         Point::Time(now) => Event::Tick { now },
@@ -49,7 +49,7 @@ pub(super) fn begin_tick<N: Session>(recording: &mut Record<'_>, point: &Point)
         (after_point recording.old.script N.told point.now (recorded_half N.told recording.old)) }
 {
     turns_are_recorded();
-    recording.push(passed(point));
+    recording.push(passed_event(point));
 }
 
 /// The reactor has failed, before any of a turn was told.

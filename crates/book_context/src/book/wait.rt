@@ -4,7 +4,7 @@ ghost use Rattle.history_book.specs.State.{ReactorHalf};
 ghost use Rattle.history_book.specs.Time.{pending_count};
 ghost use Rattle.proactor_core.specs.Proactor.{Follows, IsSound};
 ghost use Rattle.book_context.specs.Book.{KeepsHistory, KeepsReactor};
-ghost use Rattle.book_context.specs.InTurn.{SpendsNone, Waits};
+ghost use Rattle.book_context.specs.InTurn.{SpendsNone, WaitsForOutside};
 ghost use Rattle.book_context.specs.Steps.{IsRoundOpen};
 
 use super::reactor_turn::tick;
@@ -48,7 +48,7 @@ pub(super) fn wait_for_outside<'a, X: Reactor, N: Session>(
         proactor.new }
     ensures script { recording.new.script ≡ recording.old.script }
     ensures spent { SpendsNone N.told recording.old recording.new }
-    ensures waits { Waits X.faults N.told result recording.old recording.new proactor.old
+    ensures waits { WaitsForOutside X.faults N.told result recording.old recording.new proactor.old
         proactor.new }
 {
     rounds_are_recorded();

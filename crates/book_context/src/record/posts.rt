@@ -40,7 +40,7 @@ impl<'a> Posts<'a> {
     }
 
     /// One call more, which is so many events.
-    fn note(&mut self, call: Posted, events: u64)
+    fn keep(&mut self, call: Posted, events: u64)
         requires { vec_len self.old.calls < vec_capacity self.old.calls }
         ensures calls { self.new.calls.items ≡ self.old.calls.items ++ call ∷ [] }
         ensures room { vec_capacity self.new.calls ≡ vec_capacity self.old.calls }
@@ -56,7 +56,7 @@ impl<'a> Posts<'a> {
         ensures room { vec_capacity self.new.calls ≡ vec_capacity self.old.calls }
     {
         let stops = act < self.script.acts() && self.script.is_stop(act);
-        self.note(Posted::Call { act }, if stops { 2 } else { 1 });
+        self.keep(Posted::Call { act }, if stops { 2 } else { 1 });
     }
 
     /// Calls acts of which none executes inside its call, one after another.
@@ -67,7 +67,7 @@ impl<'a> Posts<'a> {
     {
         for &act in acts {
             self.note_call(act);
-            self.note(Posted::Back { act }, 1);
+            self.keep(Posted::Back { act }, 1);
         }
     }
 }
@@ -82,7 +82,7 @@ impl<'a> Poster for Posts<'a> {
 
     fn begin(&mut self, op: OpNo, code: Code, size: u32) -> u64 {
         let begun = self.position;
-        self.note(
+        self.keep(
             Posted::Begin {
                 op,
                 code,
@@ -99,11 +99,11 @@ impl<'a> Poster for Posts<'a> {
     }
 
     fn back(&mut self, act: ActNo) {
-        self.note(Posted::Back { act }, 1);
+        self.keep(Posted::Back { act }, 1);
     }
 
     fn end(&mut self, op: OpNo, ran: Ran) {
-        self.note(Posted::End { op, ran }, 1);
+        self.keep(Posted::End { op, ran }, 1);
     }
 
     ghost first_part = { λ posts first rest taken. Prim.omega (arith, taken, length-append first rest) };

@@ -1,10 +1,10 @@
 use Rattle.std.proofs.Common.{◌≡◌}
 use Rattle.lane_clock.specs.Seats.{own}
-use Rattle.lane_clock.specs.Steps.{counted, draw_count}
+use Rattle.lane_clock.specs.Steps.{step_count, draw_count}
 use Rattle.draw_speed.proofs.draw_all.Given as goal
 
 abbrev pub invariant-loop : goal.invariant-loop
 invariant-loop l = record {
   same : l.seat.clock ≡ l.clock;
-  drawn : counted draw_count (own l.seat) ≡ l.counter;
+  drawn : step_count draw_count (own l.seat) ≡ l.counter;
 }

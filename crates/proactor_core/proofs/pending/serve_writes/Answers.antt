@@ -2,7 +2,7 @@ use Rattle.std.proofs.Common.{◌≡◌, [], suc, List, ap, map, sym, ◌∙◌,
 use Rattle.std.proofs.lemmas.Grind.{common_steps}
 use Rattle.stream_rules.specs.Queue.{Pending, writing_side}
 use Rattle.stream_rules.specs.Serving.{Writing}
-use Rattle.composed_ops.specs.Asking.{Asking}
+use Rattle.composed_ops.specs.StreamOperation.{StreamOperation}
 use Rattle.history_book.specs.Untold.{may_give_write}
 use Rattle.proactor_core.specs.declared.pending.PendingOp.{PendingOp}
 use Rattle.proactor_core.specs.Due.{Due}
@@ -100,7 +100,7 @@ loop-head-preserved g c =
     let served = rw popped at before.served in
     let allowed = rw c.in-Some-2.is at once.allowed in
     let follows = rw c.in-Some-2.is at once.follows in
-    let asks : Asking = (progress_in head).asks in
+    let asks : StreamOperation = (progress_in head).asks in
     let spare = ap (λ (d : Due). d.spare) c.push_reserved.ensures in
     record {
       keeps = once.keeps ∙ before.keeps;

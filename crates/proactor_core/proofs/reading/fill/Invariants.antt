@@ -1,7 +1,7 @@
 use Rattle.std.proofs.Common.{◌≡◌, ◌-◌, ◌<◌, length}
 use Rattle.std.specs.Option.{IfSome}
 use Rattle.composed_ops.specs.Feeding.{course_of}
-use Rattle.composed_ops.specs.Progress.{Progress}
+use Rattle.composed_ops.specs.Progress.{StreamProgress}
 use Rattle.proactor_core.specs.Reactor.{tells, ChangesOne}
 use Rattle.proactor_core.specs.Reading.{exchange_at}
 use Rattle.proactor_core.proofs.reading.fill.Given as goal
@@ -14,7 +14,7 @@ invariant-loop-held g l = record {
   room : l.held.room ≡ l.initial.held.room;
   there : IfSome (g.X.Reactor.told l.reactor) (λ outside. l.stream < length outside.streams);
   told : ChangesOne l.stream (g.X.Reactor.told l.initial.reactor) (g.X.Reactor.told l.reactor);
-  same : IfSome (g.X.Reactor.told l.initial.reactor) (λ _. (progress : Progress) →
+  same : IfSome (g.X.Reactor.told l.initial.reactor) (λ _. (progress : StreamProgress) →
       course_of (exchange_at progress l.held.bytes (g.X.Reactor.told l.reactor) l.stream)
       ≡ course_of (exchange_at progress l.initial.held.bytes (g.X.Reactor.told l.initial.reactor) l.stream));
 }

@@ -1,6 +1,6 @@
 use Rattle.std.proofs.Common.{◌-◌, ap, take, ◌∙◌}
 use Rattle.stream_rules.specs.Moving.{moved_count}
-use Rattle.composed_ops.specs.Asking.{size_of}
+use Rattle.composed_ops.specs.StreamOperation.{most_moved}
 use Rattle.composed_ops.specs.Machine.{progress_of}
 use Rattle.proactor_core.specs.Round.{round_of}
 use Rattle.proactor_core.proofs.GivingLemmas.{fits-within, gives-allowed}
@@ -22,7 +22,7 @@ returns-clause-allowed g c =
     let progress = progress_of c.args.machine.now in
     let turns = c.round_of.ensures ∙ ap round_of c.got.ensures.step in
     rw turns (gives-allowed progress c.in_ok-moved.moved c.requires.may_read.under_way (fits-within
-    (size_of progress.asks - progress.moved) c.args.most c.in_ok-moved.moved c.requires.within.1
+    (most_moved progress.asks - progress.moved) c.args.most c.in_ok-moved.moved c.requires.within.1
     c.in_ok-moved.ensures.within))
 
 pub returns-clause-follows : goal.returns-clause-follows

@@ -1,7 +1,7 @@
 use Rattle.std.proofs.Common.{◌<◌, sym, ap, ◌∙◌, length, map, arith}
-use Rattle.stream_rules.specs.Stream.{performed}
+use Rattle.stream_rules.specs.Stream.{line_performed}
 use Rattle.stream_rules.specs.World.{lines_at, changed_at}
-use Rattle.stream_rules.specs.Pipes.{stream_of}
+use Rattle.stream_rules.specs.Pipes.{pipe_stream}
 use Rattle.stream_rules.proofs.PipeLemmas.{changed-set, perform-more, room-bytes, room-room, uses-more, marked-set, within-due}
 use Rattle.stream_rules.proofs.pipes.perform_due.Goals as goal
 
@@ -32,10 +32,10 @@ loop-number-preserved c =
     within-due due c.loop-number.number (length c.args.pipes.now) line c.requires.within c.due_line-line.ensures in
     let there : line.stream < length pipes = omega (arith, c.loop-number.auto.pipes) in
     let changed =
-    changed-set (performed line.what) pipes line.stream c.index-pipes-line.result c.perform.new.self there
+    changed-set (line_performed line.what) pipes line.stream c.index-pipes-line.result c.perform.new.self there
     c.perform.ensures.stream in
-    let more = perform-more due c.loop-number.number line (map stream_of c.args.pipes.now) c.due_line-line.ensures in (
-      changed ∙ ap (changed_at line.stream (performed line.what)) c.loop-number.invariant.0 ∙ sym more,
+    let more = perform-more due c.loop-number.number line (map pipe_stream c.args.pipes.now) c.due_line-line.ensures in (
+      changed ∙ ap (changed_at line.stream (line_performed line.what)) c.loop-number.invariant.0 ∙ sym more,
       uses-more due c.loop-number.number line c.args.pipes.now pipes c.index-pipes-line.result c.perform.new.self
           c.due_line-line.ensures there c.perform.ensures.bytes_left c.perform.ensures.room_left
           c.loop-number.invariant.1,

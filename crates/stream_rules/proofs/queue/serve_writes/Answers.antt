@@ -1,5 +1,5 @@
 use Rattle.std.proofs.Common.{◌≡◌, refl, ◌∙◌, map, arith}
-use Rattle.stream_rules.specs.Pipes.{stream_of}
+use Rattle.stream_rules.specs.Pipes.{pipe_stream}
 use Rattle.stream_rules.specs.Queue.{asked, writing_side, served_queue}
 use Rattle.stream_rules.proofs.QueueLemmas.{served-goes_on, there, All-behind}
 use Rattle.stream_rules.proofs.queue.serve_writes.Goals as goal
@@ -18,9 +18,9 @@ loop-head-preserved g c =
     let some = after.stays.1 in
     let gone = there step.result.outcome (c.stays.new.queue.items ≡ queue) some after.gone in (
       served-goes_on writing_side asks
-          (served_queue writing_side (map (asked asks) c.args.queue.now.items) (stream_of c.args.pipe.now))
+          (served_queue writing_side (map (asked asks) c.args.queue.now.items) (pipe_stream c.args.pipe.now))
           c.args.completed.now.items c.loop-head.completed.items c.stays.new.completed.items head queue
-          c.stays.new.queue.items (stream_of c.loop-head.pipe) (stream_of step.new.self) step.result step.result.outcome
+          c.stays.new.queue.items (pipe_stream c.loop-head.pipe) (pipe_stream step.new.self) step.result step.result.outcome
           refl some is left after.listed after.gone (rw popped at before.0),
       All-behind (g.A.Asks.IsWriting c.args.asks.now) head c.loop-head.queue.items queue c.stays.new.queue.items
           popped gone before.1,

@@ -2,9 +2,9 @@ use Rattle.std.proofs.Common.{◌≡◌, ◌+◌, ◌++◌, ℕ, List, [], ◌�
 use Rattle.std.proofs.lemmas.Grind.{common_steps}
 use Rattle.asio_types.specs.declared.event.Event.{Event}
 use Rattle.history_book.specs.Trace.{AreEvents, trace_of}
-use Rattle.trace_check.specs.Split.{count_of}
+use Rattle.trace_check.specs.Split.{byte_count}
 use Rattle.trace_check.specs.Reading.{BadLine, IsTraceOf}
-use Rattle.trace_check.proofs.SplitLemmas.{count_of-le}
+use Rattle.trace_check.proofs.SplitLemmas.{byte_count-le}
 use Rattle.trace_check.proofs.ReadingLemmas.{no_bad_line, no_bad_trace, named_line, are_events_more, trace_more}
 use Rattle.trace_check.proofs.reading.read_trace.Goals as goal
 
@@ -12,14 +12,14 @@ pub loop-rest-init : goal.loop-rest-init
 loop-rest-init c =
     let bytes = c.args.bytes.now in
     let empty : c.in_ok-history.history.events ≡ [] = ap (λ h. h.events) c.in_ok-history.ensures in
-    let room : c.in_ok-history.history.spare ≡ count_of 10 bytes =
+    let room : c.in_ok-history.history.spare ≡ byte_count 10 bytes =
     ap (λ h. h.spare) c.in_ok-history.ensures ∙ c.line_count.ensures in
     record {
       lines_before = ap (λ events. trace_of events ++ bytes) (sym empty);
       numbers = subst AreEvents (sym empty) tt;
       number_of_line = omega (arith, ap length empty);
       room = room;
-      few = omega (arith, count_of-le 10 bytes);
+      few = omega (arith, byte_count-le 10 bytes);
     }
 
 bad_here : (c : goal.After-drop-history-inside) → BadLine c.args.bytes.now c.loop-rest.line
@@ -44,7 +44,7 @@ loop-rest-preserved c =
     let before : List Event = c.loop-rest.history.events in
     let tail : List ℕ = c.in-Some.behind.now in
     let longer : c.push_reserved.new.self.events ≡ before ++ c.in-Some.event ∷ [] = c.push_reserved.ensures.events in
-    let lines : count_of 10 c.loop-rest.rest.now ≡ count_of 10 tail + 1 = c.in-Some.ensures.lines in
+    let lines : byte_count 10 c.loop-rest.rest.now ≡ byte_count 10 tail + 1 = c.in-Some.ensures.lines in
     record {
       lines_before =
           trace_more before c.in-Some.event c.args.bytes.now c.loop-rest.rest.now tail

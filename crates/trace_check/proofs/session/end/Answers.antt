@@ -1,7 +1,7 @@
 use Rattle.std.proofs.Common.{Err, ap, map, refl, string_bytes, subst}
 use Rattle.text_io.specs.Seen.{seen_by}
 use Rattle.trace_check.proofs.SessionLemmas.{said_of}
-use Rattle.trace_check.specs.Question.{Asks, HasFault, HasNoTrace}
+use Rattle.trace_check.specs.Question.{HasNoTrace, HasScriptFault, IsQuestionOf}
 use Rattle.trace_check.proofs.session.end.Goals as goal
 
 pub returns-in-Err-Refused-clause-says : goal.returns-in-Err-Refused-clause-says
@@ -10,7 +10,11 @@ returns-in-Err-Refused-clause-says g c =
     let fault = c.in-Err-Refused.ensures.refused refusal (ap Err c.in-Err-Refused.field-0-is) in (
       refusal,
       (c.in-Some.form, (c.in-Some.ensures.some c.in-Some.form).0 refl),
-      (c.in-Ok.input.items, c.in-Ok.ensures.text, subst (λ text. HasFault text refusal) c.as_slice.ensures.value fault),
+      (
+        c.in-Ok.input.items,
+        c.in-Ok.ensures.text,
+        subst (λ text. HasScriptFault text refusal) c.as_slice.ensures.value fault,
+      ),
       rw c.in-Err-Refused.field-0-is refl,
     )
 
@@ -43,7 +47,7 @@ returns-in-Ok-judge-clause-says g c =
       read = (
         c.in-Ok.input.items,
         c.in-Ok.ensures.text,
-        subst (λ text. Asks text script events) c.as_slice.ensures.value c.in-Ok-question_of.ensures.asks,
+        subst (λ text. IsQuestionOf text script events) c.as_slice.ensures.value c.in-Ok-question_of.ensures.asks,
       );
       verdict = c.in-Ok-judge.verdict;
       is = c.in-Ok-judge.ensures.verdict;

@@ -3,7 +3,7 @@ use Rattle.std.proofs.lemmas.Bool.{cases_eq}
 use mathlib.Core.Option.{some-injective}
 use lib.ListN.{get_elem?}
 use Rattle.std.specs.Mem.Slots.{slots_items, slots_filled, slots_counts}
-use Rattle.turn_table.specs.declared.place.Place.TheVariants.{Value}
+use Rattle.turn_table.specs.declared.place.TablePlace.TheVariants.{Value}
 use Rattle.turn_table.specs.Laid.{AreAtHome}
 use Rattle.turn_table.proofs.LaidLemmas.{at_home_more, value_or}
 use Rattle.turn_table.proofs.make.take_out.Goals as goal

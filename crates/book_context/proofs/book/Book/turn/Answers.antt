@@ -1,10 +1,9 @@
 use Rattle.std.proofs.Common.{sym, ap, subst, ◌∙◌}
 use Rattle.book_context.specs.Book.{IsBook, KeepsHistory, KeepsReactor}
-use Rattle.book_context.specs.InTurn.{HasTakenNext, SpendsNone, Waits}
+use Rattle.book_context.specs.InTurn.{HasTakenNext, SpendsNone, WaitsForOutside}
 use Rattle.book_context.specs.Steps.{IsRoundOpen}
 use Rattle.book_context.proofs.BookTurnLemmas.{closed_answer, executed_answer, executed_book, stopped_answer, taken_answer, turned_book, waited_answer}
 use Rattle.book_context.proofs.OpenRoundLemmas.{round_open}
-use Rattle.book_context.proofs.book.Book.turn.Given as given
 use Rattle.book_context.proofs.book.Book.turn.Goals as goal
 
 pub returns-then-stopped : goal.returns-then-stopped
@@ -173,10 +172,10 @@ returns-in-None g c =
     (round_open c.self.inside.record (sym c.is_open.ensures ∙ c.if-not-is_open.false)) c.wait_for_outside.result
     c.wait_for_outside.new.recording c.wait_for_outside.new.proactor (subst
     (λ r.
-    Waits g.X.Reactor.faults g.N.Session.told c.wait_for_outside.result r c.wait_for_outside.new.recording
+    WaitsForOutside g.X.Reactor.faults g.N.Session.told c.wait_for_outside.result r c.wait_for_outside.new.recording
     c.self.inside.proactor c.wait_for_outside.new.proactor)
     (c.in-None.ensures.same ∙ c.execute_next.ensures.same c.if-execute_next.false) (subst
     (λ v.
-    Waits g.X.Reactor.faults g.N.Session.told c.wait_for_outside.result c.take_next.new.recording
+    WaitsForOutside g.X.Reactor.faults g.N.Session.told c.wait_for_outside.result c.take_next.new.recording
     c.wait_for_outside.new.recording v c.wait_for_outside.new.proactor) c.in-None.ensures.same_proactor
     c.wait_for_outside.ensures.waits)))

@@ -2,11 +2,9 @@ use Rattle.std.proofs.Common.{inl, refl, sym, ap, subst, ◌∙◌}
 use Rattle.history_book.specs.Requests.{reactor_after_take}
 use Rattle.proactor_core.specs.Proactor.{Follows, tells}
 use Rattle.book_context.specs.Recorded.{recorded_half}
-use Rattle.book_context.specs.TurnSteps as steps
 use Rattle.book_context.specs.Oldest.{with_request}
 use Rattle.book_context.proofs.BookHistoryLemmas.{some_behind}
 use Rattle.book_context.proofs.ReactorTurnLemmas.{begun_turn, broken_faulted, broken_keeps, can_turn, may_take, now-take, now_turned, whole_keeps, whole_turned}
-use Rattle.book_context.proofs.book.reactor_turn.take_oldest.Given as given
 use Rattle.book_context.proofs.book.reactor_turn.take_oldest.Goals as goal
 
 pub take-requires-clause-sound : goal.take-requires-clause-sound

@@ -3,7 +3,6 @@ use Rattle.history_book.specs.Time.{next_time}
 use Rattle.proactor_core.specs.Proactor.{Follows, after_point, tells}
 use Rattle.book_context.specs.Recorded.{recorded_half}
 use Rattle.book_context.proofs.ReactorTurnLemmas.{begun_turn, lost_keeps, next_moved, now-point, now_turned, whole_keeps, whole_turned}
-use Rattle.book_context.proofs.book.reactor_turn.tick.Given as given
 use Rattle.book_context.proofs.book.reactor_turn.tick.Goals as goal
 
 pub tick-requires-clause-sound : goal.tick-requires-clause-sound

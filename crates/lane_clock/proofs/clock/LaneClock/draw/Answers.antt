@@ -1,8 +1,8 @@
 use Rattle.std.proofs.Common.{ap, ◌∙◌, sym, arith, subst, ◌<◌}
-use Rattle.lane_clock.specs.declared.step.Step.TheVariants.{Draw}
+use Rattle.lane_clock.specs.declared.step.ClockStep.TheVariants.{Draw}
 use Rattle.lane_clock.specs.ClockWord.{change_of}
 use Rattle.lane_clock.specs.Seats.{SeatView, Owns, own}
-use Rattle.lane_clock.specs.Steps.{counted, draw_count}
+use Rattle.lane_clock.specs.Steps.{step_count, draw_count}
 use Rattle.lane_clock.proofs.WordLemmas.{change_of-amount}
 use Rattle.lane_clock.proofs.SeatLemmas.{shown_step, keeps_step}
 use Rattle.lane_clock.proofs.StepLemmas.{may_draw}
@@ -11,7 +11,7 @@ use Rattle.lane_clock.proofs.clock.LaneClock.draw.Goals as goal
 pub fetch_add-word-requires : goal.fetch_add-word-requires
 fetch_add-word-requires c =
     let same = ap (λ s. s.clock) c.seat.view_is ∙ (c.requires.clock ∙ sym c.self.view_is) in
-    let room = subst (λ (s : SeatView). counted draw_count (own s) < 65536) (sym c.seat.view_is) c.requires.room in (
+    let room = subst (λ (s : SeatView). step_count draw_count (own s) < 65536) (sym c.seat.view_is) c.requires.room in (
       ap (λ k. k.table) same,
       omega (arith, c.self.invariant.words),
       may_draw _ _ _ _ c.seat.invariant.mine c.args.change c.amount_of.result c.amount_of.ensures room,

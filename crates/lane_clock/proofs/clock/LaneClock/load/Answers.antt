@@ -1,5 +1,5 @@
 use Rattle.std.proofs.Common.{ap, ◌∙◌, sym, arith, subst}
-use Rattle.lane_clock.specs.declared.step.Step.TheVariants.{Load}
+use Rattle.lane_clock.specs.declared.step.ClockStep.TheVariants.{Load}
 use Rattle.lane_clock.specs.Seats.{SeatView, Owns}
 use Rattle.lane_clock.proofs.SeatLemmas.{shown_step, keeps_step}
 use Rattle.lane_clock.proofs.StepLemmas.{may_load}

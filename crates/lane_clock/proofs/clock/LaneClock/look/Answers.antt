@@ -2,7 +2,7 @@ use Rattle.std.proofs.Common.{◌≡◌, ap, ◌∙◌, sym, arith, subst, ◌<�
 use Rattle.lane_clock.specs.Seats.{SeatView, Owns, own}
 use Rattle.lane_clock.specs.Layout.{Layout, total, slot, cell_word}
 use Rattle.lane_clock.proofs.WordLemmas.{slot_within}
-use Rattle.lane_clock.specs.declared.step.Step.TheVariants.{Look}
+use Rattle.lane_clock.specs.declared.step.ClockStep.TheVariants.{Look}
 use Rattle.lane_clock.proofs.PlaceLemmas.{may_look}
 use Rattle.lane_clock.proofs.SeatLemmas.{shown_step, cell_found, own_step, keeps_step}
 use Rattle.lane_clock.proofs.clock.LaneClock.look.Goals as goal

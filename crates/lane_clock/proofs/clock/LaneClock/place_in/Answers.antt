@@ -1,7 +1,7 @@
 use Rattle.std.proofs.Common.{◌≡◌, ap, ◌∙◌, sym, arith, subst, ◌<◌, length, false, ◌+◌}
 use Rattle.lane_clock.specs.Seats.{SeatView, Owns, own}
-use Rattle.lane_clock.specs.Steps.{has_drawn, has_put, counted, place_count}
-use Rattle.lane_clock.specs.declared.step.Step.TheVariants.{Place}
+use Rattle.lane_clock.specs.Steps.{has_drawn, has_put, step_count, place_count}
+use Rattle.lane_clock.specs.declared.step.ClockStep.TheVariants.{Place}
 use Rattle.lane_clock.specs.Layout.{Layout, lane_of_place}
 use Rattle.lane_clock.proofs.SeatLemmas.{shown_step, own_step, keeps_step, drawn_last, fresh_last}
 use Rattle.lane_clock.proofs.PlaceLemmas.{may_place}
@@ -16,7 +16,7 @@ fetch_add-place-requires c =
     subst (λ (p : Layout). c.args.lane < length p.cells) (sym key) c.requires.lane in
     let words = c.self.invariant.words in
     let plan = c.self.invariant.key in
-    let room = subst (λ (s : SeatView). counted place_count (own s) < 65536) (sym c.seat.view_is) c.requires.room in
+    let room = subst (λ (s : SeatView). step_count place_count (own s) < 65536) (sym c.seat.view_is) c.requires.room in
     let long : length c.self.inside.table.shared.key.cells ≡ length c.self.inside.plan.cells =
     ap (λ (p : Layout). length p.cells) plan in
     (ap (λ k. k.table) same, omega (arith, words), may_place _ _ _ _ c.seat.invariant.mine c.args.lane lane room)

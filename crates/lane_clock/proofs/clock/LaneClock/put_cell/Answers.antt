@@ -3,10 +3,10 @@ use Rattle.lane_clock.specs.Layout.{Layout, total, slot, cell_word}
 use Rattle.lane_clock.specs.Seats.{SeatView, Owns, own}
 use Rattle.lane_clock.specs.Steps.{has_drawn, has_put}
 use Rattle.lane_clock.proofs.WordLemmas.{slot_within}
-use Rattle.lane_clock.specs.declared.step.Step.TheVariants.{Put}
-use Rattle.lane_clock.specs.NoteWord.{note_of}
+use Rattle.lane_clock.specs.declared.step.ClockStep.TheVariants.{Put}
+use Rattle.lane_clock.specs.NoteWord.{note_in_word}
 use Rattle.lane_clock.proofs.PlaceLemmas.{may_put}
-use Rattle.lane_clock.proofs.NoteLemmas.{note_of-note_word, some_same}
+use Rattle.lane_clock.proofs.NoteLemmas.{note_in_word-note_word, some_same}
 use Rattle.lane_clock.proofs.SeatLemmas.{shown_step, cell_found, own_step, keeps_step}
 use Rattle.lane_clock.proofs.clock.LaneClock.put_cell.Goals as goal
 
@@ -53,7 +53,8 @@ returns c =
     let found = cell_found _ _ c.args.lane c.args.place c.cell_word.result plan is cell in
     let put = c.store.ensures.2 in
     let note : put.0 ≡ c.args.note =
-    some_same (sym put.1 ∙ (ap note_of c.to_word.ensures.word ∙ note_of-note_word c.args.note c.to_word.ensures.note)) in
+    some_same (sym put.1 ∙ (ap note_in_word c.to_word.ensures.word
+    ∙ note_in_word-note_word c.args.note c.to_word.ensures.note)) in
     let mine = subst (λ (s : SeatView). Owns s s.number) c.seat.view_is c.seat.invariant.mine in
     let step =
     shown_step _ _ c.seat.inside.seat.me.0 _ _ (Put c.args.lane c.args.place c.args.note) _ c.store.ensures.0

@@ -1,7 +1,7 @@
 use Rattle.std.proofs.Common.{◌≡◌, ◌+◌, ◌-◌, ◌≤◌, ap, ◌∙◌, sym, arith, subst, true, reverse, length, ◌∷◌}
 use Rattle.lane_clock.specs.declared.step.View.{View}
 use Rattle.lane_clock.specs.Knowledge.{known_at}
-use Rattle.lane_clock.specs.Seats.{ClockId, seen_as, new_seats}
+use Rattle.lane_clock.specs.Seats.{ClockId, seen_as, new_clock_seats}
 use Rattle.lane_clock.specs.Layout.{Layout}
 use Rattle.lane_clock.specs.Plays.{giver_after, given}
 use Rattle.lane_clock.proofs.ShareLemmas.{may_give}
@@ -46,7 +46,7 @@ loop-left-preserved c =
           (seen_as c.split_seat-seat.result.table_id c.split_seat-seat.result.me.0)
           ∙ (ap (λ x. x ∷ reverse c.loop-left.list.items) seat
           ∙ (seats_more _ c.loop-left.left (c.args.seats - c.loop-left.left) _ c.loop-left-test.true inv.list
-          ∙ ap (new_seats _ (c.loop-left.left - 1)) (sym more))));
+          ∙ ap (new_clock_seats _ (c.loop-left.left - 1)) (sym more))));
     }
 
 pub invariant_of-result : goal.invariant_of-result
@@ -56,14 +56,14 @@ invariant_of-result c =
     let zero : c.loop-left.left ≡ 0 = omega (arith, c.loop-left-test.false) in
     let all : c.args.seats - c.loop-left.left ≡ c.args.seats = omega arith in
     let plan : c.loop-left.giver.me.0.plan ≡ c.args.table.now.shared.key = ap (λ m. m.0.plan) inv.giver in
-    let listed : reverse c.loop-left.list.items ≡ new_seats clock 0 c.args.seats =
-    inv.list ∙ (λ i. new_seats clock (zero i) (all i)) in
+    let listed : reverse c.loop-left.list.items ≡ new_clock_seats clock 0 c.args.seats =
+    inv.list ∙ (λ i. new_clock_seats clock (zero i) (all i)) in
     let long : length c.loop-left.list.items ≡ c.args.seats =
     all_listed clock c.loop-left.list.items c.args.seats listed in
     let seats : c.loop-left.giver.me.0.plan.seats ≡ c.args.seats =
     ap (λ (p : Layout). p.seats) plan ∙ c.requires.seats in
     let fits = c.ranges.seats.fits in record {
-      order = listed ∙ (λ i. new_seats record { table = sym inv.table i; plan = sym plan i } 0 (sym long i));
+      order = listed ∙ (λ i. new_clock_seats record { table = sym inv.table i; plan = sym plan i } 0 (sym long i));
       count = omega arith;
       few = omega arith;
     }

@@ -1,8 +1,8 @@
 use Rattle.std.proofs.Common.{◌≡◌, ◌<◌, Some, length, refl, sym, ap, subst, ◌∙◌, arith}
 use Rattle.std.specs.Option.{option_map}
-use Rattle.composed_ops.specs.Asking.{Reads, size_of}
+use Rattle.composed_ops.specs.StreamOperation.{Reads, most_moved}
 use Rattle.composed_ops.specs.Machine.{progress_of}
-use Rattle.composed_ops.specs.Progress.{Progress, new_progress}
+use Rattle.composed_ops.specs.Progress.{StreamProgress, new_progress}
 use Rattle.history_book.specs.Performing.{read_accepted, with_taken}
 use Rattle.proactor_core.specs.Pending.{reading_asked}
 use Rattle.proactor_core.specs.Proactor.{IsAt, IsTurning, ProactorView}
@@ -69,7 +69,7 @@ accept_read-requires-clause-holds g c =
     ap (option_map progress_of) (sym c.in-Some.is) ∙ c.of.ensures.machine
     ∙ ap (option_map new_progress) asks.asks in
     let same : progress_of c.in-Some.machine ≡ new_progress (Reads asks.reading) = cc in
-    let size = ap (λ (p : Progress). size_of p.asks) same in
+    let size = ap (λ (p : StreamProgress). most_moved p.asks) same in
     let room = may.turning.room.queues.sizes a n it within may.is_act in
     omega (arith, size, room, asks.size)
 
@@ -95,7 +95,7 @@ connect-requires g c =
     ∙ ap (option_map new_progress) asks.asks in
     let is_asked : reading_asked (progress_of c.in-Some.machine).asks ≡ asks.reading =
     let same : progress_of c.in-Some.machine ≡ new_progress (Reads asks.reading) = cc in
-    ap (λ (p : Progress). reading_asked p.asks) same in
+    ap (λ (p : StreamProgress). reading_asked p.asks) same in
     let new : c.accept_read.new.self ≡ (begun a n opened base).streams =
     c.accept_read.ensures.accepted
     ∙ ap (λ m. with_stream_in n (read_begun a m (reading_asked (progress_of c.in-Some.machine).asks)) base.streams)
@@ -145,7 +145,7 @@ returns-clause-follows g c = λ half wanted is at.
     ∙ ap (option_map new_progress) asks.asks in
     let is_asked : reading_asked (progress_of c.in-Some.machine).asks ≡ asks.reading =
     let same : progress_of c.in-Some.machine ≡ new_progress (Reads asks.reading) = cc in
-    ap (λ (p : Progress). reading_asked p.asks) same in
+    ap (λ (p : StreamProgress). reading_asked p.asks) same in
     let new : c.accept_read.new.self ≡ (begun a n opened base).streams =
     c.accept_read.ensures.accepted
     ∙ ap (λ m. with_stream_in n (read_begun a m (reading_asked (progress_of c.in-Some.machine).asks)) base.streams)

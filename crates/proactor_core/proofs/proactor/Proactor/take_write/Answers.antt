@@ -1,8 +1,8 @@
 use Rattle.std.proofs.Common.{◌≡◌, ◌<◌, Some, length, refl, sym, ap, subst, ◌∙◌, arith}
 use Rattle.std.specs.Option.{option_map}
-use Rattle.composed_ops.specs.Asking.{Writes}
+use Rattle.composed_ops.specs.StreamOperation.{Writes}
 use Rattle.composed_ops.specs.Machine.{progress_of}
-use Rattle.composed_ops.specs.Progress.{Progress, new_progress}
+use Rattle.composed_ops.specs.Progress.{StreamProgress, new_progress}
 use Rattle.history_book.specs.Performing.{with_taken, write_accepted}
 use Rattle.proactor_core.specs.Pending.{writing_asked}
 use Rattle.proactor_core.specs.Proactor.{IsAt, IsTurning, ProactorView}
@@ -71,7 +71,7 @@ connect-requires g c =
     ∙ ap (option_map new_progress) asks.asks in
     let is_asked : writing_asked (progress_of c.in-Some.machine).asks ≡ asks.writing =
     let same : progress_of c.in-Some.machine ≡ new_progress (Writes asks.writing) = cc in
-    ap (λ (p : Progress). writing_asked p.asks) same in
+    ap (λ (p : StreamProgress). writing_asked p.asks) same in
     let new : c.accept_write.new.self ≡ (begun a n opened base).streams =
     c.accept_write.ensures.accepted
     ∙ ap (λ m. with_stream_in n (write_begun a m (writing_asked (progress_of c.in-Some.machine).asks)) base.streams)
@@ -121,7 +121,7 @@ returns-clause-follows g c = λ half wanted is at.
     ∙ ap (option_map new_progress) asks.asks in
     let is_asked : writing_asked (progress_of c.in-Some.machine).asks ≡ asks.writing =
     let same : progress_of c.in-Some.machine ≡ new_progress (Writes asks.writing) = cc in
-    ap (λ (p : Progress). writing_asked p.asks) same in
+    ap (λ (p : StreamProgress). writing_asked p.asks) same in
     let new : c.accept_write.new.self ≡ (begun a n opened base).streams =
     c.accept_write.ensures.accepted
     ∙ ap (λ m. with_stream_in n (write_begun a m (writing_asked (progress_of c.in-Some.machine).asks)) base.streams)

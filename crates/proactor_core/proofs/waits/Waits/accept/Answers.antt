@@ -1,7 +1,7 @@
 use Rattle.std.proofs.Common.{◌≢◌, ◌<◌, ◌++◌, ℕ, [], ◌∷◌, length, map, set, deque_capacity, deque_items, refl, ap, sym, subst, ◌∙◌, arith}
 use Rattle.std.specs.List.{All}
 use Rattle.std.proofs.lemmas.List.{get_or_default, length-map, map-set}
-use Rattle.timer_queue.specs.declared.entry.Entry.{Entry}
+use Rattle.timer_queue.specs.declared.entry.TimerEntry.{TimerEntry}
 use Rattle.proactor_core.specs.Waits.{Waiting}
 use Rattle.proactor_core.proofs.AcceptLemmas.{accepts, view-accepted}
 use Rattle.proactor_core.proofs.WaitLemmas.{All-from_waits, map-set_same, read-at}
@@ -9,7 +9,7 @@ use Rattle.proactor_core.proofs.waits.Waits.accept.Goals as goal
 use Rattle.proactor_core.proofs.waits.Waits.accept.Goals.{After-index-expiry}
 
 -- no entry is of this operation
-new : (c : After-index-expiry) → All (λ (e : Entry). e.op ≢ c.args.op) c.self.inside.queue.waits
+new : (c : After-index-expiry) → All (λ (e : TimerEntry). e.op ≢ c.args.op) c.self.inside.queue.waits
 new c =
     let P : Waiting → Type 0 = λ w. All (λ wait. wait.op ≢ c.args.op) w.waits in
     All-from_waits c.self.inside.timer_of.items (λ wait. wait.op ≢ c.args.op) c.self.inside.queue.waits
@@ -32,7 +32,7 @@ invariant_of-self c =
     let at =
     read-at deque_items c.self.inside.of_timer.items c.args.timer c.index_mut-waiting.result.now within
     c.index_mut-waiting.ensures.value in
-    let e : Entry = record { expiry = c.index-expiry.result.now; serial = c.self.inside.accepted; op = c.args.op } in
+    let e : TimerEntry = record { expiry = c.index-expiry.result.now; serial = c.self.inside.accepted; op = c.args.op } in
     let expiry =
     c.index-expiry.ensures
     ∙ get_or_default c.self.inside.expiries.items c.args.timer c.index-expiry.result.now 0 (omega (arith, c.requires)) in
@@ -55,7 +55,7 @@ returns c =
     let long = length-map c.self.inside.of_timer.items (deque_items {X = ℕ}) in
     let lengths = c.self.invariant.lengths in
     let within : c.args.timer < length c.self.inside.of_timer.items = omega (arith, c.requires) in
-    let e : Entry = record { expiry = c.index-expiry.result.now; serial = c.self.inside.accepted; op = c.args.op } in
+    let e : TimerEntry = record { expiry = c.index-expiry.result.now; serial = c.self.inside.accepted; op = c.args.op } in
     let expiry =
     c.index-expiry.ensures
     ∙ get_or_default c.self.inside.expiries.items c.args.timer c.index-expiry.result.now 0 (omega (arith, c.requires)) in

@@ -1,12 +1,12 @@
 use Rattle.std.proofs.Common.{◌≢◌, ℕ, List, get_or, set, sym, subst, ◌∙◌, arith}
 use Rattle.std.specs.List.{All}
 use Rattle.std.proofs.lemmas.List.{get_or-set_other, length-set}
-use Rattle.timer_queue.specs.declared.entry.Entry.{Entry}
+use Rattle.timer_queue.specs.declared.entry.TimerEntry.{TimerEntry}
 use Rattle.proactor_core.specs.Waits.{IsAccepted, Waiting}
 use Rattle.proactor_core.proofs.WaitLemmas.{All-from_waits}
 use Rattle.proactor_core.proofs.waits.Waits.put_expiry.Goals as goal
 
-put-each : (expiries timers : List ℕ) (accepted timer expiry : ℕ) (e : Entry) → get_or timers e.op 0 ≢ timer →
+put-each : (expiries timers : List ℕ) (accepted timer expiry : ℕ) (e : TimerEntry) → get_or timers e.op 0 ≢ timer →
     IsAccepted expiries timers accepted e → IsAccepted (set expiries timer expiry) timers accepted e
 put-each expiries timers accepted timer expiry e other is = record {
   serial = is.serial;

@@ -3,7 +3,7 @@ use Rattle.std.specs.List.{All, Any}
 use Rattle.std.proofs.lemmas.Fn.{filter_same}
 use Rattle.std.proofs.lemmas.List.{get_or_default, length-map, map-set}
 use Rattle.history_book.specs.Performing.{aborted, is_wait_for}
-use Rattle.timer_queue.specs.declared.entry.Entry.{Entry}
+use Rattle.timer_queue.specs.declared.entry.TimerEntry.{TimerEntry}
 use Rattle.timer_queue.specs.Queue.{Timers}
 use Rattle.timer_queue.proofs.OrderLemmas.{is_other}
 use Rattle.proactor_core.specs.Waits.{IsWaits, Waiting, is_entry_for, ops_of, waits_of}
@@ -50,7 +50,7 @@ there : (timers : List ℕ) (expiries : List ℕ) (queue : Timers) (queues : Lis
     get_or timers op 0 < length queues
 there timers expiries queue queues accepted pending op is any =
     let each = is.each any.0 any.1 any.2 in
-    let same : (get_or queue.waits any.0 any.1).op ≡ op = ap (λ (e : Entry). e.op) any.3 ∙ any.4 in
+    let same : (get_or queue.waits any.0 any.1).op ≡ op = ap (λ (e : TimerEntry). e.op) any.3 ∙ any.4 in
     let long = is.lengths in
     let P : ℕ → Type 0 = λ n. get_or timers n 0 < length queues in
     subst P same (let b = each.timer in omega arith)

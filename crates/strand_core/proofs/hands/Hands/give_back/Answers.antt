@@ -1,7 +1,7 @@
 use Rattle.std.proofs.Common.{◌≡◌, ℕ, ◌+◌, ◌-◌, List, Option, Some, None, IsSome, sym, ap, subst, subst₂, ◌∙◌, arith}
 use Rattle.std.specs.Prelude.{slice_get}
 use Rattle.op_handlers.specs.Rack.{handlers_in}
-use Rattle.strand_core.specs.Hands.{Held, held_at, in_list, or_else}
+use Rattle.strand_core.specs.Hands.{Held, held_at, in_list, or_other}
 use Rattle.strand_core.proofs.MovingLemmas.{GivenTo, all_back, none_back, number_free, one_back}
 use Rattle.strand_core.proofs.hands.Hands.give_back.Goals as goal
 use Rattle.strand_core.proofs.hands.Hands.give_back.Goals.{in-Some, in_default}
@@ -46,4 +46,4 @@ returns-clause-put g c n =
     all_back c.self.inside.first (handlers_in c.self.inside.held) (handlers_in c.args.rack.now) c.loop-n.n
     (handlers_in c.loop-n.held) (handlers_in c.loop-n.rack) c.loop-n.invariant
     (omega (arith, c.loop-n-test.false, c.count.ensures)) n
-    ∙ ap (λ (v : Held g.row.H.Denot). or_else (held_at v n) (in_list (handlers_in c.args.rack.now) n)) c.self.view_is
+    ∙ ap (λ (v : Held g.row.H.Denot). or_other (held_at v n) (in_list (handlers_in c.args.rack.now) n)) c.self.view_is

@@ -1,6 +1,6 @@
 use Rattle.std.proofs.Common.{rules, ◌≡◌, ◌<◌, ◌∷◌, sym, ap, ◌∙◌, subst}
 use Rattle.atomic_table.specs.Table.{rest}
-use Rattle.turn_table.specs.declared.place.Place.TheVariants.{Empty, Value}
+use Rattle.turn_table.specs.declared.place.TablePlace.TheVariants.{Empty, Value}
 use Rattle.turn_table.specs.declared.place.TurnView.{TurnView}
 use Rattle.turn_table.specs.Numbers.{Has}
 use Rattle.turn_table.specs.Seated.{Lanes}

@@ -10,8 +10,8 @@ note_call-requires c =
     c.loop-act.self.calls.items c.loop-act.invariant.calls _ c.requires in
     omega (arith, fits, c.loop-act.invariant.room, c.loop-act.self.calls.ok.0)
 
-pub note-requires : goal.note-requires
-note-requires c =
+pub keep-requires : goal.keep-requires
+keep-requires c =
     let fits =
     act_fits c.args.acts.now c.loop-act.act-index c.loop-act-test.true c.args.self.now.calls.items
     c.loop-act.self.calls.items c.loop-act.invariant.calls _ c.requires in
@@ -29,6 +29,6 @@ loop-act-preserved c =
     record {
       calls =
           act_called c.args.acts.now c.loop-act.act-index c.loop-act-test.true c.args.self.now.calls.items
-          c.loop-act.self.calls.items c.loop-act.invariant.calls _ _ c.note_call.ensures.calls c.note.ensures.calls;
-      room = c.note.ensures.room ∙ c.note_call.ensures.room ∙ c.loop-act.invariant.room;
+          c.loop-act.self.calls.items c.loop-act.invariant.calls _ _ c.note_call.ensures.calls c.keep.ensures.calls;
+      room = c.keep.ensures.room ∙ c.note_call.ensures.room ∙ c.loop-act.invariant.room;
     }

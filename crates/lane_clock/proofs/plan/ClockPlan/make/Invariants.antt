@@ -1,7 +1,7 @@
 use Rattle.std.proofs.Common.{◌≡◌, take}
 use Rattle.lane_clock.specs.Layout.{total}
 use Rattle.lane_clock.specs.Rows.{cells_in, Starts}
-use Rattle.lane_clock.proofs.plan.Plan.make.Given as goal
+use Rattle.lane_clock.proofs.plan.ClockPlan.make.Given as goal
 
 abbrev pub invariant-loop-count : goal.invariant-loop-count
 invariant-loop-count l = record {

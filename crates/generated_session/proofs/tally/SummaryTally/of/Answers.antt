@@ -1,6 +1,6 @@
 use Rattle.std.proofs.Common.{sym, arith}
 use Rattle.generated_session.proofs.TallyLemmas.{tally_of_next}
-use Rattle.generated_session.proofs.tally.Tally.of.Goals as goal
+use Rattle.generated_session.proofs.tally.SummaryTally.of.Goals as goal
 
 pub loop-event-preserved : goal.loop-event-preserved
 loop-event-preserved c = record {

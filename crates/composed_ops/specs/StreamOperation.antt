@@ -6,12 +6,12 @@ use Rattle.session_script.specs.declared.act.Act.TheVariants as act
 use Rattle.stream_rules.specs.Serving.{Reading, Some_bytes, All_bytes, Until, Writing, Some_of, All_of, bytes_of}
 
 -- an operation on a stream reads or writes
-pub data Asking : Type 0 where
-  Reads : (reading : Reading) → Asking
-  Writes : (writing : Writing) → Asking
+pub data StreamOperation : Type 0 where
+  Reads : (reading : Reading) → StreamOperation
+  Writes : (writing : Writing) → StreamOperation
 
 -- what an act asks for; nothing where it moves no bytes
-abbrev pub asking_of : Act → Option Asking
+abbrev pub asking_of : Act → Option StreamOperation
 asking_of (act.Post strand) = None
 asking_of (act.Defer strand) = None
 asking_of (act.Dispatch strand) = None
@@ -37,15 +37,15 @@ reading_size (All_bytes size) = size
 reading_size (Until delimiter max) = max
 
 -- the most bytes that an operation moves
-abbrev pub size_of : Asking → ℕ
-size_of (Reads reading) = reading_size reading
-size_of (Writes writing) = length (bytes_of writing)
+abbrev pub most_moved : StreamOperation → ℕ
+most_moved (Reads reading) = reading_size reading
+most_moved (Writes writing) = length (bytes_of writing)
 
 -- at least one byte, counted by 32 bits
-abbrev pub IsSizedAsking : Asking → Type 0
-IsSizedAsking asking = (1 ≤ size_of asking) × (size_of asking < 2 ^ 32)
+abbrev pub IsSizedAsking : StreamOperation → Type 0
+IsSizedAsking asking = (1 ≤ most_moved asking) × (most_moved asking < 2 ^ 32)
 
 -- what an act asks for is sized, as in every script
-abbrev pub IsSizedAct : Option Asking → Type 0
+abbrev pub IsSizedAct : Option StreamOperation → Type 0
 IsSizedAct None = ⊤
 IsSizedAct (Some asking) = IsSizedAsking asking

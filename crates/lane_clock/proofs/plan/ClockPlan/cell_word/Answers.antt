@@ -3,8 +3,8 @@ use Rattle.lane_clock.specs.declared.plan.Row.{Row}
 use Rattle.lane_clock.specs.Layout.{Layout, cell_word}
 use Rattle.lane_clock.specs.Rows.{cells_in}
 use Rattle.lane_clock.proofs.RowLemmas.{row_word}
-use Rattle.lane_clock.proofs.plan.Plan.cell_word.Goals as goal
-use Rattle.lane_clock.proofs.plan.Plan.cell_word.Goals.{After-index}
+use Rattle.lane_clock.proofs.plan.ClockPlan.cell_word.Goals as goal
+use Rattle.lane_clock.proofs.plan.ClockPlan.cell_word.Goals.{After-index}
 
 -- the sum is the word of the cell in the rows, and it fits
 sum_is_word : (c : After-index) →

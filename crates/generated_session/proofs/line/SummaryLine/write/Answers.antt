@@ -3,7 +3,7 @@ use Rattle.std.specs.Prelude.{codes}
 use Rattle.std.specs.Fmt.{decimal}
 use Rattle.text_io.proofs.NoteLemmas.{on_any, on_err, part_after, part_of_more}
 use Rattle.generated_session.specs.Summary.{number_line}
-use Rattle.generated_session.proofs.line.Line.write.Goals as goal
+use Rattle.generated_session.proofs.line.SummaryLine.write.Goals as goal
 
 pub returns-in_err-write_number-in-Made-clause-part : goal.returns-in_err-write_number-in-Made-clause-part
 returns-in_err-write_number-in-Made-clause-part g c =

@@ -1,6 +1,6 @@
 use Rattle.std.proofs.Common.{◌≡◌, ◌≤◌, ◌*◌, ◌^◌, take}
 use Rattle.generated_session.specs.Summary.{tally_of}
-use Rattle.generated_session.proofs.tally.Tally.of.Given as goal
+use Rattle.generated_session.proofs.tally.SummaryTally.of.Given as goal
 
 abbrev pub invariant-loop-event : goal.invariant-loop-event
 invariant-loop-event l = record {

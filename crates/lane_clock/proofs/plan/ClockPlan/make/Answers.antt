@@ -3,7 +3,7 @@ use Rattle.std.proofs.lemmas.List.{take_more}
 use Rattle.lane_clock.specs.Layout.{total}
 use Rattle.lane_clock.specs.Rows.{cells_in, Starts}
 use Rattle.lane_clock.proofs.RowLemmas.{starts_push, cells_push, total_push}
-use Rattle.lane_clock.proofs.plan.Plan.make.Goals as goal
+use Rattle.lane_clock.proofs.plan.ClockPlan.make.Goals as goal
 
 pub loop-count-preserved : goal.loop-count-preserved
 loop-count-preserved c =
