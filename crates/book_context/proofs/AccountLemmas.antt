@@ -11,14 +11,14 @@ use Rattle.asio_types.specs.declared.event.Event.TheVariants as event
 use Rattle.session_script.specs.Script.{ScriptModel}
 use Rattle.session_script.specs.WellFormed.{IsWellFormed}
 use Rattle.session_script.proofs.PlacingLemmas.{act_fits}
-use Rattle.history_book.specs.Calls.{accepted}
-use Rattle.history_book.specs.Legal.{after_event}
-use Rattle.history_book.specs.Order.{is_request, is_untaken, was_taken}
-use Rattle.history_book.specs.Requests.{MayTell}
-use Rattle.history_book.specs.State.{State, act_at, fresh, phase_at}
-use Rattle.history_book.specs.declared.phase.ActPhase.TheVariants as phase
-use Rattle.history_book.specs.declared.phase.ActState.{ActState}
-use Rattle.history_book.specs.declared.phase.Cause.TheVariants as cause
+use Rattle.history_rules.specs.Calls.{accepted}
+use Rattle.history_rules.specs.Legal.{after_event}
+use Rattle.history_rules.specs.Order.{is_request, is_untaken, was_taken}
+use Rattle.history_rules.specs.Requests.{MayTell}
+use Rattle.history_rules.specs.State.{State, act_at, fresh, phase_at}
+use Rattle.history_rules.specs.declared.phase.ActPhase.TheVariants as phase
+use Rattle.history_rules.specs.declared.phase.ActState.{ActState}
+use Rattle.history_rules.specs.declared.phase.Cause.TheVariants as cause
 use Rattle.book_context.specs.Rest.{IsAtRest}
 use Rattle.book_context.specs.Accounted.{IsAccounted, is_awaited}
 use Rattle.book_context.specs.Work.{is_pending, is_requested, pending_acts}

@@ -9,14 +9,14 @@ use Rattle.asio_types.specs.declared.code.Code.{Code}
 use Rattle.session_script.specs.Script.{ScriptModel, opening_of, parent_of}
 use Rattle.session_script.specs.Lanes.{is_inline}
 use Rattle.session_script.specs.WellFormed.{IsWellFormed}
-use Rattle.history_book.specs.Calls.{accepted}
-use Rattle.history_book.specs.Executions.{MayBeginOutside}
-use Rattle.history_book.specs.Legal.{state_from, state_of}
-use Rattle.history_book.specs.Order.{is_request, was_taken}
-use Rattle.history_book.specs.State.{State, StreamQueues, call_at, first_reactor, no_queues, phase_at}
-use Rattle.history_book.specs.declared.phase.ActPhase.TheVariants as phase
-use Rattle.history_book.specs.declared.phase.ActState.{ActState}
-use Rattle.history_book.specs.declared.phase.CallPhase.TheVariants as call
+use Rattle.history_rules.specs.Calls.{accepted}
+use Rattle.history_rules.specs.Executions.{MayBeginOutside}
+use Rattle.history_rules.specs.Legal.{state_from, state_of}
+use Rattle.history_rules.specs.Order.{is_request, was_taken}
+use Rattle.history_rules.specs.State.{State, StreamQueues, call_at, first_reactor, no_queues, phase_at}
+use Rattle.history_rules.specs.declared.phase.ActPhase.TheVariants as phase
+use Rattle.history_rules.specs.declared.phase.ActState.{ActState}
+use Rattle.history_rules.specs.declared.phase.CallPhase.TheVariants as call
 use Rattle.strand_core.specs.Execution.{AnyMark, AreCalls, IsWholeExecution, events_of}
 use Rattle.strand_core.specs.declared.posted.Posted.{Posted}
 use Rattle.book_context.specs.Called.{is_called, settled_phase}

@@ -8,8 +8,8 @@ use Rattle.std.proofs.lemmas.List.Elements.{All-cons, All-head, All-nil, All-tai
 use Rattle.asio_types.specs.declared.code.Code.{Code}
 use Rattle.op_handlers.specs.declared.call.Ran.{Ran}
 use Rattle.session_script.specs.Script.{ScriptModel}
-use Rattle.history_book.specs.Calls.{accepted}
-use Rattle.history_book.specs.declared.phase.ActPhase.{ActPhase}
+use Rattle.history_rules.specs.Calls.{accepted}
+use Rattle.history_rules.specs.declared.phase.ActPhase.{ActPhase}
 use Rattle.strand_core.specs.Execution.{execution_of}
 use Rattle.strand_core.specs.declared.posted.Posted.{Posted}
 use Rattle.strand_core.specs.declared.posted.Posted.TheVariants as posted

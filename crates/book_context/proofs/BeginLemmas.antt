@@ -6,11 +6,11 @@ use Rattle.asio_types.specs.declared.event.Event.TheVariants as event
 use Rattle.asio_types.specs.declared.outside.Point.{Point}
 use Rattle.asio_types.specs.declared.outside.Point.TheVariants as point
 use Rattle.session_script.specs.Script.{ScriptModel}
-use Rattle.history_book.specs.FromOutside.{has_outside_stop, is_outside_stop}
-use Rattle.history_book.specs.Legal.{after_event}
-use Rattle.history_book.specs.Requests.{reactor_after_take}
-use Rattle.history_book.specs.State.{ReactorHalf, State}
-use Rattle.history_book.specs.Time.{next_time}
+use Rattle.history_rules.specs.FromOutside.{has_outside_stop, is_outside_stop}
+use Rattle.history_rules.specs.Legal.{after_event}
+use Rattle.history_rules.specs.Requests.{reactor_after_take}
+use Rattle.history_rules.specs.State.{ReactorHalf, State}
+use Rattle.history_rules.specs.Time.{next_time}
 use Rattle.proactor_core.specs.Proactor.{after_point}
 use Rattle.book_context.specs.Book.{KeepsHistory}
 use Rattle.book_context.specs.BookSteps.{BeginsTurn, passed_event}

@@ -8,7 +8,7 @@ use Rattle.asio_types.specs.declared.code.Class.TheVariants as class
 use Rattle.asio_types.specs.declared.code.Code.TheVariants as code
 use Rattle.session_script.specs.Script.{Place, ScriptModel, parent_of}
 use Rattle.session_script.specs.WellFormed.{IsWellFormed}
-use Rattle.history_book.specs.State.{ContextState, ReactorHalf}
+use Rattle.history_rules.specs.State.{ContextState, ReactorHalf}
 use Rattle.strand_core.specs.Execution.{AreCalls, no_act, outside, inside, execution_of}
 use Rattle.strand_core.specs.declared.posted.Posted.{Posted}
 use Rattle.strand_core.specs.declared.posted.Posted.TheVariants as posted

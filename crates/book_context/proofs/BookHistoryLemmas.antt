@@ -6,8 +6,8 @@ use Rattle.std.proofs.lemmas.List.Folds.{list_any-append, list_any-from_Any}
 use Rattle.asio_types.specs.declared.event.Event.{Event}
 use Rattle.asio_types.specs.declared.event.Event.TheVariants as event
 use Rattle.session_script.specs.Script.{ScriptModel}
-use Rattle.history_book.specs.FromOutside.{has_fault, has_outside_stop, is_fault, is_outside_stop}
-use Rattle.history_book.specs.Marks.{HasMarks}
+use Rattle.history_rules.specs.FromOutside.{has_fault, has_outside_stop, is_fault, is_outside_stop}
+use Rattle.history_rules.specs.Marks.{HasMarks}
 use Rattle.book_context.specs.Book.{KeepsHistory}
 use Rattle.book_context.specs.Recorded.{IsRecorded}
 use Rattle.book_context.specs.Recording.{Recording}

@@ -3,8 +3,8 @@ use Rattle.std.proofs.Common.{◌≡◌, ℕ, Bool, true, false, not, Option, in
 use Rattle.std.specs.Prelude.{◌||◌}
 use Rattle.op_handlers.specs.Marks.{Marks}
 use Rattle.session_script.specs.Script.{ScriptModel, is_op}
-use Rattle.history_book.specs.Rounds.{RoundIsOpen}
-use Rattle.history_book.specs.State.{ReactorHalf}
+use Rattle.history_rules.specs.Rounds.{RoundIsOpen}
+use Rattle.history_rules.specs.State.{ReactorHalf}
 use Rattle.reactor_trait.specs.Reactor.{Outside, ReactorState}
 use Rattle.proactor_core.specs.Proactor.{ProactorView}
 use Rattle.strand_core.specs.Hands.{Held}

@@ -7,13 +7,13 @@ use Rattle.asio_types.specs.Faults.{most_faults, one_more}
 use Rattle.asio_types.specs.declared.event.Event.TheVariants as event
 use Rattle.session_script.specs.Script.{Place, ScriptModel, is_stop, parent_of, stops}
 use Rattle.session_script.specs.Lanes.{is_inline}
-use Rattle.history_book.specs.Calls.{IsNextOf, MayCall, MayReturn, MayStop, accepted, after_call, after_return, after_stop, body_at, is_call_done, is_made, limited, returned, stopping}
-use Rattle.history_book.specs.Kinds.{is_act}
-use Rattle.history_book.specs.State.{Allowances, ContextState, ReactorHalf, act_at, call_at, counted, fresh, phase_at, with_act}
-use Rattle.history_book.specs.declared.phase.ActState.{ActState}
-use Rattle.history_book.specs.declared.phase.CallPhase.{CallPhase}
-use Rattle.history_book.specs.declared.phase.CallPhase.TheVariants as call
-use Rattle.history_book.specs.declared.phase.Progress.{Progress}
+use Rattle.history_rules.specs.Calls.{IsNextOf, MayCall, MayReturn, MayStop, accepted, after_call, after_return, after_stop, body_at, is_call_done, is_made, limited, returned, stopping}
+use Rattle.history_rules.specs.Kinds.{is_act}
+use Rattle.history_rules.specs.State.{Allowances, ContextState, ReactorHalf, act_at, call_at, counted, fresh, phase_at, with_act}
+use Rattle.history_rules.specs.declared.phase.ActState.{ActState}
+use Rattle.history_rules.specs.declared.phase.CallPhase.{CallPhase}
+use Rattle.history_rules.specs.declared.phase.CallPhase.TheVariants as call
+use Rattle.history_rules.specs.declared.phase.Progress.{Progress}
 use Rattle.strand_core.specs.declared.posted.Posted.TheVariants as posted
 use Rattle.book_context.proofs.CountLemmas.{one_more-is}
 use Rattle.book_context.proofs.EventLemmas.{Goes, goes-by}

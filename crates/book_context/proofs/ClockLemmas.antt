@@ -17,17 +17,17 @@ use Rattle.stream_rules.specs.World.{earlier_point, times_after}
 use Rattle.stream_rules.specs.Serving.{All_bytes, All_of, Reading, Some_bytes, Some_of, Until, Writing}
 use Rattle.stream_rules.proofs.WorldLemmas.{next_point-later, rising_after-later}
 use Rattle.asio_types.specs.declared.world.Line.{Line}
-use Rattle.history_book.specs.Performing.{closed_at, connected, emitted, emitted_to, is_reached, is_wait_for, is_wait_of, one_wait_cancelled, operation_cancelled, performed, performed_act, performed_by, queues_at, read_accepted, shut_at, wait_accepted, waits_cancelled, write_accepted}
-use Rattle.history_book.specs.Requests.{disconnected, reactor_after_done, reactor_after_take, slot_in, told_off}
-use Rattle.history_book.specs.Rounds.{IsDrained, IsEmptied}
-use Rattle.history_book.specs.Settling.{expiry_of, is_due, served_below, settled, with_streams_served, with_waits_served}
-use Rattle.history_book.specs.State.{ReactorHalf, StreamQueues}
-use Rattle.history_book.specs.declared.waiting.Wait.{Wait}
-use Rattle.history_book.specs.Time.{at_last, at_time, least_of, lesser, next_expiry, next_time, pending_count, reactor_after_last, reactor_after_tick}
-use Rattle.history_book.specs.Turns.{AllAhead}
-use Rattle.history_book.specs.Untold.{gone}
-use Rattle.history_book.proofs.PerformingLemmas.{All-passing}
-use Rattle.history_book.proofs.TimeLemmas.{next-above}
+use Rattle.history_rules.specs.Performing.{closed_at, connected, emitted, emitted_to, is_reached, is_wait_for, is_wait_of, one_wait_cancelled, operation_cancelled, performed, performed_act, performed_by, queues_at, read_accepted, shut_at, wait_accepted, waits_cancelled, write_accepted}
+use Rattle.history_rules.specs.Requests.{disconnected, reactor_after_done, reactor_after_take, slot_in, told_off}
+use Rattle.history_rules.specs.Rounds.{IsDrained, IsEmptied}
+use Rattle.history_rules.specs.Settling.{expiry_of, is_due, served_below, settled, with_streams_served, with_waits_served}
+use Rattle.history_rules.specs.State.{ReactorHalf, StreamQueues}
+use Rattle.history_rules.specs.declared.wait.Wait.{Wait}
+use Rattle.history_rules.specs.Time.{at_last, at_time, least_of, lesser, next_expiry, next_time, pending_count, reactor_after_last, reactor_after_tick}
+use Rattle.history_rules.specs.Bounds.{AllAhead}
+use Rattle.history_rules.specs.Untold.{gone}
+use Rattle.history_rules.proofs.PerformingLemmas.{All-passing}
+use Rattle.history_rules.proofs.TimeLemmas.{next-above}
 use Rattle.book_context.specs.Accounted.{is_awaited}
 
 -- nothing of its clock changed

@@ -6,14 +6,14 @@ use Rattle.std.proofs.lemmas.List.Elements.{All-head}
 use Rattle.asio_types.specs.declared.code.Code.{Code}
 use Rattle.asio_types.specs.declared.event.Event.TheVariants as event
 use Rattle.session_script.specs.Script.{ScriptModel}
-use Rattle.history_book.specs.declared.phase.ActPhase.{ActPhase}
-use Rattle.history_book.specs.declared.phase.ActPhase.TheVariants as phase
-use Rattle.history_book.specs.Executions.{IsReadyWith}
-use Rattle.history_book.specs.Legal.{MayHappen}
-use Rattle.history_book.specs.Order.{is_request, is_untaken, was_taken}
-use Rattle.history_book.specs.Rounds.{AllQuiet, is_held, is_quiet, outstanding_work, runs}
-use Rattle.history_book.specs.State.{State, phase_at}
-use Rattle.history_book.specs.Time.{pending_count}
+use Rattle.history_rules.specs.declared.phase.ActPhase.{ActPhase}
+use Rattle.history_rules.specs.declared.phase.ActPhase.TheVariants as phase
+use Rattle.history_rules.specs.Executions.{IsReadyWith}
+use Rattle.history_rules.specs.Legal.{MayHappen}
+use Rattle.history_rules.specs.Order.{is_request, is_untaken, was_taken}
+use Rattle.history_rules.specs.Rounds.{AllQuiet, is_held, is_quiet, outstanding_work, runs}
+use Rattle.history_rules.specs.State.{State, phase_at}
+use Rattle.history_rules.specs.Time.{pending_count}
 use Rattle.reactor_trait.specs.Reactor.{Outside, ReactorState}
 use Rattle.proactor_core.specs.Proactor.{Follows, ProactorView}
 use Rattle.book_context.specs.Book.{KeepsReactor}

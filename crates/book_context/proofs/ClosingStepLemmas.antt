@@ -8,10 +8,10 @@ use Rattle.asio_types.specs.declared.event.Event.TheVariants as event
 use Rattle.op_handlers.specs.Marks.{Marks}
 use Rattle.session_script.specs.Script.{ScriptModel, is_op}
 use Rattle.session_script.specs.declared.round.Round.{Round}
-use Rattle.history_book.specs.FromOutside.{has_fault, is_fault}
-use Rattle.history_book.specs.Legal.{reactor_after}
-use Rattle.history_book.specs.Rounds.{MayRestart, restarts}
-use Rattle.history_book.specs.State.{ReactorHalf, State}
+use Rattle.history_rules.specs.FromOutside.{has_fault, is_fault}
+use Rattle.history_rules.specs.Legal.{reactor_after}
+use Rattle.history_rules.specs.Rounds.{MayRestart, restarts}
+use Rattle.history_rules.specs.State.{ReactorHalf, State}
 use Rattle.reactor_trait.specs.Reactor.{Outside, ReactorState}
 use Rattle.proactor_core.specs.Proactor.{ProactorView}
 use Rattle.strand_core.specs.Hands.{Held}

@@ -9,16 +9,16 @@ use Rattle.asio_types.specs.Faults.{most_faults}
 use Rattle.asio_types.specs.declared.code.Code.{Code}
 use Rattle.asio_types.specs.declared.event.Event.TheVariants as event
 use Rattle.session_script.specs.Script.{ScriptModel}
-use Rattle.history_book.specs.Calls.{is_open}
-use Rattle.history_book.specs.Executions.{IsReadyWith}
-use Rattle.history_book.specs.Legal.{after_event}
-use Rattle.history_book.specs.Order.{called_at, is_request, is_untaken, was_taken}
-use Rattle.history_book.specs.Rounds.{is_running}
-use Rattle.history_book.specs.State.{State, act_at, call_at, phase_at}
-use Rattle.history_book.specs.declared.phase.ActPhase.TheVariants as phase
-use Rattle.history_book.specs.declared.phase.ActState.{ActState}
-use Rattle.history_book.specs.declared.phase.CallPhase.TheVariants as call
-use Rattle.history_book.specs.declared.phase.Cause.TheVariants as cause
+use Rattle.history_rules.specs.Calls.{is_open}
+use Rattle.history_rules.specs.Executions.{IsReadyWith}
+use Rattle.history_rules.specs.Legal.{after_event}
+use Rattle.history_rules.specs.Order.{called_at, is_request, is_untaken, was_taken}
+use Rattle.history_rules.specs.Rounds.{is_running}
+use Rattle.history_rules.specs.State.{State, act_at, call_at, phase_at}
+use Rattle.history_rules.specs.declared.phase.ActPhase.TheVariants as phase
+use Rattle.history_rules.specs.declared.phase.ActState.{ActState}
+use Rattle.history_rules.specs.declared.phase.CallPhase.TheVariants as call
+use Rattle.history_rules.specs.declared.phase.Cause.TheVariants as cause
 use Rattle.book_context.specs.Order.{IsKept, IsOrderly, has_begun}
 use Rattle.book_context.specs.Ready.{AreReady, AreUntaken, IsCallPast, IsCausePast, IsDated, asked_at, is_ready, ready_at, ready_since}
 use Rattle.book_context.specs.Rest.{IsAtRest, waits_inside}

@@ -6,15 +6,15 @@ use Rattle.std.proofs.lemmas.List.Elements.{All-from_get_or, All-set}
 use Rattle.asio_types.specs.declared.event.Event.TheVariants as event
 use Rattle.session_script.specs.Script.{ScriptModel, is_op}
 use Rattle.session_script.specs.Lanes.{is_inline}
-use Rattle.history_book.specs.Legal.{IsLegal, IsWhole, after_event}
-use Rattle.history_book.specs.Order.{was_taken}
-use Rattle.history_book.specs.Rounds.{AllClosed, IsOver, MayDrop, is_running, is_unspent}
-use Rattle.history_book.specs.State.{ContextState, State, act_at, call_at, fresh, phase_at}
-use Rattle.history_book.specs.declared.phase.ActPhase.{ActPhase}
-use Rattle.history_book.specs.declared.phase.ActPhase.TheVariants as phase
-use Rattle.history_book.specs.declared.phase.ActState.{ActState}
-use Rattle.history_book.specs.declared.phase.CallPhase.{CallPhase}
-use Rattle.history_book.specs.declared.phase.CallPhase.TheVariants as call
+use Rattle.history_rules.specs.Legal.{IsLegal, IsWhole, after_event}
+use Rattle.history_rules.specs.Order.{was_taken}
+use Rattle.history_rules.specs.Rounds.{AllClosed, IsOver, MayDrop, is_running, is_unspent}
+use Rattle.history_rules.specs.State.{ContextState, State, act_at, call_at, fresh, phase_at}
+use Rattle.history_rules.specs.declared.phase.ActPhase.{ActPhase}
+use Rattle.history_rules.specs.declared.phase.ActPhase.TheVariants as phase
+use Rattle.history_rules.specs.declared.phase.ActState.{ActState}
+use Rattle.history_rules.specs.declared.phase.CallPhase.{CallPhase}
+use Rattle.history_rules.specs.declared.phase.CallPhase.TheVariants as call
 use Rattle.book_context.specs.DropSteps.{DropsTo, HasDropped, IsDoneWith, IsDropping, is_unspent_at, unspent_count}
 use Rattle.book_context.specs.Kinds.{is_accepted, is_spent, was_called}
 use Rattle.book_context.specs.Left.{act_left, act_left_at, phase_left}

@@ -4,8 +4,8 @@ use Rattle.std.specs.Prelude.{Some}
 use Rattle.asio_types.specs.declared.event.Event.{Event}
 use Rattle.asio_types.specs.declared.event.Event.TheVariants as event
 use Rattle.session_script.specs.Script.{ScriptModel, stops}
-use Rattle.history_book.specs.Legal.{IsLegalFrom, after_event, state_from}
-use Rattle.history_book.specs.State.{ContextState, ReactorHalf, State}
+use Rattle.history_rules.specs.Legal.{IsLegalFrom, after_event, state_from}
+use Rattle.history_rules.specs.State.{ContextState, ReactorHalf, State}
 use Rattle.strand_core.specs.Execution.{events_of}
 use Rattle.strand_core.specs.declared.posted.Posted.{Posted}
 use Rattle.strand_core.specs.declared.posted.Posted.TheVariants as posted

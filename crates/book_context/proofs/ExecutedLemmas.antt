@@ -11,15 +11,15 @@ use Rattle.asio_types.specs.declared.event.Event.TheVariants as event
 use Rattle.session_script.specs.Script.{ScriptModel, branch_of, parent_of}
 use Rattle.session_script.specs.Lanes.{is_inline, lane_of}
 use Rattle.session_script.specs.WellFormed.{IsWellFormed}
-use Rattle.history_book.specs.Calls.{is_open}
-use Rattle.history_book.specs.Executions.{IsReadyWith, MayBeginOutside, begun}
-use Rattle.history_book.specs.Legal.{state_from}
-use Rattle.history_book.specs.Order.{called_at, is_request}
-use Rattle.history_book.specs.Rounds.{is_running}
-use Rattle.history_book.specs.State.{ContextState, State, act_at, call_at, counted, fresh, no_progress, phase_at, with_phase}
-use Rattle.history_book.specs.Stopping.{allowance_of, less_one, spend}
-use Rattle.history_book.specs.declared.phase.ActPhase.TheVariants as phase
-use Rattle.history_book.specs.declared.phase.ActState.{ActState}
+use Rattle.history_rules.specs.Calls.{is_open}
+use Rattle.history_rules.specs.Executions.{IsReadyWith, MayBeginOutside, begun}
+use Rattle.history_rules.specs.Legal.{state_from}
+use Rattle.history_rules.specs.Order.{called_at, is_request}
+use Rattle.history_rules.specs.Rounds.{is_running}
+use Rattle.history_rules.specs.State.{ContextState, State, act_at, call_at, counted, fresh, no_progress, phase_at, with_phase}
+use Rattle.history_rules.specs.Stopping.{allowance_of, less_one, spend}
+use Rattle.history_rules.specs.declared.phase.ActPhase.TheVariants as phase
+use Rattle.history_rules.specs.declared.phase.ActState.{ActState}
 use Rattle.strand_core.specs.Execution.{AnyMark, AreCalls, IsWholeExecution, events_of, execution_of}
 use Rattle.strand_core.specs.declared.posted.Posted.{Posted}
 use Rattle.strand_core.specs.declared.posted.Posted.TheVariants as posted

@@ -14,15 +14,15 @@ use Rattle.strand_core.specs.Execution.{AnyMark, AreCalls, IsWholeExecution, no_
 use Rattle.strand_core.specs.Hands.{begins_among}
 use Rattle.strand_core.specs.declared.posted.Posted.{Posted}
 use Rattle.strand_core.specs.declared.posted.Posted.TheVariants as posted
-use Rattle.history_book.specs.Executions.{MayBeginOutside}
-use Rattle.history_book.specs.Legal.{state_from}
-use Rattle.history_book.specs.Order.{is_untaken, was_taken}
-use Rattle.history_book.specs.Rounds.{is_unspent}
-use Rattle.history_book.specs.State.{ContextState, State, call_at, fresh, phase_at}
-use Rattle.history_book.specs.declared.phase.ActPhase.{ActPhase}
-use Rattle.history_book.specs.declared.phase.ActPhase.TheVariants as phase
-use Rattle.history_book.specs.declared.phase.ActState.{ActState}
-use Rattle.history_book.specs.declared.phase.CallPhase.TheVariants as call
+use Rattle.history_rules.specs.Executions.{MayBeginOutside}
+use Rattle.history_rules.specs.Legal.{state_from}
+use Rattle.history_rules.specs.Order.{is_untaken, was_taken}
+use Rattle.history_rules.specs.Rounds.{is_unspent}
+use Rattle.history_rules.specs.State.{ContextState, State, call_at, fresh, phase_at}
+use Rattle.history_rules.specs.declared.phase.ActPhase.{ActPhase}
+use Rattle.history_rules.specs.declared.phase.ActPhase.TheVariants as phase
+use Rattle.history_rules.specs.declared.phase.ActState.{ActState}
+use Rattle.history_rules.specs.declared.phase.CallPhase.TheVariants as call
 use Rattle.book_context.specs.Accounted.{IsAccounted}
 use Rattle.book_context.specs.Called.{are_stopping, is_called, settled_phase}
 use Rattle.book_context.specs.Executed.{IsLegalExecution}

@@ -10,7 +10,7 @@ use Rattle.asio_types.specs.declared.event.Event.TheVariants as event
 use Rattle.op_handlers.specs.Marks.{Marks}
 use Rattle.session_script.specs.Script.{ScriptModel, is_op, stops}
 use Rattle.session_script.specs.Lanes.{is_inline}
-use Rattle.history_book.specs.FromOutside.{has_fault, has_outside_stop, is_outside_stop}
+use Rattle.history_rules.specs.FromOutside.{has_fault, has_outside_stop, is_outside_stop}
 use Rattle.strand_core.specs.declared.posted.Posted.{Posted}
 use Rattle.strand_core.specs.declared.posted.Posted.TheVariants as posted
 use Rattle.strand_core.specs.Answer.{CanExecute}

@@ -1,11 +1,12 @@
 -- Handlers that never ran are destroyed one after another, and what is left of a session that is over.
 use Rattle.std.proofs.Common.{◌≡◌, ◌⊎◌, ◌∙◌, ℕ, ◌+◌, ◌≤◌, arith, inl, inr, refl, sym, ap, subst}
-use Rattle.std.proofs.Common.{Bool, true, false, not, ◌&&◌, List, [], ◌∷◌, ◌++◌, Option, Some, None, length}
+use Rattle.std.proofs.Common.{append_assoc, Bool, true, false, not, ◌&&◌, List, [], ◌∷◌, ◌++◌, Option, Some, None, length}
 use Rattle.std.specs.Prelude.{◌||◌, slice_set}
-use Rattle.std.specs.List.{Contains, slice_index_or}
+use Rattle.std.specs.List.{Contains, list_all, slice_index_or}
 use Rattle.std.specs.Option.{option_map}
 use Rattle.std.proofs.lemmas.Bool.{cases_Bool}
-use Rattle.std.proofs.lemmas.List.Folds.{Any-from_list_any}
+use Rattle.std.proofs.lemmas.List.{append-nil}
+use Rattle.std.proofs.lemmas.List.Folds.{Any-from_list_any, list_all-append}
 use Rattle.asio_types.specs.declared.event.Event.{Event}
 use Rattle.asio_types.specs.declared.event.Event.TheVariants as event
 use Rattle.op_handlers.specs.Marks.{Marks}
@@ -13,10 +14,10 @@ use Rattle.session_script.specs.Lanes.{is_inline}
 use Rattle.session_script.specs.Script.{is_op}
 use Rattle.strand_core.specs.Hands.{Held, held_at}
 use Rattle.strand_core.proofs.HandLemmas.{taken_other}
-use Rattle.history_book.specs.FromOutside.{has_fault, has_outside_stop, is_fault, is_outside_stop}
+use Rattle.history_rules.specs.FromOutside.{has_fault, has_outside_stop, is_fault, is_outside_stop}
 use Rattle.book_context.specs.Book.{unless_spent}
 use Rattle.book_context.specs.DropSteps.{DropsGoOn, HasDropped, InlineAreSpent, SpentArePassed, UnspentAreCalled, is_unspent_at}
-use Rattle.book_context.specs.Finish.{IsEnding}
+use Rattle.book_context.specs.Finish.{GoesOnByDrops, IsEnding, is_drop}
 use Rattle.book_context.specs.InTurn.{KeepsFaults}
 use Rattle.book_context.specs.Recorded.{is_spent_at, recorded_half}
 use Rattle.book_context.specs.Recording.{Recording, with_event}
@@ -202,6 +203,24 @@ module _ {H : Type 0} {marks : H → Marks} {told : Bool} {run drop : ℕ → �
         pub drop_faults : KeepsFaults t next
         drop_faults = faults-plain run drop t.events (event.Dropped op mark ∷ []) plain
 
+-- a history goes on by drops: by none, by one, and by some and then others
+pub by_none : (events : List Event) → GoesOnByDrops events events
+by_none events = record { drops = []; each = refl; is = sym (append-nil events) }
+
+pub by_one : (op mark : ℕ) (events : List Event) → GoesOnByDrops events (events ++ event.Dropped op mark ∷ [])
+by_one op mark events = record { drops = event.Dropped op mark ∷ []; each = refl; is = refl }
+
+all_drops : (first second : List Event) → list_all is_drop first ≡ true → list_all is_drop second ≡ true →
+    list_all is_drop (first ++ second) ≡ true
+all_drops first second one other = grind (arith, list_all-append, one, other)
+
+pub by_more : (old mid new : List Event) → GoesOnByDrops old mid → GoesOnByDrops mid new → GoesOnByDrops old new
+by_more old mid new first second = record {
+  drops = first.drops ++ second.drops;
+  each = all_drops first.drops second.drops first.each second.each;
+  is = second.is ∙ ap (λ events. events ++ second.drops) first.is ∙ append_assoc old first.drops second.drops;
+}
+
 -- the unspent handlers below a number are destroyed, and the reactor's half and its faults stay
 pub record EndsTo {H : Type 0} (marks : H → Marks) (told : Bool) (run drop : ℕ → ℕ) (outside : Bool) (n all : ℕ)
     (first t : Recording) (left : Held H) : Type 0 where
@@ -210,6 +229,7 @@ pub record EndsTo {H : Type 0} (marks : H → Marks) (told : Bool) (run drop : �
   pub half : recorded_half told t ≡ recorded_half told first
   pub faults : KeepsFaults first t
   pub acts : all ≡ length first.script.acts
+  pub goes_on : GoesOnByDrops first.events t.events
 
 pub ends_all : {H : Type 0} {marks : H → Marks} {told : Bool} {run drop : ℕ → ℕ} {outside : Bool} {n all : ℕ}
     {first t : Recording} {left : Held H} → EndsTo marks told run drop outside n all first t left → n ≡ all →

@@ -7,8 +7,8 @@ use Rattle.asio_types.specs.declared.event.Event.{Event}
 use Rattle.asio_types.specs.declared.event.Event.TheVariants as event
 use Rattle.op_handlers.specs.Marks.{Marks}
 use Rattle.session_script.specs.Script.{ScriptModel}
-use Rattle.history_book.specs.Legal.{IsLegal, state_of}
-use Rattle.history_book.specs.State.{ReactorHalf}
+use Rattle.history_rules.specs.Legal.{IsLegal, state_of}
+use Rattle.history_rules.specs.State.{ReactorHalf}
 use Rattle.reactor_trait.specs.Reactor.{Outside, ReactorState}
 use Rattle.proactor_core.specs.Proactor.{Follows, IsSound, ProactorView, StandsAt, sent_to_peer}
 use Rattle.strand_core.specs.Hands.{Held}

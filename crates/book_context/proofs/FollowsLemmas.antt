@@ -1,7 +1,7 @@
 -- What a proactor that follows a history tells of it.
-use Rattle.std.proofs.Common.{◌≡◌, false, Option, inl, inr, length, sym, ap, ◌∙◌}
+use Rattle.std.proofs.Common.{◌≡◌, false, Option, inl, inr, sym, ap, ◌∙◌}
 use Rattle.std.proofs.lemmas.Bool.{cases_Bool}
-use Rattle.history_book.specs.State.{ReactorHalf}
+use Rattle.history_rules.specs.State.{ReactorHalf}
 use Rattle.reactor_trait.specs.Reactor.{Outside, ReactorState}
 use Rattle.proactor_core.specs.Proactor.{Follows, IsSound, ProactorView, tells}
 use Rattle.proactor_core.proofs.UntoldRestLemmas.{untold-answers}
@@ -9,9 +9,6 @@ use Rattle.proactor_core.proofs.UntoldRestLemmas.{untold-answers}
 module _ {X : Type 0} (state : X → ReactorState) (told : X → Option Outside) (view : ProactorView X) where
   pub sound_works : IsSound state told view → view.tables.failed ≡ false
   sound_works sound = sound.turning.room.working
-
-  pub sound_guards : IsSound state told view → length view.tables.guards ≡ view.script.guards
-  sound_guards sound = sound.turning.room.fit.guards
 
 pub follows_taken : {X : Type 0} (told : X → Option Outside) (view : ProactorView X) (half : ReactorHalf) →
     Follows told view half → half.taken ≡ view.tables.taken

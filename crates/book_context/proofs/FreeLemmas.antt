@@ -13,12 +13,12 @@ use Rattle.session_script.specs.declared.act.Act.TheVariants as act
 use Rattle.session_script.specs.Script.{Entry, Place, ScriptModel, is_operation, is_stop}
 use Rattle.session_script.specs.Lanes.{caller_lane, is_inside, lane_in, lane_of, lane_or_reactor, lanes_after, lanes_of, place_lane, strand_of}
 use Rattle.session_script.specs.WellFormed.{FitsAct, IsWellFormed, header_of}
-use Rattle.history_book.specs.Requests.{turn_begun}
-use Rattle.history_book.specs.Rounds.{after_restart}
-use Rattle.history_book.specs.State.{Allowances, ContextState, all_lanes}
-use Rattle.history_book.specs.Stopping.{MayStart, allowance_of, less_one, with_allowance}
-use Rattle.history_book.specs.declared.phase.Allowance.{Allowance}
-use Rattle.history_book.specs.declared.phase.Allowance.TheVariants as allowance
+use Rattle.history_rules.specs.Requests.{turn_begun}
+use Rattle.history_rules.specs.Rounds.{after_restart}
+use Rattle.history_rules.specs.State.{Allowances, ContextState, all_lanes}
+use Rattle.history_rules.specs.Stopping.{MayStart, allowance_of, less_one, with_allowance}
+use Rattle.history_rules.specs.declared.phase.Allowance.{Allowance}
+use Rattle.history_rules.specs.declared.phase.Allowance.TheVariants as allowance
 use Rattle.strand_core.specs.declared.posted.Posted.{Posted}
 use Rattle.book_context.specs.Called.{are_stopping}
 use Rattle.book_context.specs.Executed.{IsExecuted}

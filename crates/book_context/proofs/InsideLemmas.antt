@@ -13,15 +13,15 @@ use Rattle.asio_types.specs.declared.code.Code.TheVariants as code
 use Rattle.asio_types.specs.declared.event.Event.TheVariants as event
 use Rattle.session_script.specs.Script.{Place, ScriptModel, branch_of, stops}
 use Rattle.session_script.specs.Lanes.{is_inline, lane_of}
-use Rattle.history_book.specs.Calls.{accepted, is_call_done, is_made}
-use Rattle.history_book.specs.Executions.{MayEnd, begun, has_finished}
-use Rattle.history_book.specs.Order.{called_at}
-use Rattle.history_book.specs.State.{Allowances, ContextState, ReactorHalf, act_at, call_at, counted, no_progress, with_phase}
-use Rattle.history_book.specs.Stopping.{spend}
-use Rattle.history_book.specs.declared.phase.ActPhase.TheVariants as phase
-use Rattle.history_book.specs.declared.phase.ActState.{ActState}
-use Rattle.history_book.specs.declared.phase.CallPhase.TheVariants as call
-use Rattle.history_book.specs.declared.phase.Progress.{Progress}
+use Rattle.history_rules.specs.Calls.{accepted, is_call_done, is_made}
+use Rattle.history_rules.specs.Executions.{MayEnd, begun, has_finished}
+use Rattle.history_rules.specs.Order.{called_at}
+use Rattle.history_rules.specs.State.{Allowances, ContextState, ReactorHalf, act_at, call_at, counted, no_progress, with_phase}
+use Rattle.history_rules.specs.Stopping.{spend}
+use Rattle.history_rules.specs.declared.phase.ActPhase.TheVariants as phase
+use Rattle.history_rules.specs.declared.phase.ActState.{ActState}
+use Rattle.history_rules.specs.declared.phase.CallPhase.TheVariants as call
+use Rattle.history_rules.specs.declared.phase.Progress.{Progress}
 use Rattle.strand_core.specs.Execution.{execution_of}
 use Rattle.strand_core.specs.declared.posted.Posted.{Posted}
 use Rattle.strand_core.specs.declared.posted.Posted.TheVariants as posted

@@ -11,16 +11,16 @@ use Rattle.asio_types.specs.declared.code.Code.TheVariants as code
 use Rattle.session_script.specs.Script.{Place, ScriptModel, parent_of}
 use Rattle.session_script.specs.WellFormed.{HasParent, IsWellFormed}
 use Rattle.session_script.proofs.PlacingLemmas.{has_parent}
-use Rattle.history_book.specs.Calls.{accepted}
-use Rattle.history_book.specs.Executions.{IsReadyWith}
-use Rattle.history_book.specs.Order.{called_at, is_request, is_untaken, was_taken}
-use Rattle.history_book.specs.State.{ContextState, ReactorHalf, State, act_at, call_at, phase_at}
-use Rattle.history_book.specs.declared.phase.ActPhase.{ActPhase}
-use Rattle.history_book.specs.declared.phase.ActPhase.TheVariants as phase
-use Rattle.history_book.specs.declared.phase.ActState.{ActState}
-use Rattle.history_book.specs.declared.phase.CallPhase.{CallPhase}
-use Rattle.history_book.specs.declared.phase.CallPhase.TheVariants as call
-use Rattle.history_book.specs.declared.phase.Cause.TheVariants as cause
+use Rattle.history_rules.specs.Calls.{accepted}
+use Rattle.history_rules.specs.Executions.{IsReadyWith}
+use Rattle.history_rules.specs.Order.{called_at, is_request, is_untaken, was_taken}
+use Rattle.history_rules.specs.State.{ContextState, ReactorHalf, State, act_at, call_at, phase_at}
+use Rattle.history_rules.specs.declared.phase.ActPhase.{ActPhase}
+use Rattle.history_rules.specs.declared.phase.ActPhase.TheVariants as phase
+use Rattle.history_rules.specs.declared.phase.ActState.{ActState}
+use Rattle.history_rules.specs.declared.phase.CallPhase.{CallPhase}
+use Rattle.history_rules.specs.declared.phase.CallPhase.TheVariants as call
+use Rattle.history_rules.specs.declared.phase.Cause.TheVariants as cause
 use Rattle.strand_core.specs.Execution.{AreCalls}
 use Rattle.strand_core.specs.declared.posted.Posted.{Posted}
 use Rattle.book_context.specs.Called.{IsBackSince, called_as, is_called, settled_phase}

@@ -5,10 +5,10 @@ use Rattle.session_script.specs.declared.act.Act.{Act}
 use Rattle.session_script.specs.declared.act.Act.TheVariants as act
 use Rattle.session_script.specs.Script.{Entry, ScriptModel, is_op, is_operation, is_stop, stops}
 use Rattle.session_script.specs.Lanes.{is_inline}
-use Rattle.history_book.specs.Kinds.{is_act, is_control, is_posting}
-use Rattle.history_book.specs.Rounds.{is_unspent}
-use Rattle.history_book.specs.declared.phase.ActPhase.{ActPhase}
-use Rattle.history_book.specs.declared.phase.ActPhase.TheVariants as phase
+use Rattle.history_rules.specs.Kinds.{is_act, is_control, is_posting}
+use Rattle.history_rules.specs.Rounds.{is_unspent}
+use Rattle.history_rules.specs.declared.phase.ActPhase.{ActPhase}
+use Rattle.history_rules.specs.declared.phase.ActPhase.TheVariants as phase
 use Rattle.book_context.specs.Called.{settled_phase}
 use Rattle.book_context.specs.Kinds.{is_accepted, is_spent}
 use Rattle.book_context.specs.Left.{phase_left}

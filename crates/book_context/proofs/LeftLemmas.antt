@@ -8,13 +8,13 @@ use Rattle.std.proofs.lemmas.List.Filters.{length-filter_both}
 use Rattle.asio_types.specs.declared.world.Line.{Line}
 use Rattle.session_script.specs.Script.{ScriptModel}
 use Rattle.stream_rules.specs.World.{insert_time, rising, times_after}
-use Rattle.history_book.specs.Order.{is_request, was_taken}
-use Rattle.history_book.specs.State.{State, act_at, call_at, first_state, fresh, phase_at}
-use Rattle.history_book.specs.declared.phase.ActPhase.{ActPhase}
-use Rattle.history_book.specs.declared.phase.ActPhase.TheVariants as phase
-use Rattle.history_book.specs.declared.phase.ActState.{ActState}
-use Rattle.history_book.specs.declared.phase.CallPhase.{CallPhase}
-use Rattle.history_book.specs.declared.phase.CallPhase.TheVariants as call
+use Rattle.history_rules.specs.Order.{is_request, was_taken}
+use Rattle.history_rules.specs.State.{State, act_at, call_at, first_state, fresh, phase_at}
+use Rattle.history_rules.specs.declared.phase.ActPhase.{ActPhase}
+use Rattle.history_rules.specs.declared.phase.ActPhase.TheVariants as phase
+use Rattle.history_rules.specs.declared.phase.ActState.{ActState}
+use Rattle.history_rules.specs.declared.phase.CallPhase.{CallPhase}
+use Rattle.history_rules.specs.declared.phase.CallPhase.TheVariants as call
 use Rattle.book_context.specs.Left.{act_left, act_left_at, events_left, most_history, one_unless, phase_left, rounds_left}
 use Rattle.book_context.specs.Work.{is_requested}
 use Rattle.book_context.proofs.SummingLemmas.{one_if, summed, summed-apart, summed-both, summed-less, summed-range, summed-same}

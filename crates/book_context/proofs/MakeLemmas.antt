@@ -10,8 +10,8 @@ use Rattle.asio_types.specs.declared.outside.SetupFault.TheVariants as setup_fau
 use Rattle.op_handlers.specs.Marks.{Marks}
 use Rattle.session_script.specs.Script.{ScriptModel, is_op}
 use Rattle.session_script.specs.WellFormed.{IsWellFormed}
-use Rattle.history_book.specs.FromOutside.{has_fault, has_outside_stop, is_fault, is_outside_stop}
-use Rattle.history_book.specs.State.{ReactorHalf, first_reactor}
+use Rattle.history_rules.specs.FromOutside.{has_fault, has_outside_stop, is_fault, is_outside_stop}
+use Rattle.history_rules.specs.State.{ReactorHalf, first_reactor}
 use Rattle.reactor_trait.specs.Reactor.{Outside, ReactorState}
 use Rattle.proactor_core.specs.Proactor.{SetupIsRefused, ProactorView}
 use Rattle.strand_core.specs.Execution.{events_of}

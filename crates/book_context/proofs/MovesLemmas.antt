@@ -5,11 +5,11 @@ use Rattle.std.proofs.lemmas.Bool.{cases_Bool, false_from_ne_true, or_cases, or_
 use Rattle.std.specs.List.{All}
 use Rattle.asio_types.specs.Faults.{most_faults}
 use Rattle.session_script.specs.Script.{Place, ScriptModel}
-use Rattle.history_book.specs.Order.{called_at}
-use Rattle.history_book.specs.State.{ContextState, ReactorHalf, act_at, call_at}
-use Rattle.history_book.specs.declared.phase.CallPhase.{CallPhase}
-use Rattle.history_book.specs.declared.phase.CallPhase.TheVariants as call
-use Rattle.history_book.specs.declared.phase.ActState.{ActState}
+use Rattle.history_rules.specs.Order.{called_at}
+use Rattle.history_rules.specs.State.{ContextState, ReactorHalf, act_at, call_at}
+use Rattle.history_rules.specs.declared.phase.CallPhase.{CallPhase}
+use Rattle.history_rules.specs.declared.phase.CallPhase.TheVariants as call
+use Rattle.history_rules.specs.declared.phase.ActState.{ActState}
 use Rattle.strand_core.specs.Execution.{events_of}
 use Rattle.strand_core.specs.declared.posted.Posted.{Posted}
 use Rattle.book_context.specs.Called.{IsBackSince, are_stopping, is_called}

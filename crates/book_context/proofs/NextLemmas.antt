@@ -6,14 +6,14 @@ use Rattle.std.proofs.lemmas.List.Elements.{All-head}
 use Rattle.asio_types.specs.declared.code.Code.{Code}
 use Rattle.session_script.specs.Script.{ScriptModel}
 use Rattle.session_script.specs.Lanes.{lane_of}
-use Rattle.history_book.specs.Executions.{IsReadyWith, MayBeginOutside}
-use Rattle.history_book.specs.Order.{is_request, is_untaken, was_taken}
-use Rattle.history_book.specs.Requests.{MayTake, MayTurn}
-use Rattle.history_book.specs.Rounds.{AllQuiet, RoundIsOpen, is_quiet, is_running}
-use Rattle.history_book.specs.State.{State, phase_at}
-use Rattle.history_book.specs.Stopping.{MayStart}
-use Rattle.history_book.specs.declared.phase.ActPhase.{ActPhase}
-use Rattle.history_book.specs.declared.phase.ActPhase.TheVariants as phase
+use Rattle.history_rules.specs.Executions.{IsReadyWith, MayBeginOutside}
+use Rattle.history_rules.specs.Order.{is_request, is_untaken, was_taken}
+use Rattle.history_rules.specs.Requests.{MayTake, MayTurn}
+use Rattle.history_rules.specs.Rounds.{AllQuiet, RoundIsOpen, is_quiet, is_running}
+use Rattle.history_rules.specs.State.{State, phase_at}
+use Rattle.history_rules.specs.Stopping.{MayStart}
+use Rattle.history_rules.specs.declared.phase.ActPhase.{ActPhase}
+use Rattle.history_rules.specs.declared.phase.ActPhase.TheVariants as phase
 use Rattle.book_context.specs.Ready.{is_ready}
 use Rattle.book_context.specs.Order.{IsKept}
 use Rattle.book_context.proofs.ReadyLemmas.{first_of_lane, first_request}

@@ -7,7 +7,7 @@ use Rattle.proactor_core.specs.Proactor.{ProactorView}
 use Rattle.op_handlers.specs.Marks.{Marks}
 use Rattle.session_script.specs.Script.{ScriptModel}
 use Rattle.strand_core.specs.Hands.{Held}
-use Rattle.history_book.specs.FromOutside.{has_fault}
+use Rattle.history_rules.specs.FromOutside.{has_fault}
 use Rattle.book_context.specs.declared.answer.BookTurn.{BookTurn}
 use Rattle.book_context.specs.declared.answer.BookTurn.TheVariants as turn
 use Rattle.book_context.specs.Book.{HoldsUnspent, KeepsHistory, KeepsReactor}

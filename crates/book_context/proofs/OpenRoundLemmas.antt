@@ -1,14 +1,11 @@
 -- Whether a round is open, and what a context at rest has to do in it.
 use Rattle.std.proofs.Common.{◌≡◌, ℕ, ◌+◌, ◌<◌, ◌≤◌, ◌^◌, Bool, true, false, not, List, [], ◌∷◌, Option, Some, None, zero, suc, length, refl, sym, ap, subst, ◌∙◌, arith}
 use Rattle.std.specs.Prelude.{◌||◌, count_by, slice_get}
-use Rattle.std.proofs.lemmas.Grind.{common_steps}
 use Rattle.std.proofs.lemmas.Option.{slice_get_within}
-use Rattle.session_script.specs.Limits.{limits_of}
 use Rattle.session_script.specs.Script.{ScriptModel}
-use Rattle.session_script.specs.WellFormed.{IsWellFormed}
 use Rattle.session_script.specs.declared.round.Round.{Round}
-use Rattle.history_book.specs.Rounds.{AllQuiet, RoundIsOpen, is_held, outstanding_work, restarts, runs, this_round}
-use Rattle.history_book.specs.Time.{pending_count}
+use Rattle.history_rules.specs.Rounds.{AllQuiet, RoundIsOpen, is_held, outstanding_work, restarts, runs, this_round}
+use Rattle.history_rules.specs.Time.{pending_count}
 use Rattle.book_context.specs.BookSteps.{IsGoing, IsIdleRound, is_round_open, is_open_with, open_round}
 use Rattle.book_context.specs.Next.{NothingLeftIsQuiet}
 use Rattle.book_context.specs.Order.{IsKept}
@@ -16,13 +13,6 @@ use Rattle.book_context.specs.Recorded.{IsRecorded, recorded_half, recorded_stat
 use Rattle.book_context.specs.Recording.{Recording}
 use Rattle.book_context.specs.RoundSteps.{WorkIsKnown}
 use Rattle.book_context.specs.Steps.{IsRoundOpen, OpenRoundsAreKnown}
-
-guards-below : (version : ℕ) → (limits_of version).guards ≤ 64
-unfolding limits_of
-guards-below version = grind (arith, common_steps)
-
-pub few_guards : (script : ScriptModel) → IsWellFormed script → script.guards < 2 ^ 32
-few_guards script formed = let few = formed.guards in let most = guards-below script.version in omega (arith, few, most)
 
 open_by : (restarted : Bool) (round : Option Round) → is_open_with restarted round ≡ true → restarts round ≡ true →
     restarted ≡ true

@@ -7,14 +7,14 @@ use Rattle.std.specs.List.{All}
 use Rattle.asio_types.specs.Faults.{most_faults}
 use Rattle.session_script.specs.Script.{ScriptModel, opening_of, parent_of}
 use Rattle.session_script.specs.WellFormed.{IsWellFormed}
-use Rattle.history_book.specs.Calls.{is_open}
-use Rattle.history_book.specs.Executions.{IsReadyWith}
-use Rattle.history_book.specs.Legal.{state_of}
-use Rattle.history_book.specs.Order.{is_request, is_untaken, was_taken}
-use Rattle.history_book.specs.Rounds.{is_running}
-use Rattle.history_book.specs.State.{ReactorHalf, act_at, first_context, first_reactor, fresh, phase_at}
-use Rattle.history_book.specs.declared.phase.ActState.{ActState}
-use Rattle.history_book.specs.declared.phase.Allowance.TheVariants as allowance
+use Rattle.history_rules.specs.Calls.{is_open}
+use Rattle.history_rules.specs.Executions.{IsReadyWith}
+use Rattle.history_rules.specs.Legal.{state_of}
+use Rattle.history_rules.specs.Order.{is_request, is_untaken, was_taken}
+use Rattle.history_rules.specs.Rounds.{is_running}
+use Rattle.history_rules.specs.State.{ReactorHalf, act_at, first_context, first_reactor, fresh, phase_at}
+use Rattle.history_rules.specs.declared.phase.ActState.{ActState}
+use Rattle.history_rules.specs.declared.phase.Allowance.TheVariants as allowance
 use Rattle.strand_core.specs.Execution.{AnyMark, AreCalls, events_of}
 use Rattle.strand_core.specs.declared.posted.Posted.{Posted}
 use Rattle.book_context.specs.Called.{IsBackSince, is_called}

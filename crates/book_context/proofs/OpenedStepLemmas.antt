@@ -10,12 +10,12 @@ use Rattle.session_script.specs.Script.{Entry, ScriptModel, opening_of, parent_o
 use Rattle.session_script.specs.Lanes.{caller_lane, is_inline, is_inside, lanes_of}
 use Rattle.session_script.specs.WellFormed.{HasParent, IsWellFormed}
 use Rattle.session_script.proofs.PlacingLemmas.{has_parent}
-use Rattle.history_book.specs.Rounds.{is_running, is_unspent}
-use Rattle.history_book.specs.State.{State, first_reactor, first_state, fresh, no_queues, phase_at}
-use Rattle.history_book.specs.Settling.{expiry_of}
-use Rattle.history_book.specs.declared.phase.ActPhase.{ActPhase}
-use Rattle.history_book.specs.declared.phase.ActPhase.TheVariants as phase
-use Rattle.history_book.specs.declared.phase.ActState.{ActState}
+use Rattle.history_rules.specs.Rounds.{is_running, is_unspent}
+use Rattle.history_rules.specs.State.{State, first_reactor, first_state, fresh, no_queues, phase_at}
+use Rattle.history_rules.specs.Settling.{expiry_of}
+use Rattle.history_rules.specs.declared.phase.ActPhase.{ActPhase}
+use Rattle.history_rules.specs.declared.phase.ActPhase.TheVariants as phase
+use Rattle.history_rules.specs.declared.phase.ActState.{ActState}
 use Rattle.strand_core.specs.Execution.{AnyMark, AreCalls, events_of}
 use Rattle.strand_core.specs.Hands.{IsInlineOf}
 use Rattle.strand_core.specs.declared.posted.Posted.{Posted}

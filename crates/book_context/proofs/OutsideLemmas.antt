@@ -4,10 +4,10 @@ use Rattle.std.proofs.lemmas.List.Elements.{All-nil}
 use Rattle.asio_types.specs.Faults.{most_faults}
 use Rattle.session_script.specs.Script.{Place, ScriptModel, stops}
 use Rattle.session_script.specs.Lanes.{is_inline}
-use Rattle.history_book.specs.Calls.{has_stopped, is_call_done}
-use Rattle.history_book.specs.State.{Allowances, ContextState, ReactorHalf, act_at, call_at}
-use Rattle.history_book.specs.declared.phase.ActState.{ActState}
-use Rattle.history_book.specs.declared.phase.CallPhase.TheVariants as call
+use Rattle.history_rules.specs.Calls.{has_stopped, is_call_done}
+use Rattle.history_rules.specs.State.{Allowances, ContextState, ReactorHalf, act_at, call_at}
+use Rattle.history_rules.specs.declared.phase.ActState.{ActState}
+use Rattle.history_rules.specs.declared.phase.CallPhase.TheVariants as call
 use Rattle.strand_core.specs.declared.posted.Posted.{Posted}
 use Rattle.strand_core.specs.declared.posted.Posted.TheVariants as posted
 use Rattle.book_context.specs.Called.{IsBackSince, are_stopping}

@@ -2,8 +2,8 @@
 use Rattle.std.proofs.Common.{◌≡◌, Bool, List, [], ◌∷◌, ◌++◌, refl, subst}
 use Rattle.asio_types.specs.declared.event.Event.{Event}
 use Rattle.session_script.specs.Script.{ScriptModel}
-use Rattle.history_book.specs.Legal.{IsLegalFrom, IsLegalSoFar, after_event, state_from, state_of}
-use Rattle.history_book.specs.State.{State, first_state}
+use Rattle.history_rules.specs.Legal.{IsLegalFrom, IsLegalSoFar, after_event, state_from, state_of}
+use Rattle.history_rules.specs.State.{State, first_state}
 use Rattle.strand_core.specs.Execution.{events_of}
 use Rattle.strand_core.specs.declared.posted.Posted.{Posted}
 use Rattle.book_context.specs.Parts.{IsLegalInParts}

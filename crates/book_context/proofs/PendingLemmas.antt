@@ -16,13 +16,13 @@ use Rattle.stream_rules.specs.Serving.{All_bytes, All_of, Outcome, Reading, Some
 use Rattle.stream_rules.specs.Stream.{Stream}
 use Rattle.stream_rules.specs.World.{stream_at}
 use Rattle.book_context.specs.Accounted.{is_awaited}
-use Rattle.history_book.specs.Performing.{aborted, all_aborted, all_of_stream, bad, closed_at, connected, emitted, emitted_to, is_of, is_reached, is_wait_for, is_wait_of, new_pending, one_of_stream_cancelled, one_wait_cancelled, operation_cancelled, performed, performed_act, performed_by, queues_at, read_accepted, shut_at, wait_accepted, waits_cancelled, write_accepted}
-use Rattle.history_book.specs.Requests.{MayTell, disconnected, reactor_after_done, reactor_after_take, slot_in, told_off}
-use Rattle.history_book.specs.Settling.{due_waits, expiry_of, is_due, put_by, served_at, served_below, served_stream, settled, sorted_by, waited, with_streams_served, with_waits_served}
-use Rattle.history_book.specs.State.{ReactorHalf, StreamQueues, no_queues}
-use Rattle.history_book.specs.Time.{at_last, at_time, pending_count, reactor_after_last, reactor_after_tick}
-use Rattle.history_book.specs.Untold.{MayGiveUntold, gone, head_of, read_gone, write_gone}
-use Rattle.history_book.proofs.QueuesLemmas.{left-aborted, length-all_of_stream}
+use Rattle.history_rules.specs.Performing.{aborted, all_aborted, all_of_stream, bad, closed_at, connected, emitted, emitted_to, is_of, is_reached, is_wait_for, is_wait_of, new_pending, one_of_stream_cancelled, one_wait_cancelled, operation_cancelled, performed, performed_act, performed_by, queues_at, read_accepted, shut_at, wait_accepted, waits_cancelled, write_accepted}
+use Rattle.history_rules.specs.Requests.{MayTell, disconnected, reactor_after_done, reactor_after_take, slot_in, told_off}
+use Rattle.history_rules.specs.Settling.{due_waits, expiry_of, is_due, put_by, served_at, served_below, served_stream, settled, sorted_by, waited, with_streams_served, with_waits_served}
+use Rattle.history_rules.specs.State.{ReactorHalf, StreamQueues, no_queues}
+use Rattle.history_rules.specs.Time.{at_last, at_time, pending_count, reactor_after_last, reactor_after_tick}
+use Rattle.history_rules.specs.Untold.{MayGiveUntold, gone, head_of, read_gone, write_gone}
+use Rattle.history_rules.proofs.CancelledLemmas.{left-aborted, length-all_of_stream}
 
 -- an item is put in, and none is lost
 length-put : {X : Type 0} (key : X → ℕ) (x : X) (xs : List X) → length (put_by key x xs) ≡ suc (length xs)

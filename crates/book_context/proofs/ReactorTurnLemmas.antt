@@ -12,12 +12,12 @@ use Rattle.asio_types.specs.declared.outside.Point.{Point}
 use Rattle.asio_types.specs.declared.outside.Point.TheVariants as point
 use Rattle.session_script.specs.declared.act.Act.{Act}
 use Rattle.session_script.specs.Script.{ScriptModel, act_of}
-use Rattle.history_book.specs.FromOutside.{has_fault, is_fault}
-use Rattle.history_book.specs.Legal.{state_of}
-use Rattle.history_book.specs.Performing.{performed, performed_by}
-use Rattle.history_book.specs.Requests.{reactor_after_take}
-use Rattle.history_book.specs.State.{ReactorHalf, StreamQueues, no_queues}
-use Rattle.history_book.specs.Time.{next_time, pending_count}
+use Rattle.history_rules.specs.FromOutside.{has_fault, is_fault}
+use Rattle.history_rules.specs.Legal.{state_of}
+use Rattle.history_rules.specs.Performing.{performed, performed_by}
+use Rattle.history_rules.specs.Requests.{reactor_after_take}
+use Rattle.history_rules.specs.State.{ReactorHalf, StreamQueues, no_queues}
+use Rattle.history_rules.specs.Time.{next_time, pending_count}
 use Rattle.reactor_trait.specs.Reactor.{Outside, ReactorState, state_at}
 use Rattle.proactor_core.specs.Proactor.{Follows, IsSound, ProactorView, after_point, moved_state, tells}
 use Rattle.proactor_core.specs.Room.{IsUntaken}

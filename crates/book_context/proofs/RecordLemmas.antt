@@ -9,10 +9,10 @@ use Rattle.asio_types.specs.declared.event.Event.TheVariants as event
 use Rattle.session_script.specs.Script.{Entry, ScriptModel, opening_of, parent_of, stops}
 use Rattle.session_script.specs.Lanes.{is_inline, is_inside, caller_lane, lanes_of}
 use Rattle.session_script.specs.WellFormed.{IsWellFormed}
-use Rattle.history_book.specs.Calls.{accepted}
+use Rattle.history_rules.specs.Calls.{accepted}
 use Rattle.history_book.specs.History.{Recorded}
-use Rattle.history_book.specs.Order.{is_request}
-use Rattle.history_book.specs.declared.phase.ActPhase.{ActPhase}
+use Rattle.history_rules.specs.Order.{is_request}
+use Rattle.history_rules.specs.declared.phase.ActPhase.{ActPhase}
 use Rattle.strand_core.specs.Execution.{AnyMark, AreCalls, IsWholeExecution, events_of, no_act, outside}
 use Rattle.strand_core.specs.declared.posted.Posted.{Posted}
 use Rattle.strand_core.specs.declared.posted.Posted.TheVariants as posted

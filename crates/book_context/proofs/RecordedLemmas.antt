@@ -9,11 +9,11 @@ use Rattle.session_script.specs.Limits.{limits_of}
 use Rattle.session_script.specs.Script.{ScriptModel}
 use Rattle.session_script.specs.WellFormed.{IsWellFormed}
 use Rattle.session_script.proofs.PlacesLemmas.{acts_allowed}
-use Rattle.history_book.specs.Legal.{MayHappen, after_event}
-use Rattle.history_book.specs.Rounds.{RoundIsOpen, restarts}
-use Rattle.history_book.specs.State.{State, call_at, phase_at}
-use Rattle.history_book.specs.Turns.{AllAhead}
-use Rattle.history_book.specs.declared.phase.Progress.{Progress}
+use Rattle.history_rules.specs.Legal.{MayHappen, after_event}
+use Rattle.history_rules.specs.Rounds.{RoundIsOpen, restarts}
+use Rattle.history_rules.specs.State.{State, call_at, phase_at}
+use Rattle.history_rules.specs.Bounds.{AllAhead}
+use Rattle.history_rules.specs.declared.phase.Progress.{Progress}
 use Rattle.book_context.specs.Accounted.{IsAccounted}
 use Rattle.book_context.specs.Kinds.{AreOfKind, is_spent, was_called}
 use Rattle.book_context.specs.Lanes.{IsFreeUnlessStopped}

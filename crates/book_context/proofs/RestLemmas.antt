@@ -4,9 +4,9 @@ use Rattle.std.proofs.lemmas.Bool.{cases_lt}
 use Rattle.std.proofs.lemmas.List.{get_or_past}
 use Rattle.std.proofs.lemmas.List.Elements.{All-get_or}
 use Rattle.std.specs.List.{All}
-use Rattle.history_book.specs.State.{ContextState, act_at, fresh, phase_at}
-use Rattle.history_book.specs.declared.phase.ActPhase.TheVariants as phase
-use Rattle.history_book.specs.declared.phase.ActState.{ActState}
+use Rattle.history_rules.specs.State.{ContextState, act_at, fresh, phase_at}
+use Rattle.history_rules.specs.declared.phase.ActPhase.TheVariants as phase
+use Rattle.history_rules.specs.declared.phase.ActState.{ActState}
 
 -- what is asked of each act may be asked of each number
 pub at_each : (P : ActState → Type 0) (s : ContextState) → P fresh → All P s.acts → (n : ℕ) → P (act_at s n)

@@ -5,12 +5,12 @@ use Rattle.std.specs.Option.{unwrap_or}
 use Rattle.std.proofs.lemmas.List.{length-map}
 use Rattle.asio_types.specs.Faults.{one_more}
 use Rattle.asio_types.specs.declared.event.Event.TheVariants as event
-use Rattle.history_book.specs.Legal.{after_event}
-use Rattle.history_book.specs.Rounds.{AllQuiet, is_held, outstanding_work, restarts, runs}
-use Rattle.history_book.specs.State.{State}
-use Rattle.history_book.specs.Time.{pending_count}
-use Rattle.history_book.specs.declared.phase.Allowance.TheVariants as allowance
-use Rattle.history_book.specs.declared.phase.Progress.{Progress}
+use Rattle.history_rules.specs.Legal.{after_event}
+use Rattle.history_rules.specs.Rounds.{AllQuiet, is_held, outstanding_work, restarts, runs}
+use Rattle.history_rules.specs.State.{State}
+use Rattle.history_rules.specs.Time.{pending_count}
+use Rattle.history_rules.specs.declared.phase.Allowance.TheVariants as allowance
+use Rattle.history_rules.specs.declared.phase.Progress.{Progress}
 use Rattle.book_context.specs.Left.{one_unless, rounds_left}
 use Rattle.book_context.specs.Order.{IsKept}
 use Rattle.book_context.specs.Recorded.{IsRecorded, recorded_half, recorded_state}

@@ -8,9 +8,9 @@ use Rattle.session_script.specs.declared.act.Act.{Act}
 use Rattle.session_script.specs.declared.act.Act.TheVariants as act
 use Rattle.session_script.specs.Script.{Entry, Place, ScriptModel, is_stop, numbers_in, parent_of, same_class, same_place, stops}
 use Rattle.session_script.specs.Lanes.{caller_lane, is_inline, is_inside, lanes_of}
-use Rattle.history_book.specs.Calls.{accepted}
-use Rattle.history_book.specs.Kinds.{is_act}
-use Rattle.history_book.specs.declared.phase.ActPhase.TheVariants as phase
+use Rattle.history_rules.specs.Calls.{accepted}
+use Rattle.history_rules.specs.Kinds.{is_act}
+use Rattle.history_rules.specs.declared.phase.ActPhase.TheVariants as phase
 
 pub same_class-self : (class : Class) → same_class class class ≡ true
 same_class-self class.Ok = refl

@@ -3,18 +3,18 @@ use Rattle.std.proofs.Common.{◌≡◌, Bool, true, false, not, ◌&&◌, ◌||
 use Rattle.asio_types.specs.declared.code.Code.TheVariants as code
 use Rattle.session_script.specs.Script.{ScriptModel, act_of, is_operation}
 use Rattle.session_script.specs.Lanes.{is_inline}
-use Rattle.history_book.specs.Calls.{accepted}
-use Rattle.history_book.specs.Kinds.{is_act, is_control, is_posting}
-use Rattle.history_book.specs.Rounds.{is_running}
-use Rattle.history_book.specs.declared.phase.ActPhase.{ActPhase}
-use Rattle.history_book.specs.declared.phase.ActPhase.TheVariants as phase
-use Rattle.history_book.specs.declared.phase.Cause.TheVariants as cause
+use Rattle.history_rules.specs.Calls.{accepted}
+use Rattle.history_rules.specs.Kinds.{is_act, is_control, is_posting}
+use Rattle.history_rules.specs.Rounds.{is_running}
+use Rattle.history_rules.specs.declared.phase.ActPhase.{ActPhase}
+use Rattle.history_rules.specs.declared.phase.ActPhase.TheVariants as phase
+use Rattle.history_rules.specs.declared.phase.Cause.TheVariants as cause
 use Rattle.book_context.specs.Called.{settled_phase}
 use Rattle.book_context.specs.Order.{has_begun}
 use Rattle.book_context.specs.Rest.{waits_inside}
 use Rattle.book_context.specs.Accounted.{is_awaited}
 use Rattle.book_context.specs.Work.{is_requested}
-use Rattle.history_book.specs.Order.{is_request}
+use Rattle.history_rules.specs.Order.{is_request}
 use Rattle.session_script.specs.declared.act.Act.{Act}
 use Rattle.book_context.specs.Ready.{is_ready}
 

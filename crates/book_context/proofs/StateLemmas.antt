@@ -7,14 +7,14 @@ use Rattle.session_script.specs.Script.{Place, ScriptModel, numbers_in}
 use Rattle.asio_types.specs.declared.number.Lane.{Lane}
 use Rattle.asio_types.specs.declared.number.Lane.TheVariants as lane
 use Rattle.session_script.specs.Lanes.{lane_of}
-use Rattle.history_book.specs.Calls.{limited}
-use Rattle.history_book.specs.Stopping.{at_most_one, with_allowance}
-use Rattle.history_book.specs.declared.phase.Allowance.{Allowance}
-use Rattle.history_book.specs.declared.phase.Allowance.TheVariants as allowance
-use Rattle.history_book.specs.State.{Allowances, ContextState, act_at, call_at, counted, fresh, phase_at, with_act, with_phase}
-use Rattle.history_book.specs.declared.phase.ActPhase.TheVariants as phase
-use Rattle.history_book.specs.declared.phase.ActState.{ActState}
-use Rattle.history_book.specs.declared.phase.Progress.{Progress}
+use Rattle.history_rules.specs.Calls.{limited}
+use Rattle.history_rules.specs.Stopping.{at_most_one, with_allowance}
+use Rattle.history_rules.specs.declared.phase.Allowance.{Allowance}
+use Rattle.history_rules.specs.declared.phase.Allowance.TheVariants as allowance
+use Rattle.history_rules.specs.State.{Allowances, ContextState, act_at, call_at, counted, fresh, phase_at, with_act, with_phase}
+use Rattle.history_rules.specs.declared.phase.ActPhase.TheVariants as phase
+use Rattle.history_rules.specs.declared.phase.ActState.{ActState}
+use Rattle.history_rules.specs.declared.phase.Progress.{Progress}
 
 pub act_at-same : (s : ContextState) (n : ℕ) (new : ActState) → n < length s.acts → act_at (with_act s n new) n ≡ new
 act_at-same s n new below = get_or-set_same s.acts n new fresh below

@@ -8,12 +8,12 @@ use Rattle.session_script.specs.Script.{ScriptModel, act_of}
 use Rattle.stream_rules.specs.declared.queue.Completion.{Completion}
 use Rattle.stream_rules.specs.Serving.{All_bytes, All_of, Reading, Some_bytes, Some_of, Until, Writing}
 use Rattle.stream_rules.specs.World.{stream_at}
-use Rattle.history_book.specs.Performing.{bad, connected, emitted, emitted_to, is_reached, is_wait_of, new_pending, one_of_stream_cancelled, one_wait_cancelled, operation_cancelled, performed, performed_act, performed_by, queues_at, read_accepted, shut_at, with_due, with_queues, write_accepted}
-use Rattle.history_book.specs.Requests.{disconnected, reactor_after_done, reactor_after_take, slot_in, told_off}
-use Rattle.history_book.specs.Settling.{served_below, served_stream, settled, with_streams_served, with_waits_served}
-use Rattle.history_book.specs.State.{ReactorHalf, StreamQueues}
-use Rattle.history_book.specs.Time.{at_last, at_time, reactor_after_last, reactor_after_tick}
-use Rattle.history_book.specs.Untold.{gone}
+use Rattle.history_rules.specs.Performing.{bad, connected, emitted, emitted_to, is_reached, is_wait_of, new_pending, one_of_stream_cancelled, one_wait_cancelled, operation_cancelled, performed, performed_act, performed_by, queues_at, read_accepted, shut_at, with_due, with_queues, write_accepted}
+use Rattle.history_rules.specs.Requests.{disconnected, reactor_after_done, reactor_after_take, slot_in, told_off}
+use Rattle.history_rules.specs.Settling.{served_below, served_stream, settled, with_streams_served, with_waits_served}
+use Rattle.history_rules.specs.State.{ReactorHalf, StreamQueues}
+use Rattle.history_rules.specs.Time.{at_last, at_time, reactor_after_last, reactor_after_tick}
+use Rattle.history_rules.specs.Untold.{gone}
 
 below-size : (n : ℕ) (r : ReactorHalf) → length (served_below n r).queues ≡ length r.queues
 below-size zero r = refl

@@ -10,16 +10,16 @@ use Rattle.asio_types.specs.declared.event.Event.TheVariants as event
 use Rattle.session_script.specs.Script.{is_op}
 use Rattle.session_script.specs.Lanes.{is_inline}
 use Rattle.stream_rules.specs.World.{times_after}
-use Rattle.history_book.specs.Legal.{after_event}
-use Rattle.history_book.specs.Order.{was_taken}
-use Rattle.history_book.specs.Requests.{MayTell}
-use Rattle.history_book.specs.Rounds.{is_unspent}
-use Rattle.history_book.specs.State.{State, act_at, call_at, phase_at}
-use Rattle.history_book.specs.declared.phase.ActPhase.{ActPhase}
-use Rattle.history_book.specs.declared.phase.ActPhase.TheVariants as phase
-use Rattle.history_book.specs.declared.phase.ActState.{ActState}
-use Rattle.history_book.specs.declared.phase.CallPhase.TheVariants as call
-use Rattle.history_book.specs.declared.phase.Cause.TheVariants as cause
+use Rattle.history_rules.specs.Legal.{after_event}
+use Rattle.history_rules.specs.Order.{was_taken}
+use Rattle.history_rules.specs.Requests.{MayTell}
+use Rattle.history_rules.specs.Rounds.{is_unspent}
+use Rattle.history_rules.specs.State.{State, act_at, call_at, phase_at}
+use Rattle.history_rules.specs.declared.phase.ActPhase.{ActPhase}
+use Rattle.history_rules.specs.declared.phase.ActPhase.TheVariants as phase
+use Rattle.history_rules.specs.declared.phase.ActState.{ActState}
+use Rattle.history_rules.specs.declared.phase.CallPhase.TheVariants as call
+use Rattle.history_rules.specs.declared.phase.Cause.TheVariants as cause
 use Rattle.book_context.specs.Kinds.{AreOfKind, is_accepted, is_spent, was_called}
 use Rattle.book_context.specs.Left.{act_left, act_left_at, events_left, one_unless}
 use Rattle.book_context.specs.Order.{IsKept}

@@ -8,10 +8,10 @@ use Rattle.asio_types.specs.Faults.{one_more}
 use Rattle.asio_types.specs.declared.event.Event.TheVariants as event
 use Rattle.asio_types.specs.declared.outside.Point.TheVariants as point
 use Rattle.stream_rules.specs.World.{times_after}
-use Rattle.history_book.specs.Legal.{after_event}
-use Rattle.history_book.specs.Rounds.{runs}
-use Rattle.history_book.specs.State.{State, phase_at}
-use Rattle.history_book.specs.Time.{IsIdle, at_last, at_time, next_time}
+use Rattle.history_rules.specs.Legal.{after_event}
+use Rattle.history_rules.specs.Rounds.{runs}
+use Rattle.history_rules.specs.State.{State, phase_at}
+use Rattle.history_rules.specs.Time.{IsIdle, at_last, at_time, next_time}
 use Rattle.book_context.specs.Left.{events_left, one_unless}
 use Rattle.book_context.specs.Order.{IsKept}
 use Rattle.book_context.specs.Recorded.{IsRecorded, recorded_half, recorded_state}

@@ -6,9 +6,9 @@ use Rattle.std.proofs.lemmas.List.Elements.{All-append, All-cons, All-nil}
 use Rattle.asio_types.specs.declared.code.Code.{Code}
 use Rattle.asio_types.specs.declared.event.Event.TheVariants as event
 use Rattle.session_script.specs.Script.{ScriptModel}
-use Rattle.history_book.specs.Requests.{MayTell, reactor_after_done}
-use Rattle.history_book.specs.Rounds.{IsDrained}
-use Rattle.history_book.specs.State.{ReactorHalf, State}
+use Rattle.history_rules.specs.Requests.{MayTell, reactor_after_done}
+use Rattle.history_rules.specs.Rounds.{IsDrained}
+use Rattle.history_rules.specs.State.{ReactorHalf, State}
 use Rattle.reactor_trait.specs.Reactor.{Outside, ReactorState}
 use Rattle.proactor_core.specs.Proactor.{Follows, IsSound, ProactorView, tells}
 use Rattle.proactor_core.specs.Tables.{TableState, slot_left}

@@ -13,20 +13,20 @@ use Rattle.session_script.specs.declared.act.Act.TheVariants as act
 use Rattle.session_script.specs.Script.{ScriptModel, act_of}
 use Rattle.session_script.specs.WellFormed.{IsWellFormed}
 use Rattle.session_script.proofs.PlacingLemmas.{act_fits}
-use Rattle.history_book.specs.Calls.{is_open}
-use Rattle.history_book.specs.Legal.{after_event}
-use Rattle.history_book.specs.Order.{called_at, is_request, is_untaken, was_taken}
-use Rattle.history_book.specs.Performing.{performed}
-use Rattle.history_book.specs.Requests.{disconnected, reactor_after_done, reactor_after_take, slot_in, told_off}
-use Rattle.history_book.specs.Rounds.{is_running}
-use Rattle.history_book.specs.Settling.{served_below, settled, with_streams_served, with_waits_served}
-use Rattle.history_book.specs.State.{ContextState, ReactorHalf, State, act_at, call_at, fresh, phase_at}
-use Rattle.history_book.specs.Time.{at_last, at_time, reactor_after_last, reactor_after_tick}
-use Rattle.history_book.specs.Untold.{gone}
-use Rattle.history_book.specs.declared.phase.ActPhase.TheVariants as phase
-use Rattle.history_book.specs.declared.phase.ActState.{ActState}
-use Rattle.history_book.specs.declared.phase.CallPhase.TheVariants as call
-use Rattle.history_book.proofs.PerformingLemmas.{performs-by}
+use Rattle.history_rules.specs.Calls.{is_open}
+use Rattle.history_rules.specs.Legal.{after_event}
+use Rattle.history_rules.specs.Order.{called_at, is_request, is_untaken, was_taken}
+use Rattle.history_rules.specs.Performing.{performed}
+use Rattle.history_rules.specs.Requests.{disconnected, reactor_after_done, reactor_after_take, slot_in, told_off}
+use Rattle.history_rules.specs.Rounds.{is_running}
+use Rattle.history_rules.specs.Settling.{served_below, settled, with_streams_served, with_waits_served}
+use Rattle.history_rules.specs.State.{ContextState, ReactorHalf, State, act_at, call_at, fresh, phase_at}
+use Rattle.history_rules.specs.Time.{at_last, at_time, reactor_after_last, reactor_after_tick}
+use Rattle.history_rules.specs.Untold.{gone}
+use Rattle.history_rules.specs.declared.phase.ActPhase.TheVariants as phase
+use Rattle.history_rules.specs.declared.phase.ActState.{ActState}
+use Rattle.history_rules.specs.declared.phase.CallPhase.TheVariants as call
+use Rattle.history_rules.proofs.PerformingLemmas.{performs-by}
 use Rattle.stream_rules.specs.declared.queue.Completion.{Completion}
 use Rattle.book_context.specs.Order.{IsKept, IsOrderly, has_begun}
 use Rattle.book_context.specs.Ready.{AreReady, AreUntaken, IsCallPast, IsCausePast, IsDated, asked_at, is_ready, ready_at, ready_since}

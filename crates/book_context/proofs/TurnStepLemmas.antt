@@ -14,17 +14,17 @@ use Rattle.session_script.specs.declared.act.Act.{Act}
 use Rattle.session_script.specs.Script.{ScriptModel, act_of}
 use Rattle.session_script.proofs.PlacingLemmas.{act_fits}
 use Rattle.stream_rules.specs.World.{times_after}
-use Rattle.history_book.specs.Calls.{accepted}
-use Rattle.history_book.specs.Legal.{after_event}
-use Rattle.history_book.specs.Order.{is_request, is_untaken, was_taken}
-use Rattle.history_book.specs.Performing.{performed}
-use Rattle.history_book.specs.Requests.{MayTake, MayTurn}
-use Rattle.history_book.specs.Rounds.{is_unspent}
-use Rattle.history_book.specs.State.{Allowances, State, act_at, call_at, phase_at}
-use Rattle.history_book.specs.Stopping.{MayStart, allowance_of}
-use Rattle.history_book.specs.declared.phase.ActState.{ActState}
-use Rattle.history_book.specs.declared.phase.Allowance.TheVariants as allowance
-use Rattle.history_book.specs.declared.phase.CallPhase.TheVariants as call
+use Rattle.history_rules.specs.Calls.{accepted}
+use Rattle.history_rules.specs.Legal.{after_event}
+use Rattle.history_rules.specs.Order.{is_request, is_untaken, was_taken}
+use Rattle.history_rules.specs.Performing.{performed}
+use Rattle.history_rules.specs.Requests.{MayTake, MayTurn}
+use Rattle.history_rules.specs.Rounds.{is_unspent}
+use Rattle.history_rules.specs.State.{Allowances, State, act_at, call_at, phase_at}
+use Rattle.history_rules.specs.Stopping.{MayStart, allowance_of}
+use Rattle.history_rules.specs.declared.phase.ActState.{ActState}
+use Rattle.history_rules.specs.declared.phase.Allowance.TheVariants as allowance
+use Rattle.history_rules.specs.declared.phase.CallPhase.TheVariants as call
 use Rattle.book_context.specs.Accounted.{IsAccounted, is_awaited}
 use Rattle.book_context.specs.Kinds.{AreOfKind, is_accepted, was_called}
 use Rattle.book_context.specs.Lanes.{IsFreeUnlessStopped}

@@ -4,11 +4,11 @@ use Rattle.std.specs.Prelude.{count_by}
 use Rattle.std.proofs.lemmas.Bool.{and_parts}
 use Rattle.asio_types.specs.declared.code.Code.{Code}
 use Rattle.session_script.specs.Script.{ScriptModel}
-use Rattle.history_book.specs.Order.{is_request, is_untaken, was_taken}
-use Rattle.history_book.specs.Rounds.{is_act_outstanding, is_held, is_outstanding, is_running, outstanding_work}
-use Rattle.history_book.specs.State.{State, phase_at}
-use Rattle.history_book.specs.declared.phase.ActPhase.{ActPhase}
-use Rattle.history_book.specs.declared.phase.ActPhase.TheVariants as phase
+use Rattle.history_rules.specs.Order.{is_request, is_untaken, was_taken}
+use Rattle.history_rules.specs.Rounds.{is_act_outstanding, is_held, is_outstanding, is_running, outstanding_work}
+use Rattle.history_rules.specs.State.{State, phase_at}
+use Rattle.history_rules.specs.declared.phase.ActPhase.{ActPhase}
+use Rattle.history_rules.specs.declared.phase.ActPhase.TheVariants as phase
 use Rattle.book_context.specs.Order.{IsKept}
 use Rattle.book_context.specs.Ready.{asked_at, is_ready, ready_at}
 use Rattle.book_context.specs.Rest.{waits_inside}

@@ -6,15 +6,15 @@ use Rattle.session_script.specs.declared.act.Act.{Act}
 use Rattle.session_script.specs.Script.{ScriptModel, is_operation, opening_of}
 use Rattle.session_script.specs.Lanes.{is_inline}
 use Rattle.session_script.specs.WellFormed.{IsWellFormed}
-use Rattle.history_book.specs.declared.phase.ActPhase.TheVariants as phase
-use Rattle.history_book.specs.Calls.{accepted}
-use Rattle.history_book.specs.Executions.{MayBeginOutside}
-use Rattle.history_book.specs.Kinds.{is_posting}
-use Rattle.history_book.specs.Legal.{after_event, state_from, state_of}
-use Rattle.history_book.specs.Order.{is_request, is_untaken, was_taken}
-use Rattle.history_book.specs.Requests.{MayTell}
-use Rattle.history_book.specs.State.{State, phase_at}
-use Rattle.history_book.specs.Time.{pending_count}
+use Rattle.history_rules.specs.declared.phase.ActPhase.TheVariants as phase
+use Rattle.history_rules.specs.Calls.{accepted}
+use Rattle.history_rules.specs.Executions.{MayBeginOutside}
+use Rattle.history_rules.specs.Kinds.{is_posting}
+use Rattle.history_rules.specs.Legal.{after_event, state_from, state_of}
+use Rattle.history_rules.specs.Order.{is_request, is_untaken, was_taken}
+use Rattle.history_rules.specs.Requests.{MayTell}
+use Rattle.history_rules.specs.State.{State, phase_at}
+use Rattle.history_rules.specs.Time.{pending_count}
 use Rattle.strand_core.specs.declared.posted.Posted.{Posted}
 use Rattle.strand_core.specs.Execution.{AnyMark, AreCalls, IsWholeExecution, events_of}
 use Rattle.book_context.specs.Order.{IsOrderly}

@@ -3,7 +3,7 @@ use Rattle.std.specs.Prelude.{◌≡◌, ℕ, Bool, false, [], Option, not}
 use Rattle.std.specs.Option.{option_map}
 use Rattle.op_handlers.specs.Marks.{Marks}
 use Rattle.session_script.specs.Script.{ScriptModel, is_op}
-use Rattle.history_book.specs.State.{first_reactor}
+use Rattle.history_rules.specs.State.{first_reactor}
 use Rattle.reactor_trait.specs.Reactor.{Outside, ReactorState, state_ready}
 use Rattle.proactor_core.specs.Proactor.{Follows, IsSound, ProactorView, tells}
 use Rattle.strand_core.specs.Hands.{Held, held_at}

@@ -5,10 +5,10 @@ use Rattle.asio_types.specs.Faults.{Rose}
 use Rattle.asio_types.specs.declared.event.Event.TheVariants as event
 use Rattle.op_handlers.specs.Marks.{Marks}
 use Rattle.session_script.specs.Script.{ScriptModel, is_op}
-use Rattle.history_book.specs.FromOutside.{has_fault, has_outside_stop}
-use Rattle.history_book.specs.Marks.{HasMarks}
-use Rattle.history_book.specs.Rounds.{IsDrained}
-use Rattle.history_book.specs.State.{ReactorHalf}
+use Rattle.history_rules.specs.FromOutside.{has_fault, has_outside_stop}
+use Rattle.history_rules.specs.Marks.{HasMarks}
+use Rattle.history_rules.specs.Rounds.{IsDrained}
+use Rattle.history_rules.specs.State.{ReactorHalf}
 use Rattle.reactor_trait.specs.Reactor.{Outside, ReactorState}
 use Rattle.proactor_core.specs.Proactor.{Follows, IsSound, ProactorView, tells}
 use Rattle.strand_core.specs.Hands.{Held, held_at}

@@ -8,11 +8,11 @@ use Rattle.asio_types.specs.declared.outside.Point.{Point}
 use Rattle.asio_types.specs.declared.outside.Point.TheVariants as point
 use Rattle.session_script.specs.Script.{ScriptModel}
 use Rattle.session_script.specs.declared.round.Round.{Round}
-use Rattle.history_book.specs.FromOutside.{has_fault}
-use Rattle.history_book.specs.Legal.{MayHappen}
-use Rattle.history_book.specs.Rounds.{AllQuiet, RoundIsOpen, outstanding_work, runs, this_round}
-use Rattle.history_book.specs.State.{State}
-use Rattle.history_book.specs.Time.{pending_count}
+use Rattle.history_rules.specs.FromOutside.{has_fault}
+use Rattle.history_rules.specs.Legal.{MayHappen}
+use Rattle.history_rules.specs.Rounds.{AllQuiet, RoundIsOpen, outstanding_work, runs, this_round}
+use Rattle.history_rules.specs.State.{State}
+use Rattle.history_rules.specs.Time.{pending_count}
 use Rattle.strand_core.specs.Execution.{IsWholeExecution, events_of}
 use Rattle.strand_core.specs.declared.posted.Posted.{Posted}
 use Rattle.book_context.specs.declared.answer.BookTurn.{BookTurn}

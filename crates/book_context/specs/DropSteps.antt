@@ -4,9 +4,9 @@ use Rattle.std.specs.List.{range_with_len, slice_index_or}
 use Rattle.asio_types.specs.declared.event.Event.TheVariants as event
 use Rattle.session_script.specs.Script.{is_op}
 use Rattle.session_script.specs.Lanes.{is_inline}
-use Rattle.history_book.specs.Legal.{IsLegal, IsLegalSoFar}
-use Rattle.history_book.specs.Rounds.{IsOver, MayDrop, is_unspent}
-use Rattle.history_book.specs.State.{ContextState, State, phase_at}
+use Rattle.history_rules.specs.Legal.{IsLegal, IsLegalSoFar}
+use Rattle.history_rules.specs.Rounds.{IsOver, MayDrop, is_unspent}
+use Rattle.history_rules.specs.State.{ContextState, State, phase_at}
 use Rattle.book_context.specs.Recorded.{IsRecorded, is_spent_at, recorded_half, recorded_state}
 use Rattle.book_context.specs.Recording.{Recording, with_event}
 

@@ -5,11 +5,11 @@ use Rattle.asio_types.specs.declared.code.Code.{Code}
 use Rattle.session_script.specs.Script.{ScriptModel}
 use Rattle.session_script.specs.Lanes.{is_inline, lane_of}
 use Rattle.session_script.specs.WellFormed.{IsWellFormed}
-use Rattle.history_book.specs.declared.phase.ActPhase.TheVariants as phase
-use Rattle.history_book.specs.Executions.{MayBeginOutside}
-use Rattle.history_book.specs.Legal.{IsLegalFrom, state_from}
-use Rattle.history_book.specs.State.{ContextState, State, act_at}
-use Rattle.history_book.specs.Stopping.{spend}
+use Rattle.history_rules.specs.declared.phase.ActPhase.TheVariants as phase
+use Rattle.history_rules.specs.Executions.{MayBeginOutside}
+use Rattle.history_rules.specs.Legal.{IsLegalFrom, state_from}
+use Rattle.history_rules.specs.State.{ContextState, State, act_at}
+use Rattle.history_rules.specs.Stopping.{spend}
 use Rattle.strand_core.specs.declared.posted.Posted.{Posted}
 use Rattle.strand_core.specs.Execution.{AnyMark, IsWholeExecution, events_of}
 use Rattle.book_context.specs.Called.{IsBackSince, are_stopping, is_called}

@@ -1,14 +1,26 @@
 -- The end of a session: handlers that never ran are destroyed.
-use Rattle.std.specs.Prelude.{◌≡◌, ◌≤◌, ℕ, Bool, false, [], ◌∷◌}
+use Rattle.std.specs.Prelude.{◌≡◌, ◌≤◌, ℕ, Bool, true, false, List, [], ◌∷◌, ◌++◌}
+use Rattle.std.specs.List.{list_all}
+use Rattle.asio_types.specs.declared.event.Event.{Event}
 use Rattle.asio_types.specs.declared.event.Event.TheVariants as event
 use Rattle.op_handlers.specs.Marks.{Marks}
-use Rattle.history_book.specs.FromOutside.{has_outside_stop}
-use Rattle.history_book.specs.Marks.{HasMarks}
+use Rattle.history_rules.specs.FromOutside.{has_outside_stop}
+use Rattle.history_rules.specs.Marks.{HasMarks}
 use Rattle.strand_core.specs.Hands.{Held, held_at}
 use Rattle.book_context.specs.Book.{HoldsUnspent}
 use Rattle.book_context.specs.DropSteps.{IsDropping}
 use Rattle.book_context.specs.Recorded.{IsRecorded}
 use Rattle.book_context.specs.Recording.{Recording}
+
+abbrev pub is_drop : Event → Bool
+is_drop (event.Dropped op mark) = true
+is_drop _ = false
+
+-- a history goes on by drops alone, if at all
+pub record GoesOnByDrops (old new : List Event) : Type 0 where
+  pub drops : List Event
+  pub each : list_all is_drop drops ≡ true
+  pub is : new ≡ old ++ drops
 
 -- of a session that was over, the unspent handlers below a number are destroyed by now, and the
 -- others are held as then

@@ -6,9 +6,9 @@ use Rattle.asio_types.specs.declared.event.Event.TheVariants as event
 use Rattle.asio_types.specs.declared.outside.Point.{Point}
 use Rattle.op_handlers.specs.Marks.{Marks}
 use Rattle.session_script.specs.Script.{ScriptModel}
-use Rattle.history_book.specs.FromOutside.{has_fault}
-use Rattle.history_book.specs.Rounds.{outstanding_work}
-use Rattle.history_book.specs.State.{ReactorHalf}
+use Rattle.history_rules.specs.FromOutside.{has_fault}
+use Rattle.history_rules.specs.Rounds.{outstanding_work}
+use Rattle.history_rules.specs.State.{ReactorHalf}
 use Rattle.reactor_trait.specs.Reactor.{Outside, ReactorState}
 use Rattle.proactor_core.specs.Proactor.{ProactorView, after_point}
 use Rattle.strand_core.specs.Hands.{Held}

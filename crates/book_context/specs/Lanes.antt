@@ -3,11 +3,11 @@ use Rattle.std.specs.Prelude.{◌≡◌, ℕ, false, List, length}
 use Rattle.session_script.specs.Script.{ScriptModel}
 use Rattle.session_script.specs.Lanes.{lane_of}
 use Rattle.session_script.specs.WellFormed.{IsWellFormed}
-use Rattle.history_book.specs.declared.phase.Allowance.TheVariants as allowance
-use Rattle.history_book.specs.Requests.{turn_begun}
-use Rattle.history_book.specs.Rounds.{after_restart}
-use Rattle.history_book.specs.State.{ContextState, all_lanes}
-use Rattle.history_book.specs.Stopping.{MayStart}
+use Rattle.history_rules.specs.declared.phase.Allowance.TheVariants as allowance
+use Rattle.history_rules.specs.Requests.{turn_begun}
+use Rattle.history_rules.specs.Rounds.{after_restart}
+use Rattle.history_rules.specs.State.{ContextState, all_lanes}
+use Rattle.history_rules.specs.Stopping.{MayStart}
 use Rattle.strand_core.specs.declared.posted.Posted.{Posted}
 use Rattle.book_context.specs.Executed.{IsExecuted}
 use Rattle.book_context.specs.Opened.{IsOpened}

@@ -4,12 +4,12 @@ use Rattle.std.specs.Prelude.{◌≤◌, ℕ, ◌+◌, ◌*◌, ◌-◌, Bool, l
 use Rattle.std.specs.List.{range_with_len}
 use Rattle.session_script.specs.Script.{ScriptModel}
 use Rattle.stream_rules.specs.World.{times_after}
-use Rattle.history_book.specs.declared.phase.ActPhase.{ActPhase}
-use Rattle.history_book.specs.declared.phase.ActPhase.TheVariants as phase
-use Rattle.history_book.specs.declared.phase.CallPhase.{CallPhase}
-use Rattle.history_book.specs.declared.phase.CallPhase.TheVariants as call
-use Rattle.history_book.specs.Order.{was_taken}
-use Rattle.history_book.specs.State.{State, call_at, first_state, phase_at}
+use Rattle.history_rules.specs.declared.phase.ActPhase.{ActPhase}
+use Rattle.history_rules.specs.declared.phase.ActPhase.TheVariants as phase
+use Rattle.history_rules.specs.declared.phase.CallPhase.{CallPhase}
+use Rattle.history_rules.specs.declared.phase.CallPhase.TheVariants as call
+use Rattle.history_rules.specs.Order.{was_taken}
+use Rattle.history_rules.specs.State.{State, call_at, first_state, phase_at}
 
 -- an operation that is ready begins and ends; one that was taken is told before, and a request is
 -- taken before that. That a wait's expiry may take a tick is counted with the waits

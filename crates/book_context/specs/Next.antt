@@ -3,11 +3,11 @@ use Rattle.std.specs.Prelude.{ℕ, List, [], ◌∷◌}
 use Rattle.asio_types.specs.declared.code.Code.{Code}
 use Rattle.session_script.specs.Script.{ScriptModel}
 use Rattle.session_script.specs.Lanes.{lane_of}
-use Rattle.history_book.specs.Executions.{MayBeginOutside}
-use Rattle.history_book.specs.Requests.{MayTake, MayTurn}
-use Rattle.history_book.specs.Rounds.{AllQuiet, RoundIsOpen}
-use Rattle.history_book.specs.State.{State}
-use Rattle.history_book.specs.Stopping.{MayStart}
+use Rattle.history_rules.specs.Executions.{MayBeginOutside}
+use Rattle.history_rules.specs.Requests.{MayTake, MayTurn}
+use Rattle.history_rules.specs.Rounds.{AllQuiet, RoundIsOpen}
+use Rattle.history_rules.specs.State.{State}
+use Rattle.history_rules.specs.Stopping.{MayStart}
 use Rattle.book_context.specs.Order.{IsKept}
 
 -- in an open round the oldest ready operation may begin, if its lane may

@@ -3,9 +3,9 @@ use Rattle.std.specs.Prelude.{◌≡◌, ◌≤◌, ℕ, Bool, true, false, List
 use Rattle.asio_types.specs.Faults.{most_faults}
 use Rattle.session_script.specs.Script.{ScriptModel, opening_of}
 use Rattle.session_script.specs.WellFormed.{IsWellFormed}
-use Rattle.history_book.specs.declared.phase.Allowance.TheVariants as allowance
-use Rattle.history_book.specs.Legal.{IsLegalSoFar, state_of}
-use Rattle.history_book.specs.State.{ContextState, act_at, all_lanes, first_reactor, fresh}
+use Rattle.history_rules.specs.declared.phase.Allowance.TheVariants as allowance
+use Rattle.history_rules.specs.Legal.{IsLegalSoFar, state_of}
+use Rattle.history_rules.specs.State.{ContextState, act_at, all_lanes, first_reactor, fresh}
 use Rattle.strand_core.specs.declared.posted.Posted.{Posted}
 use Rattle.strand_core.specs.Execution.{AnyMark, AreCalls, events_of}
 use Rattle.book_context.specs.Called.{IsBackSince, are_stopping, is_called}

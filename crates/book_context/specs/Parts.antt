@@ -2,8 +2,8 @@
 use Rattle.std.specs.Prelude.{◌≡◌, Bool, List, ◌++◌}
 use Rattle.asio_types.specs.declared.event.Event.{Event}
 use Rattle.session_script.specs.Script.{ScriptModel}
-use Rattle.history_book.specs.Legal.{IsLegalFrom, IsLegalSoFar, state_from, state_of}
-use Rattle.history_book.specs.State.{State}
+use Rattle.history_rules.specs.Legal.{IsLegalFrom, IsLegalSoFar, state_from, state_of}
+use Rattle.history_rules.specs.State.{State}
 use Rattle.strand_core.specs.declared.posted.Posted.{Posted}
 use Rattle.strand_core.specs.Execution.{events_of}
 

@@ -3,14 +3,14 @@ use Rattle.std.specs.Prelude.{◌≡◌, ◌<◌, ◌≤◌, ℕ, Bool, true, fa
 use Rattle.std.specs.Option.{unwrap_or}
 use Rattle.asio_types.specs.declared.code.Code.{Code}
 use Rattle.session_script.specs.Script.{ScriptModel}
-use Rattle.history_book.specs.declared.phase.ActPhase.{ActPhase}
-use Rattle.history_book.specs.declared.phase.ActPhase.TheVariants as phase
-use Rattle.history_book.specs.declared.phase.CallPhase.{CallPhase}
-use Rattle.history_book.specs.declared.phase.CallPhase.TheVariants as call
-use Rattle.history_book.specs.declared.phase.Cause.TheVariants as cause
-use Rattle.history_book.specs.Executions.{IsReadyWith}
-use Rattle.history_book.specs.Order.{IsFirstOfLane, IsFirstRequest, called_at, is_untaken}
-use Rattle.history_book.specs.State.{ContextState, State, call_at, phase_at}
+use Rattle.history_rules.specs.declared.phase.ActPhase.{ActPhase}
+use Rattle.history_rules.specs.declared.phase.ActPhase.TheVariants as phase
+use Rattle.history_rules.specs.declared.phase.CallPhase.{CallPhase}
+use Rattle.history_rules.specs.declared.phase.CallPhase.TheVariants as call
+use Rattle.history_rules.specs.declared.phase.Cause.TheVariants as cause
+use Rattle.history_rules.specs.Executions.{IsReadyWith}
+use Rattle.history_rules.specs.Order.{IsFirstOfLane, IsFirstRequest, called_at, is_untaken}
+use Rattle.history_rules.specs.State.{ContextState, State, call_at, phase_at}
 
 abbrev pub is_ready : ActPhase → Bool
 is_ready (phase.Ready code size why) = true

@@ -5,9 +5,9 @@ use Rattle.std.specs.List.{slice_index_or}
 use Rattle.asio_types.specs.Faults.{most_faults}
 use Rattle.session_script.specs.Script.{opening_of}
 use Rattle.session_script.specs.WellFormed.{IsWellFormed}
-use Rattle.history_book.specs.Legal.{IsLegalSoFar, state_of}
-use Rattle.history_book.specs.State.{ReactorHalf, State, call_at, phase_at}
-use Rattle.history_book.specs.Turns.{AllAhead}
+use Rattle.history_rules.specs.Legal.{IsLegalSoFar, state_of}
+use Rattle.history_rules.specs.State.{ReactorHalf, State, call_at, phase_at}
+use Rattle.history_rules.specs.Bounds.{AllAhead}
 use Rattle.book_context.specs.Accounted.{IsAccounted}
 use Rattle.book_context.specs.Kinds.{AreOfKind, is_spent, was_called}
 use Rattle.book_context.specs.Lanes.{IsFreeUnlessStopped}

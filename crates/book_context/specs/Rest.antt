@@ -2,10 +2,10 @@
 use Rattle.std.specs.Prelude.{◌≡◌, ◌≤◌, Bool, true, false, All, length}
 use Rattle.asio_types.specs.Faults.{most_faults}
 use Rattle.session_script.specs.Script.{ScriptModel}
-use Rattle.history_book.specs.declared.phase.ActPhase.{ActPhase}
-use Rattle.history_book.specs.declared.phase.ActPhase.TheVariants as phase
-use Rattle.history_book.specs.Rounds.{NothingRuns, NoCallIsOpen}
-use Rattle.history_book.specs.State.{ContextState}
+use Rattle.history_rules.specs.declared.phase.ActPhase.{ActPhase}
+use Rattle.history_rules.specs.declared.phase.ActPhase.TheVariants as phase
+use Rattle.history_rules.specs.Rounds.{NothingRuns, NoCallIsOpen}
+use Rattle.history_rules.specs.State.{ContextState}
 
 -- a dispatch that is to execute inside its call
 abbrev pub waits_inside : ActPhase → Bool

@@ -1,8 +1,8 @@
 -- The rounds that a context records: how they close, restarts, and stops from outside.
 use Rattle.std.specs.Prelude.{◌≡◌, ◌<◌, ◌≤◌, ◌+◌, Bool, true, false, [], None, count_by, length, slice_get}
 use Rattle.asio_types.specs.declared.event.Event.TheVariants as event
-use Rattle.history_book.specs.Rounds.{IsDrained, is_held, outstanding_work, restarts, runs}
-use Rattle.history_book.specs.Time.{pending_count}
+use Rattle.history_rules.specs.Rounds.{IsDrained, is_held, outstanding_work, restarts, runs}
+use Rattle.history_rules.specs.Time.{pending_count}
 use Rattle.book_context.specs.Recorded.{IsRecorded, recorded_half, recorded_state}
 use Rattle.book_context.specs.Recording.{Recording, with_closing, with_outside_stop, with_restart}
 use Rattle.book_context.specs.Steps.{EventIsRecorded, IsRoundOpen}

@@ -1,8 +1,8 @@
 -- That the reactor has each pending operation to complete exactly once.
 use Rattle.std.specs.Prelude.{◌≡◌, ℕ, ◌+◌, ◌==◌, Bool, count_by, sum_by, if◌then◌else◌}
 use Rattle.stream_rules.specs.declared.queue.Completion.{Completion}
-use Rattle.history_book.specs.Performing.{is_of, is_wait_for}
-use Rattle.history_book.specs.State.{ReactorHalf, State, StreamQueues}
+use Rattle.history_rules.specs.Performing.{is_of, is_wait_for}
+use Rattle.history_rules.specs.State.{ReactorHalf, State, StreamQueues}
 use Rattle.book_context.specs.Work.{is_pending}
 
 abbrev pub is_completion_of : ℕ → Completion → Bool

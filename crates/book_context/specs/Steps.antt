@@ -5,10 +5,10 @@ use Rattle.asio_types.specs.declared.event.Event.{Event}
 use Rattle.session_script.specs.Script.{ScriptModel, is_op, opening_of}
 use Rattle.session_script.specs.Lanes.{is_inline}
 use Rattle.session_script.specs.WellFormed.{IsWellFormed}
-use Rattle.history_book.specs.Executions.{MayBeginOutside}
-use Rattle.history_book.specs.Legal.{MayHappen, after_event, state_from}
-use Rattle.history_book.specs.Rounds.{RoundIsOpen, restarts}
-use Rattle.history_book.specs.State.{first_reactor}
+use Rattle.history_rules.specs.Executions.{MayBeginOutside}
+use Rattle.history_rules.specs.Legal.{MayHappen, after_event, state_from}
+use Rattle.history_rules.specs.Rounds.{RoundIsOpen, restarts}
+use Rattle.history_rules.specs.State.{first_reactor}
 use Rattle.strand_core.specs.declared.posted.Posted.{Posted}
 use Rattle.strand_core.specs.Execution.{AnyMark, AreCalls, IsWholeExecution, events_of}
 use Rattle.strand_core.specs.Hands.{IsInlineOf, begins_among}

@@ -4,12 +4,12 @@ use Rattle.asio_types.specs.declared.code.Code.{Code}
 use Rattle.asio_types.specs.declared.event.Event.{Event}
 use Rattle.asio_types.specs.declared.event.Event.TheVariants as event
 use Rattle.asio_types.specs.declared.outside.Point.TheVariants as point
-use Rattle.history_book.specs.declared.phase.ActPhase.TheVariants as phase
-use Rattle.history_book.specs.Order.{was_taken}
-use Rattle.history_book.specs.Requests.{MayTell}
-use Rattle.history_book.specs.Rounds.{IsDrained, runs}
-use Rattle.history_book.specs.State.{phase_at}
-use Rattle.history_book.specs.Time.{next_time, pending_count}
+use Rattle.history_rules.specs.declared.phase.ActPhase.TheVariants as phase
+use Rattle.history_rules.specs.Order.{was_taken}
+use Rattle.history_rules.specs.Requests.{MayTell}
+use Rattle.history_rules.specs.Rounds.{IsDrained, runs}
+use Rattle.history_rules.specs.State.{phase_at}
+use Rattle.history_rules.specs.Time.{next_time, pending_count}
 use Rattle.book_context.specs.Recorded.{IsRecorded, recorded_half, recorded_state}
 use Rattle.book_context.specs.Recording.{Recording, with_done, with_event, with_fault}
 use Rattle.book_context.specs.Steps.{EventIsRecorded, IsRoundOpen}

@@ -6,10 +6,10 @@ use Rattle.asio_types.specs.declared.code.Code.{Code}
 use Rattle.asio_types.specs.declared.event.Event.TheVariants as event
 use Rattle.session_script.specs.Script.{ScriptModel}
 use Rattle.session_script.specs.WellFormed.{IsWellFormed}
-use Rattle.history_book.specs.declared.phase.ActPhase.TheVariants as phase
-use Rattle.history_book.specs.Legal.{after_event}
-use Rattle.history_book.specs.Order.{was_taken}
-use Rattle.history_book.specs.State.{State, phase_at}
+use Rattle.history_rules.specs.declared.phase.ActPhase.TheVariants as phase
+use Rattle.history_rules.specs.Legal.{after_event}
+use Rattle.history_rules.specs.Order.{was_taken}
+use Rattle.history_rules.specs.State.{State, phase_at}
 use Rattle.book_context.specs.Order.{IsKept}
 
 -- when the oldest request is taken, the others wait as before

@@ -3,11 +3,11 @@ use Rattle.std.specs.Prelude.{◌≡◌, ℕ, ◌+◌, Bool, true, false, ◌&&�
 use Rattle.std.specs.List.{range_with_len}
 use Rattle.asio_types.specs.declared.code.Code.{Code}
 use Rattle.session_script.specs.Script.{ScriptModel}
-use Rattle.history_book.specs.declared.phase.ActPhase.{ActPhase}
-use Rattle.history_book.specs.declared.phase.ActPhase.TheVariants as phase
-use Rattle.history_book.specs.Order.{was_taken}
-use Rattle.history_book.specs.Rounds.{is_held, outstanding_work}
-use Rattle.history_book.specs.State.{State, phase_at}
+use Rattle.history_rules.specs.declared.phase.ActPhase.{ActPhase}
+use Rattle.history_rules.specs.declared.phase.ActPhase.TheVariants as phase
+use Rattle.history_rules.specs.Order.{was_taken}
+use Rattle.history_rules.specs.Rounds.{is_held, outstanding_work}
+use Rattle.history_rules.specs.State.{State, phase_at}
 use Rattle.book_context.specs.Order.{IsKept}
 
 abbrev pub is_requested : ActPhase → Bool

@@ -1,5 +1,5 @@
 ghost use Rattle.std.specs.Prelude.{◌≡◌};
-ghost use Rattle.history_book.specs.Rounds.{runs};
+ghost use Rattle.history_rules.specs.Rounds.{runs};
 ghost use Rattle.book_context.specs.BookSteps.{are_closed, is_round_open, open_round, wants_restart};
 
 use crate::record::Record;

@@ -10,14 +10,14 @@ use Rattle.asio_types.specs.declared.code.Code.TheVariants as code
 use Rattle.asio_types.specs.declared.event.Event.{Event}
 use Rattle.asio_types.specs.declared.event.Event.TheVariants as event
 use Rattle.session_script.specs.Script.{Entry, branch_of}
-use Rattle.history_book.specs.Calls.{has_ended}
-use Rattle.history_book.specs.Executions.{has_finished}
-use Rattle.history_book.specs.State.{no_progress}
-use Rattle.history_book.specs.declared.phase.ActPhase.{ActPhase}
-use Rattle.history_book.specs.declared.phase.ActPhase.TheVariants as phase
-use Rattle.history_book.specs.declared.phase.ActState.{ActState}
-use Rattle.history_book.specs.declared.phase.Cause.{Cause}
-use Rattle.history_book.specs.declared.phase.Progress.{Progress}
+use Rattle.history_rules.specs.Calls.{has_ended}
+use Rattle.history_rules.specs.Executions.{has_finished}
+use Rattle.history_rules.specs.State.{no_progress}
+use Rattle.history_rules.specs.declared.phase.ActPhase.{ActPhase}
+use Rattle.history_rules.specs.declared.phase.ActPhase.TheVariants as phase
+use Rattle.history_rules.specs.declared.phase.ActState.{ActState}
+use Rattle.history_rules.specs.declared.phase.Cause.{Cause}
+use Rattle.history_rules.specs.declared.phase.Progress.{Progress}
 use Rattle.generated_session.specs.Generator.{session_of}
 use Rattle.generated_session.specs.Summary.{is_call}
 use Rattle.generated_session.proofs.FitLemmas.{fits, has_made, inside_runs, is_born, is_called, posting_runs_ok, ready_runs, requested_completes, running_ends}

@@ -13,19 +13,19 @@ use Rattle.asio_types.specs.declared.event.Event.TheVariants as event
 use Rattle.session_script.specs.declared.act.Act.{Act}
 use Rattle.session_script.specs.Lanes.{is_inline}
 use Rattle.session_script.specs.Script.{branch_of, Entry, is_operation, opening_of, same_class}
-use Rattle.history_book.specs.Calls.{accepted, Body, body_at, has_ended, is_call_done, is_made, IsNextOf, progressed, returned, running_body, stepped}
-use Rattle.history_book.specs.Kinds.{is_act, is_control, is_posting}
-use Rattle.history_book.specs.Order.{is_request}
-use Rattle.history_book.specs.State.{ContextState, fresh}
-use Rattle.history_book.specs.declared.phase.ActPhase.{ActPhase}
-use Rattle.history_book.specs.declared.phase.ActPhase.TheVariants as phase
-use Rattle.history_book.specs.declared.phase.ActState.{ActState}
-use Rattle.history_book.specs.declared.phase.CallPhase.{CallPhase}
-use Rattle.history_book.specs.declared.phase.CallPhase.TheVariants as call
-use Rattle.history_book.specs.declared.phase.Cause.TheVariants as cause
-use Rattle.history_book.specs.declared.phase.Progress.{Progress}
-use Rattle.history_book.specs.declared.phase.Step.TheVariants as step
-use Rattle.history_book.specs.State.{ReactorHalf}
+use Rattle.history_rules.specs.Calls.{accepted, Body, body_at, has_ended, is_call_done, is_made, IsNextOf, progressed, returned, running_body, stepped}
+use Rattle.history_rules.specs.Kinds.{is_act, is_control, is_posting}
+use Rattle.history_rules.specs.Order.{is_request}
+use Rattle.history_rules.specs.State.{ContextState, fresh}
+use Rattle.history_rules.specs.declared.phase.ActPhase.{ActPhase}
+use Rattle.history_rules.specs.declared.phase.ActPhase.TheVariants as phase
+use Rattle.history_rules.specs.declared.phase.ActState.{ActState}
+use Rattle.history_rules.specs.declared.phase.CallPhase.{CallPhase}
+use Rattle.history_rules.specs.declared.phase.CallPhase.TheVariants as call
+use Rattle.history_rules.specs.declared.phase.Cause.TheVariants as cause
+use Rattle.history_rules.specs.declared.phase.Progress.{Progress}
+use Rattle.history_rules.specs.declared.phase.Step.TheVariants as step
+use Rattle.history_rules.specs.State.{ReactorHalf}
 use Rattle.generated_session.specs.Generator.{session_of}
 use Rattle.generated_session.proofs.FitLemmas.{fits, has_made, is_back, is_born, is_called, posting_accepted, posting_never_requested, runs_on, test_in, uncalled_absent}
 use Rattle.generated_session.proofs.GatherLemmas.{one_if}

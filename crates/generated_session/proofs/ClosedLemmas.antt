@@ -9,16 +9,16 @@ use Rattle.std.proofs.lemmas.List.Sums.{sum_by-cons}
 use Rattle.asio_types.specs.declared.event.Event.{Event}
 use Rattle.asio_types.specs.declared.event.Event.TheVariants as event
 use Rattle.session_script.specs.Script.{Entry, Place, is_stop, opening_of}
-use Rattle.history_book.specs.FromOutside.{is_fault, is_outside_stop}
-use Rattle.history_book.specs.Calls.{IsNextOf, body_at, limited, progressed, returned, with_progress}
-use Rattle.history_book.specs.Kinds.{is_act}
-use Rattle.history_book.specs.Legal.{IsLegalFrom, MayHappen, after_event}
-use Rattle.history_book.specs.Rounds.{HasRoundLeft, is_unspent}
-use Rattle.history_book.specs.State.{ContextState, State, fresh, with_call}
-use Rattle.history_book.specs.declared.phase.ActPhase.{ActPhase}
-use Rattle.history_book.specs.declared.phase.ActPhase.TheVariants as phase
-use Rattle.history_book.specs.declared.phase.ActState.{ActState}
-use Rattle.history_book.specs.declared.phase.Step.TheVariants as step
+use Rattle.history_rules.specs.FromOutside.{is_fault, is_outside_stop}
+use Rattle.history_rules.specs.Calls.{IsNextOf, body_at, limited, progressed, returned, with_progress}
+use Rattle.history_rules.specs.Kinds.{is_act}
+use Rattle.history_rules.specs.Legal.{IsLegalFrom, MayHappen, after_event}
+use Rattle.history_rules.specs.Rounds.{HasRoundLeft, is_unspent}
+use Rattle.history_rules.specs.State.{ContextState, State, fresh, with_call}
+use Rattle.history_rules.specs.declared.phase.ActPhase.{ActPhase}
+use Rattle.history_rules.specs.declared.phase.ActPhase.TheVariants as phase
+use Rattle.history_rules.specs.declared.phase.ActState.{ActState}
+use Rattle.history_rules.specs.declared.phase.Step.TheVariants as step
 use Rattle.generated_session.specs.Generator.{session_of}
 use Rattle.generated_session.specs.Summary.{closing_from, is_abort, is_call, is_drop, time_from}
 use Rattle.generated_session.specs.declared.tally.Closing.TheVariants as closing

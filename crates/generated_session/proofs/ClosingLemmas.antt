@@ -10,15 +10,15 @@ use Rattle.asio_types.specs.declared.event.Event.TheVariants as event
 use Rattle.session_script.specs.declared.act.Act.{Act}
 use Rattle.session_script.specs.Script.{Entry, Place}
 use Rattle.stream_rules.specs.declared.queue.Completion.{Completion}
-use Rattle.history_book.specs.Calls.{has_ended}
-use Rattle.history_book.specs.Legal.{after_event}
-use Rattle.history_book.specs.Order.{is_request, was_taken}
-use Rattle.history_book.specs.Rounds.{MayEndRound, is_act_outstanding, is_outstanding, is_unspent}
-use Rattle.history_book.specs.State.{State, fresh}
-use Rattle.history_book.specs.declared.phase.ActPhase.{ActPhase}
-use Rattle.history_book.specs.declared.phase.ActPhase.TheVariants as phase
-use Rattle.history_book.specs.declared.phase.ActState.{ActState}
-use Rattle.history_book.specs.declared.waiting.Wait.{Wait}
+use Rattle.history_rules.specs.Calls.{has_ended}
+use Rattle.history_rules.specs.Legal.{after_event}
+use Rattle.history_rules.specs.Order.{is_request, was_taken}
+use Rattle.history_rules.specs.Rounds.{MayEndRound, is_act_outstanding, is_outstanding, is_unspent}
+use Rattle.history_rules.specs.State.{State, fresh}
+use Rattle.history_rules.specs.declared.phase.ActPhase.{ActPhase}
+use Rattle.history_rules.specs.declared.phase.ActPhase.TheVariants as phase
+use Rattle.history_rules.specs.declared.phase.ActState.{ActState}
+use Rattle.history_rules.specs.declared.wait.Wait.{Wait}
 use Rattle.generated_session.specs.Generator.{session_of}
 use Rattle.generated_session.proofs.ClosedLemmas.{Closed}
 use Rattle.generated_session.proofs.FitLemmas.{back_called, has_made, is_called, is_requested, operates, spent_ended}

@@ -8,11 +8,11 @@ use Rattle.asio_types.specs.declared.event.Event.TheVariants as event
 use Rattle.session_script.specs.declared.act.Act.{Act}
 use Rattle.session_script.specs.Script.{Entry, ScriptModel, act_of}
 use Rattle.stream_rules.specs.declared.queue.Completion.{Completion}
-use Rattle.history_book.specs.Order.{is_request, was_taken}
-use Rattle.history_book.specs.Requests.{MayTell, disconnected, reactor_after_done, slot_in, told_off}
-use Rattle.history_book.specs.State.{ReactorHalf}
-use Rattle.history_book.specs.Untold.{IsToldAs, MayGiveUntold}
-use Rattle.history_book.specs.declared.phase.ActState.{ActState}
+use Rattle.history_rules.specs.Order.{is_request, was_taken}
+use Rattle.history_rules.specs.Requests.{MayTell, disconnected, reactor_after_done, slot_in, told_off}
+use Rattle.history_rules.specs.State.{ReactorHalf}
+use Rattle.history_rules.specs.Untold.{IsToldAs, MayGiveUntold}
+use Rattle.history_rules.specs.declared.phase.ActState.{ActState}
 use Rattle.generated_session.specs.Summary.{is_abort}
 use Rattle.generated_session.proofs.FitLemmas.{is_requested}
 use Rattle.generated_session.proofs.GatherLemmas.{one_if}

@@ -10,17 +10,17 @@ use Rattle.session_script.specs.declared.act.Act.{Act}
 use Rattle.session_script.specs.declared.act.Act.TheVariants as act
 use Rattle.session_script.specs.Lanes.{is_inline}
 use Rattle.session_script.specs.Script.{Entry, act_of, is_operation, is_stop}
-use Rattle.history_book.specs.Calls.{accepted, has_ended}
-use Rattle.history_book.specs.Kinds.{is_act, is_control, is_posting}
-use Rattle.history_book.specs.Order.{is_request}
-use Rattle.history_book.specs.Rounds.{is_unspent}
-use Rattle.history_book.specs.declared.phase.ActPhase.{ActPhase}
-use Rattle.history_book.specs.declared.phase.ActPhase.TheVariants as phase
-use Rattle.history_book.specs.declared.phase.CallPhase.{CallPhase}
-use Rattle.history_book.specs.declared.phase.CallPhase.TheVariants as call
-use Rattle.history_book.specs.declared.phase.Cause.{Cause}
-use Rattle.history_book.specs.declared.phase.Cause.TheVariants as cause
-use Rattle.history_book.specs.declared.phase.Progress.{Progress}
+use Rattle.history_rules.specs.Calls.{accepted, has_ended}
+use Rattle.history_rules.specs.Kinds.{is_act, is_control, is_posting}
+use Rattle.history_rules.specs.Order.{is_request}
+use Rattle.history_rules.specs.Rounds.{is_unspent}
+use Rattle.history_rules.specs.declared.phase.ActPhase.{ActPhase}
+use Rattle.history_rules.specs.declared.phase.ActPhase.TheVariants as phase
+use Rattle.history_rules.specs.declared.phase.CallPhase.{CallPhase}
+use Rattle.history_rules.specs.declared.phase.CallPhase.TheVariants as call
+use Rattle.history_rules.specs.declared.phase.Cause.{Cause}
+use Rattle.history_rules.specs.declared.phase.Cause.TheVariants as cause
+use Rattle.history_rules.specs.declared.phase.Progress.{Progress}
 use Rattle.generated_session.specs.Generator.{session_of}
 use Rattle.generated_session.proofs.ItemsLemmas.{absent, asks_in, dispatch, dispatches, expires, IsKnown, IsPosting, nth_act, nth_place, post, posts, waits}
 

@@ -3,7 +3,7 @@ use Rattle.std.proofs.Common.{◌≡◌, ◌≢◌, ℕ, zero, suc, ◌+◌, ◌
 use Rattle.std.specs.List.{All}
 use Rattle.std.proofs.lemmas.Bool.{cases_eq}
 use Rattle.std.proofs.lemmas.List.Elements.{All-head, All-tail}
-use Rattle.history_book.specs.Settling.{put_by, sorted_by}
+use Rattle.history_rules.specs.Settling.{put_by, sorted_by}
 
 abbrev pub one_if : Bool → ℕ
 one_if b = cond b 1 0

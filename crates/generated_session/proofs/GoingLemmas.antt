@@ -4,8 +4,8 @@ use Rattle.std.proofs.Common.{◌≡◌, ℕ, ◌+◌, false, cond, List, length
 use Rattle.asio_types.specs.declared.event.Event.{Event}
 use Rattle.asio_types.specs.declared.event.Event.TheVariants as event
 use Rattle.session_script.specs.Script.{Entry, opening_of}
-use Rattle.history_book.specs.State.{ReactorHalf, State}
-use Rattle.history_book.specs.declared.phase.ActState.{ActState}
+use Rattle.history_rules.specs.State.{ReactorHalf, State}
+use Rattle.history_rules.specs.declared.phase.ActState.{ActState}
 use Rattle.generated_session.specs.Generator.{session_of}
 use Rattle.generated_session.specs.Summary.{is_abort, is_call, is_drop, time_after}
 use Rattle.generated_session.proofs.StatesLemmas.{ActsFit, called_count, ended_sum}

@@ -7,13 +7,13 @@ use Rattle.asio_types.specs.declared.code.Class.{Class}
 use Rattle.asio_types.specs.declared.event.Event.{Event}
 use Rattle.asio_types.specs.declared.event.Event.TheVariants as event
 use Rattle.session_script.specs.Script.{Entry, is_operation, opening_of}
-use Rattle.history_book.specs.FromOutside.{is_fault, is_outside_stop}
-use Rattle.history_book.specs.Calls.{accepted}
-use Rattle.history_book.specs.Kinds.{is_control, is_posting}
-use Rattle.history_book.specs.Legal.{IsLegalFrom, IsWhole, MayHappen, after_event, state_from}
-use Rattle.history_book.specs.Order.{is_request, was_taken}
-use Rattle.history_book.specs.State.{ReactorHalf, State, first_reactor, first_state, fresh}
-use Rattle.history_book.specs.declared.phase.ActState.{ActState}
+use Rattle.history_rules.specs.FromOutside.{is_fault, is_outside_stop}
+use Rattle.history_rules.specs.Calls.{accepted}
+use Rattle.history_rules.specs.Kinds.{is_control, is_posting}
+use Rattle.history_rules.specs.Legal.{IsLegalFrom, IsWhole, MayHappen, after_event, state_from}
+use Rattle.history_rules.specs.Order.{is_request, was_taken}
+use Rattle.history_rules.specs.State.{ReactorHalf, State, first_reactor, first_state, fresh}
+use Rattle.history_rules.specs.declared.phase.ActState.{ActState}
 use Rattle.generated_session.specs.Generator.{session_of}
 use Rattle.generated_session.proofs.ClosedLemmas.{or_parts}
 use Rattle.generated_session.proofs.FitLemmas.{accepted_by, back_called, fits, fits_fresh, has_made, is_called, is_requested, opened_accepted, opened_is, test_in}

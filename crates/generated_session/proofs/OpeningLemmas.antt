@@ -8,16 +8,16 @@ use Rattle.asio_types.specs.declared.event.Event.{Event}
 use Rattle.asio_types.specs.declared.event.Event.TheVariants as event
 use Rattle.session_script.specs.Lanes.{is_inline}
 use Rattle.session_script.specs.Script.{Entry, Place, is_operation, is_stop, opening_of}
-use Rattle.history_book.specs.FromOutside.{is_fault, is_outside_stop}
-use Rattle.history_book.specs.Calls.{IsNextOf, accepted, body_at, is_made}
-use Rattle.history_book.specs.Kinds.{is_act, is_control, is_posting}
-use Rattle.history_book.specs.Legal.{MayHappen}
-use Rattle.history_book.specs.Order.{called_at, is_back_before}
-use Rattle.history_book.specs.Rounds.{HasRoundLeft}
-use Rattle.history_book.specs.State.{ReactorHalf, State, first_reactor, fresh}
-use Rattle.history_book.specs.declared.phase.ActPhase.{ActPhase}
-use Rattle.history_book.specs.declared.phase.ActPhase.TheVariants as phase
-use Rattle.history_book.specs.declared.phase.ActState.{ActState}
+use Rattle.history_rules.specs.FromOutside.{is_fault, is_outside_stop}
+use Rattle.history_rules.specs.Calls.{IsNextOf, accepted, body_at, is_made}
+use Rattle.history_rules.specs.Kinds.{is_act, is_control, is_posting}
+use Rattle.history_rules.specs.Legal.{MayHappen}
+use Rattle.history_rules.specs.Order.{called_at, is_back_before}
+use Rattle.history_rules.specs.Rounds.{HasRoundLeft}
+use Rattle.history_rules.specs.State.{ReactorHalf, State, first_reactor, fresh}
+use Rattle.history_rules.specs.declared.phase.ActPhase.{ActPhase}
+use Rattle.history_rules.specs.declared.phase.ActPhase.TheVariants as phase
+use Rattle.history_rules.specs.declared.phase.ActState.{ActState}
 use Rattle.generated_session.specs.Generator.{session_of}
 use Rattle.generated_session.proofs.ActEventsLemmas.{finished}
 use Rattle.generated_session.proofs.CallEventsLemmas.{caller_of, made_by_test, opening_next}

@@ -7,16 +7,16 @@ use Rattle.asio_types.specs.Faults.{one_more}
 use Rattle.asio_types.specs.declared.event.Event.{Event}
 use Rattle.asio_types.specs.declared.event.Event.TheVariants as event
 use Rattle.session_script.specs.Script.{Entry, Place, is_stop, opening_of}
-use Rattle.history_book.specs.FromOutside.{is_fault, is_outside_stop}
-use Rattle.history_book.specs.Calls.{accepted, has_ended, is_made, limited, returned, with_progress}
-use Rattle.history_book.specs.Kinds.{is_act}
-use Rattle.history_book.specs.Legal.{MayHappen, after_event}
-use Rattle.history_book.specs.Order.{called_at, is_back_before}
-use Rattle.history_book.specs.State.{ContextState, State, fresh, with_call}
-use Rattle.history_book.specs.declared.phase.ActState.{ActState}
-use Rattle.history_book.specs.declared.phase.CallPhase.{CallPhase}
-use Rattle.history_book.specs.declared.phase.CallPhase.TheVariants as call
-use Rattle.history_book.specs.declared.phase.Step.TheVariants as step
+use Rattle.history_rules.specs.FromOutside.{is_fault, is_outside_stop}
+use Rattle.history_rules.specs.Calls.{accepted, has_ended, is_made, limited, returned, with_progress}
+use Rattle.history_rules.specs.Kinds.{is_act}
+use Rattle.history_rules.specs.Legal.{MayHappen, after_event}
+use Rattle.history_rules.specs.Order.{called_at, is_back_before}
+use Rattle.history_rules.specs.State.{ContextState, State, fresh, with_call}
+use Rattle.history_rules.specs.declared.phase.ActState.{ActState}
+use Rattle.history_rules.specs.declared.phase.CallPhase.{CallPhase}
+use Rattle.history_rules.specs.declared.phase.CallPhase.TheVariants as call
+use Rattle.history_rules.specs.declared.phase.Step.TheVariants as step
 use Rattle.generated_session.specs.Generator.{session_of}
 use Rattle.generated_session.proofs.CallEventsLemmas.{accepted_runs, made_not_back}
 use Rattle.generated_session.proofs.FitLemmas.{is_act-in, is_back, is_called, never_stops}

@@ -6,10 +6,10 @@ use Rattle.std.proofs.lemmas.List.Sums.{sum_by-cons}
 use Rattle.asio_types.specs.declared.event.Event.{Event}
 use Rattle.asio_types.specs.declared.event.Event.TheVariants as event
 use Rattle.session_script.specs.Script.{Entry}
-use Rattle.history_book.specs.FromOutside.{is_fault, is_outside_stop}
-use Rattle.history_book.specs.Legal.{IsLegalFrom, IsWhole, MayHappen, after_event, state_from}
-use Rattle.history_book.specs.State.{ReactorHalf, State}
-use Rattle.history_book.specs.declared.phase.ActState.{ActState}
+use Rattle.history_rules.specs.FromOutside.{is_fault, is_outside_stop}
+use Rattle.history_rules.specs.Legal.{IsLegalFrom, IsWhole, MayHappen, after_event, state_from}
+use Rattle.history_rules.specs.State.{ReactorHalf, State}
+use Rattle.history_rules.specs.declared.phase.ActState.{ActState}
 use Rattle.generated_session.specs.Generator.{session_of}
 use Rattle.generated_session.specs.Summary.{closing_from, closing_after, is_abort, is_call, is_drop, time_after, time_from}
 use Rattle.generated_session.specs.declared.tally.Closing.{Closing}

@@ -6,12 +6,12 @@ use Rattle.std.proofs.lemmas.List.Sums.{sum_by-cons}
 use Rattle.asio_types.specs.declared.event.Event.{Event}
 use Rattle.asio_types.specs.declared.event.Event.TheVariants as event
 use Rattle.session_script.specs.Script.{Entry, is_operation, opening_of}
-use Rattle.history_book.specs.FromOutside.{is_fault, is_outside_stop}
-use Rattle.history_book.specs.Calls.{has_ended}
-use Rattle.history_book.specs.Legal.{IsLegal}
-use Rattle.history_book.specs.Marks.{HasMarks, ShowsMark}
-use Rattle.history_book.specs.State.{first_reactor, first_state, fresh}
-use Rattle.history_book.specs.declared.phase.ActState.{ActState}
+use Rattle.history_rules.specs.FromOutside.{is_fault, is_outside_stop}
+use Rattle.history_rules.specs.Calls.{has_ended}
+use Rattle.history_rules.specs.Legal.{IsLegal}
+use Rattle.history_rules.specs.Marks.{HasMarks, ShowsMark}
+use Rattle.history_rules.specs.State.{first_reactor, first_state, fresh}
+use Rattle.history_rules.specs.declared.phase.ActState.{ActState}
 use Rattle.generated_session.specs.Generator.{acts_from, generated, most_size, session_of}
 use Rattle.generated_session.specs.PlainSummary.{plain_aborted, plain_marks, plain_summary, plain_tally, plain_time}
 use Rattle.generated_session.specs.Summary.{SummaryTally, is_abort, is_call, is_end, lines_of, run_mark, summary_of, tally_of, text_of_line, time_from}

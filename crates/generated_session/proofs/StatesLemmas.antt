@@ -8,10 +8,10 @@ use Rattle.std.proofs.lemmas.Option.{slice_get-get_or, slice_get_within}
 use Rattle.asio_types.specs.declared.code.Class.{Class}
 use Rattle.session_script.specs.declared.act.Act.TheVariants as act
 use Rattle.session_script.specs.Script.{Entry, Place, same_place}
-use Rattle.history_book.specs.Calls.{has_ended}
-use Rattle.history_book.specs.Order.{called_at, is_back_before}
-use Rattle.history_book.specs.State.{fresh}
-use Rattle.history_book.specs.declared.phase.ActState.{ActState}
+use Rattle.history_rules.specs.Calls.{has_ended}
+use Rattle.history_rules.specs.Order.{called_at, is_back_before}
+use Rattle.history_rules.specs.State.{fresh}
+use Rattle.history_rules.specs.declared.phase.ActState.{ActState}
 use Rattle.generated_session.specs.Generator.{opened}
 use Rattle.generated_session.proofs.FitLemmas.{fits, has_made, is_back, is_born, is_called}
 use Rattle.generated_session.proofs.GatherLemmas.{total, total-changed}

@@ -9,23 +9,23 @@ use Rattle.asio_types.specs.declared.event.Event.{Event}
 use Rattle.asio_types.specs.declared.event.Event.TheVariants as event
 use Rattle.session_script.specs.Lanes.{is_inline, lane_of}
 use Rattle.session_script.specs.Script.{Entry, Place, is_stop, parent_of}
-use Rattle.history_book.specs.FromOutside.{is_fault, is_outside_stop}
-use Rattle.history_book.specs.Calls.{IsNextOf, accepted, body_at, is_made, limited, progressed, returned, with_progress}
-use Rattle.history_book.specs.Executions.{MayBegin, MayEnd, begun}
-use Rattle.history_book.specs.Kinds.{is_act}
-use Rattle.history_book.specs.Legal.{MayHappen, after_event}
-use Rattle.history_book.specs.Order.{is_request}
-use Rattle.history_book.specs.Requests.{MayComplete}
-use Rattle.history_book.specs.Rounds.{restarts, runs}
-use Rattle.history_book.specs.State.{ContextState, State, no_progress, with_call}
-use Rattle.history_book.specs.Stopping.{spend}
-use Rattle.history_book.specs.declared.phase.ActPhase.{ActPhase}
-use Rattle.history_book.specs.declared.phase.ActPhase.TheVariants as phase
-use Rattle.history_book.specs.declared.phase.ActState.{ActState}
-use Rattle.history_book.specs.declared.phase.CallPhase.TheVariants as call
-use Rattle.history_book.specs.declared.phase.Cause.{Cause}
-use Rattle.history_book.specs.declared.phase.Cause.TheVariants as cause
-use Rattle.history_book.specs.declared.phase.Step.TheVariants as step
+use Rattle.history_rules.specs.FromOutside.{is_fault, is_outside_stop}
+use Rattle.history_rules.specs.Calls.{IsNextOf, accepted, body_at, is_made, limited, progressed, returned, with_progress}
+use Rattle.history_rules.specs.Executions.{MayBegin, MayEnd, begun}
+use Rattle.history_rules.specs.Kinds.{is_act}
+use Rattle.history_rules.specs.Legal.{MayHappen, after_event}
+use Rattle.history_rules.specs.Order.{is_request}
+use Rattle.history_rules.specs.Requests.{MayComplete}
+use Rattle.history_rules.specs.Rounds.{restarts, runs}
+use Rattle.history_rules.specs.State.{ContextState, State, no_progress, with_call}
+use Rattle.history_rules.specs.Stopping.{spend}
+use Rattle.history_rules.specs.declared.phase.ActPhase.{ActPhase}
+use Rattle.history_rules.specs.declared.phase.ActPhase.TheVariants as phase
+use Rattle.history_rules.specs.declared.phase.ActState.{ActState}
+use Rattle.history_rules.specs.declared.phase.CallPhase.TheVariants as call
+use Rattle.history_rules.specs.declared.phase.Cause.{Cause}
+use Rattle.history_rules.specs.declared.phase.Cause.TheVariants as cause
+use Rattle.history_rules.specs.declared.phase.Step.TheVariants as step
 use Rattle.generated_session.specs.Generator.{one_run, session_of}
 use Rattle.generated_session.proofs.ActEventsLemmas.{begin_inside_step, begin_step, changed_phase, done_step, end_step, finished, phased}
 use Rattle.generated_session.proofs.CallEventsLemmas.{back_changes, back_size, back_states, back_step, call_step, call_turns, called_states, caller_of, made_by_test, made_not_back, opening_over, progress_ended, progress_fits, progress_made, progress_requests}

@@ -8,10 +8,10 @@ use Rattle.std.proofs.lemmas.List.Elements.{All-filter, filter_passes}
 use Rattle.session_script.specs.declared.act.Act.{Act}
 use Rattle.session_script.specs.declared.act.Act.TheVariants as act
 use Rattle.stream_rules.specs.declared.queue.Completion.{Completion}
-use Rattle.history_book.specs.Performing.{aborted, expiry_set, is_wait_of, wait_accepted, with_taken}
-use Rattle.history_book.specs.Settling.{expiry_of, is_due}
-use Rattle.history_book.specs.State.{ReactorHalf}
-use Rattle.history_book.specs.declared.waiting.Wait.{Wait}
+use Rattle.history_rules.specs.Performing.{aborted, expiry_set, is_wait_of, wait_accepted, with_taken}
+use Rattle.history_rules.specs.Settling.{expiry_of, is_due}
+use Rattle.history_rules.specs.State.{ReactorHalf}
+use Rattle.history_rules.specs.declared.wait.Wait.{Wait}
 use Rattle.generated_session.proofs.FutureLemmas.{is_renewed, to_abort, to_last}
 use Rattle.generated_session.proofs.GatherLemmas.{all_any, all_both, all_by, gather, gather-append, gather-kept, gather-map, gather-same, gather-split, most, mosts, one_if, plus, sums}
 use Rattle.generated_session.proofs.TurnsLemmas.{AreAhead, TakenTo, cut_by, is_aborted, stays_by, to_come, to_come_beside, until}

@@ -6,7 +6,7 @@ use Rattle.std.proofs.lemmas.List.Folds.{list_any-append}
 use Rattle.std.proofs.Math.Seq.{take-suc}
 use Rattle.asio_types.specs.declared.event.Event.{Event}
 use Rattle.asio_types.specs.declared.event.Event.TheVariants as event
-use Rattle.history_book.specs.FromOutside.{is_fault}
+use Rattle.history_rules.specs.FromOutside.{is_fault}
 use Rattle.generated_session.specs.declared.tally.Closing.{Closing}
 use Rattle.generated_session.specs.declared.tally.Closing.TheVariants as closing
 use Rattle.generated_session.specs.Summary.{is_call, is_end, is_drop, is_abort, run_mark, time_after, time_from, closing_after, closing_from, plus_one_if, marks_after, fault_after, tally_of, tally_after}

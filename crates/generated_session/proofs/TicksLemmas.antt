@@ -5,12 +5,12 @@ use Rattle.asio_types.specs.declared.outside.Point.TheVariants as point
 use Rattle.session_script.specs.Script.{Entry}
 use Rattle.stream_rules.specs.Stream.{Stream}
 use Rattle.stream_rules.specs.World.{earlier_point}
-use Rattle.history_book.specs.Settling.{expiry_of, is_due}
-use Rattle.history_book.specs.State.{ReactorHalf}
-use Rattle.history_book.specs.declared.waiting.Wait.{Wait}
-use Rattle.history_book.specs.Time.{next_expiry, next_time}
-use Rattle.history_book.specs.declared.phase.ActState.{ActState}
-use Rattle.history_book.proofs.TimeLemmas.{IsWithin, least_of-within, next-above}
+use Rattle.history_rules.specs.Settling.{expiry_of, is_due}
+use Rattle.history_rules.specs.State.{ReactorHalf}
+use Rattle.history_rules.specs.declared.wait.Wait.{Wait}
+use Rattle.history_rules.specs.Time.{next_expiry, next_time}
+use Rattle.history_rules.specs.declared.phase.ActState.{ActState}
+use Rattle.history_rules.proofs.TimeLemmas.{IsWithin, least_of-within, next-above}
 use Rattle.generated_session.specs.Generator.{session_of}
 use Rattle.generated_session.proofs.GatherLemmas.{all_any, gather, gather-same, most, most-each, plus}
 use Rattle.generated_session.proofs.TurnsLemmas.{Turns, cut_by, to_come, to_come_beside, until}

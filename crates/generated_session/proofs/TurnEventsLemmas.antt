@@ -8,16 +8,16 @@ use Rattle.session_script.specs.declared.act.Act.{Act}
 use Rattle.session_script.specs.declared.act.Act.TheVariants as act
 use Rattle.session_script.specs.Script.{Entry, act_of}
 use Rattle.stream_rules.specs.Stream.{Stream}
-use Rattle.history_book.specs.Order.{called_at, is_back_before, is_request, was_taken}
-use Rattle.history_book.specs.Performing.{performed_by, with_taken}
-use Rattle.history_book.specs.Requests.{MayTake, reactor_after_done, reactor_after_take}
-use Rattle.history_book.specs.Rounds.{AllQuiet, is_quiet}
-use Rattle.history_book.specs.Settling.{settled}
-use Rattle.history_book.specs.State.{ReactorHalf, State}
-use Rattle.history_book.specs.Time.{MayDrain, MayTick, at_last, at_time, reactor_after_last, reactor_after_tick}
-use Rattle.history_book.specs.declared.phase.ActPhase.{ActPhase}
-use Rattle.history_book.specs.declared.phase.ActPhase.TheVariants as phase
-use Rattle.history_book.specs.declared.phase.ActState.{ActState}
+use Rattle.history_rules.specs.Order.{called_at, is_back_before, is_request, was_taken}
+use Rattle.history_rules.specs.Performing.{performed_by, with_taken}
+use Rattle.history_rules.specs.Requests.{MayTake, reactor_after_done, reactor_after_take}
+use Rattle.history_rules.specs.Rounds.{AllQuiet, is_quiet}
+use Rattle.history_rules.specs.Settling.{settled}
+use Rattle.history_rules.specs.State.{ReactorHalf, State}
+use Rattle.history_rules.specs.Time.{MayDrain, MayTick, at_last, at_time, reactor_after_last, reactor_after_tick}
+use Rattle.history_rules.specs.declared.phase.ActPhase.{ActPhase}
+use Rattle.history_rules.specs.declared.phase.ActPhase.TheVariants as phase
+use Rattle.history_rules.specs.declared.phase.ActState.{ActState}
 use Rattle.generated_session.specs.Generator.{session_of}
 use Rattle.generated_session.specs.Summary.{is_abort, time_after}
 use Rattle.generated_session.proofs.FitLemmas.{fits, is_called, control_not_requested, is_requested, request_asks, wait_requested}

@@ -10,13 +10,13 @@ use Rattle.asio_types.specs.declared.code.Code.TheVariants as code
 use Rattle.session_script.specs.declared.act.Act.{Act}
 use Rattle.session_script.specs.Script.{Entry}
 use Rattle.stream_rules.specs.declared.queue.Completion.{Completion}
-use Rattle.history_book.specs.Order.{is_request, was_taken}
-use Rattle.history_book.specs.Settling.{due_waits, expiry_of, is_due, settled, served_below, sorted_by, waited, with_waits_served}
-use Rattle.history_book.specs.State.{ReactorHalf, StreamQueues}
-use Rattle.history_book.specs.declared.waiting.Wait.{Wait}
-use Rattle.history_book.specs.declared.phase.ActPhase.{ActPhase}
-use Rattle.history_book.specs.declared.phase.ActPhase.TheVariants as phase
-use Rattle.history_book.specs.declared.phase.ActState.{ActState}
+use Rattle.history_rules.specs.Order.{is_request, was_taken}
+use Rattle.history_rules.specs.Settling.{due_waits, expiry_of, is_due, settled, served_below, sorted_by, waited, with_waits_served}
+use Rattle.history_rules.specs.State.{ReactorHalf, StreamQueues}
+use Rattle.history_rules.specs.declared.wait.Wait.{Wait}
+use Rattle.history_rules.specs.declared.phase.ActPhase.{ActPhase}
+use Rattle.history_rules.specs.declared.phase.ActPhase.TheVariants as phase
+use Rattle.history_rules.specs.declared.phase.ActState.{ActState}
 use Rattle.generated_session.proofs.FitLemmas.{is_requested}
 use Rattle.generated_session.proofs.FutureLemmas.{is_renewed, to_abort, to_last}
 use Rattle.generated_session.proofs.GatherLemmas.{all_any, all_by, gather, gather-append, gather-kept, gather-map, gather-sorted, gather-split, most, most-kept, plus, sums}

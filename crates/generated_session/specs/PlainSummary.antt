@@ -6,9 +6,9 @@ use Rattle.asio_types.specs.declared.event.Event.TheVariants as event
 use Rattle.session_script.specs.declared.act.Act.{Act}
 use Rattle.session_script.specs.declared.act.Act.TheVariants as act
 use Rattle.session_script.specs.Script.{Entry, is_operation}
-use Rattle.history_book.specs.FromOutside.{has_fault, has_outside_stop}
-use Rattle.history_book.specs.Legal.{IsLegal}
-use Rattle.history_book.specs.Marks.{HasMarks}
+use Rattle.history_rules.specs.FromOutside.{has_fault, has_outside_stop}
+use Rattle.history_rules.specs.Legal.{IsLegal}
+use Rattle.history_rules.specs.Marks.{HasMarks}
 use Rattle.generated_session.specs.declared.tally.Closing.TheVariants as closing
 use Rattle.generated_session.specs.Generator.{acts_from, generated, most_size}
 use Rattle.generated_session.specs.Summary.{SummaryTally, lines_of, summary_of, text_of_line}

@@ -7,7 +7,7 @@ use Rattle.std.specs.Fmt.{decimal}
 use Rattle.asio_types.specs.declared.code.Code.TheVariants as code
 use Rattle.asio_types.specs.declared.event.Event.{Event}
 use Rattle.asio_types.specs.declared.event.Event.TheVariants as event
-use Rattle.history_book.specs.FromOutside.{has_fault}
+use Rattle.history_rules.specs.FromOutside.{has_fault}
 use Rattle.history_book.specs.Trace.{space, line_end}
 use Rattle.generated_session.specs.declared.line.SummaryLine.{SummaryLine}
 use Rattle.generated_session.specs.declared.line.SummaryLine.TheVariants as line

@@ -1,7 +1,5 @@
 pub mod DecimalsLemmas
-pub mod LaneLemmas
-pub mod LimitLemmas
-pub mod PerformingLemmas
+pub mod EventsLemmas
 pub mod PiecesLemmas
 pub mod PlayedLemmas
 pub mod QueueRoomLemmas
@@ -9,6 +7,3 @@ pub mod QueuesLemmas
 pub mod ReadingLemmas
 pub mod RoomLemmas
 pub mod SettledLemmas
-pub mod SettlingLemmas
-pub mod TimeLemmas
-pub mod VersionLemmas

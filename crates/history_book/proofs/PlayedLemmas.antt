@@ -15,6 +15,7 @@ use Rattle.stream_rules.specs.declared.pipe.Pipe.{Pipe}
 use Rattle.stream_rules.specs.Pipes.{pipe_stream, HasRoom, UsesRoom, KeepsRoom}
 use Rattle.stream_rules.proofs.PipeLemmas.{changed-set, HasRoom-at, HasRoom-after, HasRoom-keeps}
 use Rattle.stream_rules.proofs.WorldLemmas.{next_point-later, lines_at-later, lines_after-later}
+use Rattle.history_rules.proofs.LinesLemmas.{length-perform_lines}
 use Rattle.history_book.specs.Played.{IsPlayed, Played, first_played, played_at, played_over}
 
 -- what a vector holds once its slice was written
@@ -100,16 +101,6 @@ played-changed f told table pipes d any new b is same =
     ap (λ (streams : List Stream).
     let played : Played = record { told = told; now = table.time; lines = table.lines; streams = streams } in
     played) (changed-set f pipes d any new b (same ∙ ap (λ p. f (pipe_stream p)) is))
-
-length-perform_line : (streams : List Stream) (line : Line) → length (perform_line streams line) ≡ length streams
-length-perform_line streams line = length-set streams line.stream (line_performed line.what (stream_at streams line.stream))
-
--- lines change no number of streams
-pub length-perform_lines : (lines : List Line) (streams : List Stream) →
-    length (perform_lines lines streams) ≡ length streams
-length-perform_lines [] streams = refl
-length-perform_lines (line ∷ lines) streams =
-    length-perform_lines lines (perform_line streams line) ∙ length-perform_line streams line
 
 pub length-played_at : (time : ℕ) (p : Played) → length (played_at time p).streams ≡ length p.streams
 length-played_at time p = pick p.told

@@ -6,7 +6,8 @@ use Rattle.stream_rules.specs.declared.queue.Completion.{Completion}
 use Rattle.stream_rules.specs.declared.queue.Queued.{Queued}
 use Rattle.stream_rules.specs.Queue.{asked, Pending}
 use Rattle.stream_rules.specs.Serving.{Reading, Writing}
-use Rattle.history_book.specs.Performing.{aborted, all_aborted, all_of_stream, is_of, with_writes}
+use Rattle.history_rules.specs.Performing.{aborted, all_aborted, all_of_stream, is_of, with_writes}
+use Rattle.history_rules.proofs.CancelledLemmas.{length-all_of_stream}
 use Rattle.history_book.specs.Queues.{abort_of, aborts_of, is_queued, reads_go_first, IsFirstOf}
 
 -- a read goes first
@@ -60,31 +61,6 @@ aborts-asked f op (x ∷ xs) =
     aborts-asked-step f x (is_queued op x) (filter (is_queued op) xs) (filter (is_of op) (map (asked f) xs))
     (aborts-asked f op xs)
 
--- all operations of a stream are as many as its queues hold
-length-with_writes : (accepted n : ℕ) (read : Completion) (later : List (Pending Writing) → List Completion) →
-    ((rest : List (Pending Writing)) → length (later rest) ≡ n + length rest) → (writes : List (Pending Writing)) →
-    length (with_writes accepted read later writes) ≡ n + length writes + 1
-length-with_writes accepted n read later h [] = omega (arith, h [])
-length-with_writes accepted n read later h (write ∷ writes) =
-    pick (nat_lt accepted write.accepted) (read ∷ later (write ∷ writes))
-    (aborted write.op write.moved ∷ with_writes accepted read later writes) (n + length (write ∷ writes) + 1)
-    (omega (arith, h (write ∷ writes))) (omega (arith, length-with_writes accepted n read later h writes))
-  where
-    pick : (b : Bool) (xs ys : List Completion) (n : ℕ) → length xs ≡ n → length ys ≡ n → length (cond b xs ys) ≡ n
-    pick true xs ys n e f = e
-    pick false xs ys n e f = f
-
-pub length-all_of_stream : (reads : List (Pending Reading)) (writes : List (Pending Writing)) →
-    length (all_of_stream reads writes) ≡ length reads + length writes
-length-all_of_stream [] writes =
-    omega (arith, length-map writes (λ (pending : Pending Writing). aborted pending.op pending.moved))
-length-all_of_stream (read ∷ reads) writes =
-    omega (
-      arith,
-      length-with_writes read.accepted (length reads) (aborted read.op read.moved) (all_of_stream reads)
-          (length-all_of_stream reads) writes,
-    )
-
 pub all-count : (f : ℕ → Reading) (g : ℕ → Writing) (reads writes : List Queued) (due after : List Completion) →
     after ≡ due ++ all_of_stream (map (asked f) reads) (map (asked g) writes) →
     length after ≡ length due + length reads + length writes
@@ -93,13 +69,4 @@ all-count f g reads writes due after is =
     let more = ap length is ∙ length-append due (all_of_stream (map (asked f) reads) (map (asked g) writes)) in
     let one = length-map reads (asked f) in
     let two = length-map writes (asked g) in
-    omega arith
-
--- an operation of a queue stays or is aborted
-pub left-aborted : {Asks : Type 0} (op : ℕ) (queue : List (Pending Asks)) →
-    length (filter (λ pending. not (is_of op pending)) queue) + length (all_aborted (filter (is_of op) queue))
-    ≡ length queue
-left-aborted {Asks = Asks} op queue =
-    let both = length-filter_both (is_of op) (λ (pending : Pending Asks). not (is_of op pending)) (λ x. refl) queue in
-    let each = length-map (filter (is_of op) queue) (λ (pending : Pending Asks). aborted pending.op pending.moved) in
     omega arith

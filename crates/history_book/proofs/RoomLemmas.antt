@@ -14,27 +14,19 @@ use Rattle.session_script.specs.Script.{ScriptModel}
 use Rattle.stream_rules.specs.declared.queue.Completion.{Completion}
 use Rattle.stream_rules.specs.declared.queue.Queued.{Queued}
 use Rattle.stream_rules.specs.Queue.{asked}
+use Rattle.history_rules.proofs.PerformingLemmas.{pending-completed}
 use Rattle.history_book.specs.Asking.{AreQueues, IsReading, IsWriting, asked_reading, asked_writing, queues_of}
 use Rattle.history_book.specs.Played.{Played, first_played}
 use Rattle.history_book.proofs.PlayedLemmas.{length-first_played}
 use Rattle.history_book.specs.declared.asking.Queues.{Queues}
 use Rattle.history_book.specs.Queues.{abort_of, aborts_of, is_queued, size_of, AreNew, IsEmpty, IsNew}
 use Rattle.history_book.specs.QueueRoom.{ops_on}
-use Rattle.history_book.specs.Replay.{IsRoomy, pending_in}
-use Rattle.history_book.specs.Rounds.{IsEmptied}
-use Rattle.history_book.specs.State.{StreamQueues, Wait, no_queues}
-use Rattle.history_book.specs.Waiting.{all_completed_with, completed_with}
-
--- waits that complete are due
-pub pending-completed : (code : Code) (test : Wait → Bool) (waits : List Wait) (queues : List StreamQueues)
-    (due : List Completion) →
-    pending_in (filter (λ wait. not (test wait)) waits) queues (due ++ all_completed_with code test waits)
-    ≡ pending_in waits queues due
-pending-completed code test waits queues due =
-    let both = length-filter_both test (λ wait. not (test wait)) (λ x. refl) waits in
-    let more = length-append due (all_completed_with code test waits) in
-    let each = length-map (filter test waits) (completed_with code) in
-    omega arith
+use Rattle.history_book.specs.Replay.{IsRoomy}
+use Rattle.history_rules.specs.Bounds.{pending_in}
+use Rattle.history_rules.specs.Rounds.{IsEmptied}
+use Rattle.history_rules.specs.State.{StreamQueues, no_queues}
+use Rattle.history_rules.specs.declared.wait.Wait.{Wait}
+use Rattle.history_rules.specs.Waits.{all_completed_with, completed_with}
 
 pub IsRoomy-completed : (script : ScriptModel) (world : Played) (waits after : Vec Wait) (queues : List Queues)
     (due new : Vec Completion) (code : Code) (test : Wait → Bool) → IsRoomy script world waits queues due →

@@ -21,22 +21,26 @@ use Rattle.stream_rules.specs.Queue.{Pending, Side, reading_side, served_head, s
 use Rattle.stream_rules.specs.Serving.{Outcome}
 use Rattle.stream_rules.specs.Stream.{Stream}
 use Rattle.stream_rules.specs.World.{stream_at, times_after}
-use Rattle.history_book.specs.Performing.{performed, performed_by, queues_at, with_queues}
-use Rattle.history_book.specs.Requests.{disconnected, reactor_after_done, reactor_after_take, slot_in, told_off}
-use Rattle.history_book.specs.Untold.{gone, read_gone, reading_place, write_gone, writing_place}
-use Rattle.history_book.specs.QueueRoom.{size_at, stream_asked, taken_on, HasPlace}
-use Rattle.history_book.specs.Rounds.{is_held}
-use Rattle.history_book.specs.Settling.{expiry_of, is_due, served_at, served_below, served_stream, settled, with_streams_served, with_waits_served, AreDueTogether}
-use Rattle.history_book.specs.State.{ReactorHalf, StreamQueues, Wait, first_reactor, no_queues}
-use Rattle.history_book.specs.Time.{at_last, at_time, next_expiry, next_time, pending_count, reactor_after_fault, reactor_after_last, reactor_after_tick}
-use Rattle.history_book.specs.Turns.{latest, AllAhead, IsSettled}
-use Rattle.history_book.proofs.LimitLemmas.{time-below}
-use Rattle.history_book.proofs.PerformingLemmas.{All-passing, pending-queues, performs-by, together-ahead, together-from}
-use Rattle.history_book.proofs.QueueRoomLemmas.{each_size, sizes-set, taken-below, taken-more}
-use Rattle.history_book.proofs.RoomLemmas.{pending-completed}
-use Rattle.history_book.proofs.SettlingLemmas.{due-together}
-use Rattle.history_book.proofs.TimeLemmas.{least_of-within, next_point-first, next_point-within}
-use Rattle.history_book.specs.Waiting.{expiry_in}
+use Rattle.history_rules.specs.Performing.{performed, performed_by, queues_at, with_queues}
+use Rattle.history_rules.specs.Requests.{disconnected, reactor_after_done, reactor_after_take, slot_in, told_off}
+use Rattle.history_rules.specs.Untold.{gone, read_gone, reading_place, write_gone, writing_place}
+use Rattle.history_rules.specs.Bounds.{size_at, stream_asked}
+use Rattle.history_book.specs.QueueRoom.{taken_on, HasPlace}
+use Rattle.history_rules.specs.Rounds.{is_held}
+use Rattle.history_rules.specs.Settling.{expiry_of, is_due, served_at, served_below, served_stream, settled, with_streams_served, with_waits_served, AreDueTogether}
+use Rattle.history_rules.specs.State.{ReactorHalf, StreamQueues, first_reactor, no_queues}
+use Rattle.history_rules.specs.declared.wait.Wait.{Wait}
+use Rattle.history_rules.specs.Time.{at_last, at_time, next_expiry, next_time, pending_count, reactor_after_fault, reactor_after_last, reactor_after_tick}
+use Rattle.history_rules.specs.Bounds.{latest, AllAhead}
+use Rattle.history_book.specs.Turns.{IsSettled}
+use Rattle.history_rules.proofs.LimitLemmas.{time-below}
+use Rattle.history_rules.proofs.PerformingLemmas.{All-passing, pending-queues, performs-by, together-ahead, together-from}
+use Rattle.history_rules.proofs.SizesLemmas.{each_size, sizes-set}
+use Rattle.history_book.proofs.QueueRoomLemmas.{taken-below, taken-more}
+use Rattle.history_rules.proofs.PerformingLemmas.{pending-completed}
+use Rattle.history_rules.proofs.SettlingLemmas.{due-together}
+use Rattle.history_rules.proofs.TimeLemmas.{least_of-within, next_point-first, next_point-within}
+use Rattle.history_rules.specs.Waits.{expiry_in}
 
 -- what settling leaves as it was, and what holds after it
 pub record Settles (r after : ReactorHalf) : Type 0 where

@@ -7,8 +7,8 @@ use Rattle.session_script.specs.declared.act.Act.{Act}
 use Rattle.session_script.specs.Script.{ScriptModel, act_of}
 use Rattle.stream_rules.specs.Queue.{asked}
 use Rattle.stream_rules.specs.Serving.{Reading, Writing, Some_bytes, Some_of}
-use Rattle.history_book.specs.Kinds.{reading_of, writing_of}
-use Rattle.history_book.specs.State.{StreamQueues}
+use Rattle.history_rules.specs.Kinds.{reading_of, writing_of}
+use Rattle.history_rules.specs.State.{StreamQueues}
 use Rattle.history_book.specs.declared.asking.Queues.{Queues}
 
 abbrev pub reading_in : Option Act → Option Reading

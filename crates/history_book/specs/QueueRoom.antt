@@ -4,22 +4,15 @@ use Rattle.std.specs.Prelude.{◌≡◌, ℕ, zero, suc, ◌+◌, ◌<◌, ◌==
 use Rattle.std.specs.List.{slice_index_or, slice_set}
 use Rattle.session_script.specs.declared.act.Act.{Act}
 use Rattle.session_script.specs.Script.{ScriptModel, act_of}
-use Rattle.history_book.specs.Kinds.{stream_of}
-use Rattle.history_book.specs.Performing.{queues_at}
-use Rattle.history_book.specs.State.{ReactorHalf}
+use Rattle.history_rules.specs.Kinds.{stream_of}
+use Rattle.history_rules.specs.Performing.{queues_at}
+use Rattle.history_rules.specs.Bounds.{is_this, size_at, stream_asked}
+use Rattle.history_rules.specs.State.{ReactorHalf}
 
 -- how many of the first numbers pass the test
 abbrev pub count_passing : (ℕ → Bool) → ℕ → ℕ
 count_passing test zero = 0
 count_passing test (suc n) = count_passing test n + (if test n then 1 else 0)
-
-abbrev pub stream_asked : Option Act → Option ℕ
-stream_asked None = None
-stream_asked (Some act) = stream_of act
-
-abbrev pub is_this : ℕ → Option ℕ → Bool
-is_this stream None = false
-is_this stream (Some other) = other == stream
 
 -- the act with this number is an operation on this stream
 abbrev pub is_on : ScriptModel → ℕ → ℕ → Bool
@@ -34,10 +27,6 @@ abbrev pub taken_on : ScriptModel → List Bool → ℕ → ℕ
 taken_on script taken stream =
     count_passing (λ op. is_on script stream op && slice_index_or taken op false)
     (length script.acts)
-
--- how many operations of a stream are pending
-abbrev pub size_at : ReactorHalf → ℕ → ℕ
-size_at r stream = length (queues_at r stream).reads + length (queues_at r stream).writes
 
 -- not all operations of its stream are pending
 abbrev pub HasPlace : ScriptModel → ReactorHalf → Option ℕ → Type 0

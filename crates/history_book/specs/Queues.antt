@@ -7,7 +7,7 @@ use Rattle.stream_rules.specs.declared.queue.Queued.{Queued}
 use Rattle.stream_rules.specs.Queue.{asked}
 use Rattle.stream_rules.specs.Serving.{Reading, Writing}
 use Rattle.history_book.specs.declared.asking.Queues.{Queues}
-use Rattle.history_book.specs.Performing.{aborted, all_of_stream}
+use Rattle.history_rules.specs.Performing.{aborted, all_of_stream}
 
 abbrev pub is_queued : ℕ → Queued → Bool
 is_queued op queued = queued.op == op

@@ -9,8 +9,9 @@ use Rattle.history_book.specs.Asking.{AreQueues, queues_of}
 use Rattle.history_book.specs.Played.{Played}
 use Rattle.history_book.specs.QueueRoom.{ops_on}
 use Rattle.history_book.specs.declared.asking.Queues.{Queues}
-use Rattle.history_book.specs.State.{StreamQueues, Wait}
-use Rattle.history_book.specs.State.{ReactorHalf, State}
+use Rattle.history_rules.specs.Bounds.{pending_in}
+use Rattle.history_rules.specs.State.{ReactorHalf, State, StreamQueues}
+use Rattle.history_rules.specs.declared.wait.Wait.{Wait}
 
 pub record Replayed : Type 0 where
   -- the script that the events are held to
@@ -25,11 +26,6 @@ pub record ReactorReplayed : Type 0 where
   pub script : ScriptModel
   pub told : Bool
   pub half : ReactorHalf
-
--- how many operations are pending, those that are due among them
-abbrev pub pending_in : List Wait → List StreamQueues → List Completion → ℕ
-pending_in waits queues due =
-    length waits + sum_by (λ each. length each.reads + length each.writes) queues + length due
 
 -- the world is the script's, each stream has its queues with room for its operations, and there is
 -- room for all acts

@@ -2,19 +2,12 @@
 use Rattle.std.specs.Prelude.{ℕ, ◌≡◌, ◌+◌, ◌*◌, ◌^◌, ◌<◌, ◌≤◌, All, length, count_by}
 use Rattle.session_script.specs.Limits.{most_acts}
 use Rattle.session_script.specs.Script.{ScriptModel}
-use Rattle.history_book.specs.QueueRoom.{size_at, taken_on}
-use Rattle.history_book.specs.Rounds.{is_held}
-use Rattle.history_book.specs.Settling.{expiry_of}
-use Rattle.history_book.specs.State.{ReactorHalf}
-use Rattle.history_book.specs.Time.{pending_count}
-
--- each pending wait expires after now
-abbrev pub AllAhead : ReactorHalf → Type 0
-AllAhead r = All (λ wait. r.now < expiry_of r wait) r.waits
-
--- no time is beyond this once so many acts were taken
-abbrev pub latest : ℕ → ℕ
-latest accepted = (accepted + 1) * 2 ^ 40
+use Rattle.history_book.specs.QueueRoom.{taken_on}
+use Rattle.history_rules.specs.Bounds.{latest, size_at, AllAhead}
+use Rattle.history_rules.specs.Rounds.{is_held}
+use Rattle.history_rules.specs.Settling.{expiry_of}
+use Rattle.history_rules.specs.State.{ReactorHalf}
+use Rattle.history_rules.specs.Time.{pending_count}
 
 -- an operation is pending only once it was taken, no wait is due, and times are within bounds
 pub record IsSettled (script : ScriptModel) (r : ReactorHalf) : Type 0 where

@@ -1,13 +1,15 @@
 ghost use Rattle.std.specs.Prelude.{◌≡◌, ◌↔◌, length, IsTrue, IsSomeAnd};
 ghost use Rattle.session_script.specs.Script.{same_class};
 ghost use Rattle.session_script.specs.Lanes.{is_inline};
-ghost use Rattle.history_book.specs.State.{phase_at};
-ghost use Rattle.history_book.specs.Calls.{IsNextOf, running_body, MayCall, MayStop, MayReturn, with_progress, stepped, progressed, accepted, after_call, is_made, stopping, after_stop, has_stopped, has_ended, is_call_done, returned, limited, limited_by_stop, after_return, is_open};
+ghost use Rattle.history_rules.specs.State.{phase_at};
+ghost use Rattle.history_rules.specs.Calls.{IsNextOf, running_body, MayCall, MayStop, MayReturn, with_progress, stepped, progressed, accepted, after_call, is_made, stopping, after_stop, has_stopped, has_ended, is_call_done, returned, limited, limited_by_stop, after_return, is_open};
 
 use crate::context::ContextReplay;
-use crate::kinds::{is_control, is_inline, is_posting, is_stop_act, lane_at, place_of};
-use crate::phase::{ActPhase, ActState, Allowance, CallPhase, Cause, Progress, Step};
 use asio_types::{ActNo, Class, Code, OpNo};
+use history_rules::{
+    ActPhase, ActState, Allowance, CallPhase, Cause, Progress, Step, is_control, is_inline,
+    is_posting, is_stop_act, lane_at, place_of,
+};
 use session_script::{Script, is_operation};
 
 impl ContextReplay {

@@ -1,9 +1,9 @@
 ghost use Rattle.std.specs.Prelude.{◌≡◌, IfOk};
-ghost use Rattle.history_book.specs.State.{act_at, with_act, with_call, with_phase, counted, first_context};
+ghost use Rattle.history_rules.specs.State.{act_at, with_act, with_call, with_phase, counted, first_context};
 
-use crate::phase::{ActPhase, ActState, Allowance, CallPhase, Progress};
 use crate::stopping::LaneAllowances;
 use asio_types::{ActNo, NoMemory};
+use history_rules::{ActPhase, ActState, Allowance, CallPhase, Progress};
 use session_script::Script;
 use std::alloc::Global;
 use std::marker::Model;
@@ -30,7 +30,7 @@ pub(crate) struct ContextReplay {
 }
 
 impl Model for ContextReplay {
-    ghost use Rattle.history_book.specs.State.{ContextState};
+    ghost use Rattle.history_rules.specs.State.{ContextState};
 
     ghost Value = { ContextState };
 

@@ -1,14 +1,12 @@
 ghost use Rattle.std.specs.Prelude.{◌≡◌, ◌↔◌, length, IsTrue};
-ghost use Rattle.history_book.specs.Executions.{LaneIsFree, IsReadyWith, MayBeginOutside, MayBeginInside, MayBegin, after_begin, MayEnd, after_end};
-ghost use Rattle.history_book.specs.Order.{IsFirstOfLane};
-ghost use Rattle.history_book.specs.Rounds.{is_running};
+ghost use Rattle.history_rules.specs.Executions.{LaneIsFree, IsReadyWith, MayBeginOutside, MayBeginInside, MayBegin, after_begin, MayEnd, after_end};
+ghost use Rattle.history_rules.specs.Order.{IsFirstOfLane};
+ghost use Rattle.history_rules.specs.Rounds.{is_running};
 
 use crate::calls::is_made;
 use crate::context::{ContextReplay, NO_PROGRESS};
-use crate::kinds::{is_inline, lane_at};
-use crate::order::goes_before;
-use crate::phase::ActPhase;
 use asio_types::{Code, OpNo, class_of};
+use history_rules::{ActPhase, goes_before, is_inline, lane_at};
 use session_script::Script;
 
 impl ContextReplay {

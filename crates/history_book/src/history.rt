@@ -1,4 +1,5 @@
 ghost use Rattle.std.specs.Prelude.{◌≡◌, ◌≤◌, ◌+◌, [], ◌∷◌, ◌++◌, IfOk};
+ghost use Rattle.history_book.specs.Trace.{AreEvents, HasItsNumbers};
 
 use asio_types::{Event, NoMemory};
 use std::alloc::Global;
@@ -14,12 +15,43 @@ pub struct History {
 impl Model for History {
     ghost use Rattle.std.specs.Prelude.{◌+◌, ◌≤◌, vec_len, vec_capacity};
     ghost use Rattle.history_book.specs.History.{Recorded};
+    ghost use Rattle.history_book.specs.Trace.{AreEvents};
 
     ghost Value = { Recorded };
 
     ghost view = { λ h. record { events = h.events.items; spare = h.spare } };
 
-    ghost invariant = { λ h. vec_len h.events + h.spare ≤ vec_capacity h.events };
+    ghost invariant = { λ h.
+        (vec_len h.events + h.spare ≤ vec_capacity h.events) × AreEvents h.events.items };
+}
+
+/// The numbers of an event fit their types: it is read, and nothing more.
+fn numbers_fit(event: Event)
+    ensures { HasItsNumbers event }
+{
+    match event {
+        Event::Call { act } | Event::Back { act } | Event::Take { act } => {
+            let _act = act;
+        }
+        Event::Stop { act } => {
+            let _act = act;
+        }
+        Event::Begin { op, size, .. } | Event::Done { op, size, .. } => {
+            let _numbers = (op, size);
+        }
+        Event::End { op, mark } | Event::Dropped { op, mark } => {
+            let _numbers = (op, mark);
+        }
+        Event::Tick { now } => {
+            let _now = now;
+        }
+        Event::Last
+        | Event::Fault
+        | Event::Ended
+        | Event::Stopped
+        | Event::Polled
+        | Event::Restart => {}
+    }
 }
 
 impl History {
@@ -39,6 +71,7 @@ impl History {
         ensures events { self.new.events ≡ self.old.events ++ event ∷ [] }
         ensures spare { self.new.spare + 1 ≡ self.old.spare }
     {
+        numbers_fit(event);
         self.events.push_reserved(event);
         self.spare -= 1;
     }
@@ -48,5 +81,12 @@ impl History {
         ensures { result.now ≡ self.now.events }
     {
         self.events.as_slice()
+    }
+
+    /// The numbers of the events fit their types. Runs nothing.
+    pub fn holds_events(&self)
+        ensures { AreEvents self.now.events }
+    {
+        let _events = &self.events;
     }
 }

@@ -1,15 +1,17 @@
 ghost use Rattle.std.specs.Prelude.{◌≡◌, ◌+◌, ◌<◌, ◌^◌, Some, None, find, length, slice_index_or, slice_set};
 ghost use Rattle.session_script.specs.Script.{act_of};
 ghost use Rattle.history_book.specs.Asking.{IsReading, IsWriting, asked_reading, asked_writing};
-ghost use Rattle.history_book.specs.Kinds.{filter_of, supported_by};
-ghost use Rattle.history_book.specs.Performing.{bad, closed_at, queues_at, shut_at, connected, emitted, emitted_to, expiry_set, guard_released, is_reached, is_wait_for, is_wait_of, one_of_stream_cancelled, one_wait_cancelled, operation_cancelled, performed_by, read_accepted, wait_accepted, waits_cancelled, write_accepted};
-ghost use Rattle.history_book.specs.QueueRoom.{HasPlace, stream_asked};
-ghost use Rattle.history_book.specs.Time.{pending_count};
+ghost use Rattle.history_rules.specs.Kinds.{filter_of, supported_by};
+ghost use Rattle.history_rules.specs.Performing.{bad, closed_at, queues_at, shut_at, connected, emitted, emitted_to, expiry_set, guard_released, is_reached, is_wait_for, is_wait_of, one_of_stream_cancelled, one_wait_cancelled, operation_cancelled, performed_by, read_accepted, wait_accepted, waits_cancelled, write_accepted};
+ghost use Rattle.history_book.specs.QueueRoom.{HasPlace};
+ghost use Rattle.history_rules.specs.Bounds.{stream_asked};
+ghost use Rattle.history_rules.specs.Time.{pending_count};
 
 use crate::queues::{abort_all, abort_in};
 use crate::reactor_half::ReactorWorks;
-use crate::waiting::{Wait, Which, complete_waits};
+use crate::waiting::{Which, complete_waits};
 use asio_types::{ActNo, Code, GuardNo, OpNo, SlotNo, StreamNo, TimerNo, Types};
+use history_rules::Wait;
 use session_script::{Act, acts_fit};
 use stream_rules::{Completion, Queued};
 

@@ -5,7 +5,7 @@ ghost use Rattle.std.specs.Option.{ForSome};
 ghost use Rattle.stream_rules.specs.World.{HasItsStreams, changed_at, next_point, stream_at, times_after};
 ghost use Rattle.stream_rules.specs.Stream.{closed_stream};
 ghost use Rattle.history_book.specs.Asking.{IsReading, IsWriting, queues_of};
-ghost use Rattle.history_book.specs.Settling.{served_stream};
+ghost use Rattle.history_rules.specs.Settling.{served_stream};
 ghost use Rattle.history_book.specs.Played.{first_played, played_at, played_to_the_end};
 
 use crate::asking::{Asking, Queues};

@@ -1,8 +1,8 @@
 ghost use Rattle.std.specs.Prelude.{◌≡◌, ◌↔◌, ◌<◌, ◌^◌, [], All, IsTrue, count_by, sum_by};
-ghost use Rattle.history_book.specs.Order.{was_taken};
+ghost use Rattle.history_rules.specs.Order.{was_taken};
 ghost use Rattle.history_book.specs.Queues.{size_of, IsEmpty};
-ghost use Rattle.history_book.specs.Rounds.{is_held, IsDrained, IsEmptied};
-ghost use Rattle.history_book.specs.Time.{pending_count};
+ghost use Rattle.history_rules.specs.Rounds.{is_held, IsDrained, IsEmptied};
+ghost use Rattle.history_rules.specs.Time.{pending_count};
 
 use crate::asking::Queues;
 use crate::reactor_half::ReactorWorks;

@@ -1,6 +1,6 @@
 ghost use Rattle.std.specs.Prelude.{◌≡◌, ◌<◌, ◌^◌, ℕ, IfOk, length};
 ghost use Rattle.std.specs.List.{slice_index_or};
-ghost use Rattle.history_book.specs.Kinds.{stream_of};
+ghost use Rattle.history_rules.specs.Kinds.{stream_of};
 ghost use Rattle.history_book.specs.QueueRoom.{ops_on, with_one_more};
 
 use asio_types::{NoMemory, StreamNo};

@@ -3,7 +3,7 @@ ghost use Rattle.std.specs.Vec.{vec_capacity, vec_len};
 ghost use Rattle.std.specs.VecDeque.{deque_capacity, deque_len};
 ghost use Rattle.stream_rules.specs.Queue.{asked};
 ghost use Rattle.stream_rules.specs.Serving.{Reading as reading, Writing as writing};
-ghost use Rattle.history_book.specs.Performing.{all_of_stream};
+ghost use Rattle.history_rules.specs.Performing.{all_of_stream};
 ghost use Rattle.history_book.specs.Queues.{abort_of, aborts_of, is_queued, reads_go_first, IsFirstOf};
 
 use asio_types::{Code, OpNo};

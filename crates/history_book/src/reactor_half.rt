@@ -1,12 +1,12 @@
 ghost use Rattle.std.specs.Prelude.{◌≡◌, IfOk, None, false, length, replicate, true};
 ghost use Rattle.history_book.specs.Queues.{AreNew, IsNew};
-ghost use Rattle.history_book.specs.State.{first_reactor};
+ghost use Rattle.history_rules.specs.State.{first_reactor};
 
 use crate::asking::Queues;
 use crate::played::PlayedWorld;
 use crate::queue_room::rooms_of;
-use crate::waiting::Wait;
 use asio_types::{NoMemory, OpNo};
+use history_rules::Wait;
 use session_script::{Script, scripts_are_well_formed};
 use std::alloc::Global;
 use std::collections::VecDeque;

@@ -1,8 +1,8 @@
 ghost use Rattle.std.specs.Prelude.{◌≡◌, ◌<◌, IfOk, false, length};
-ghost use Rattle.history_book.specs.Order.{was_taken};
-ghost use Rattle.history_book.specs.Requests.{reactor_after_done, reactor_after_take};
-ghost use Rattle.history_book.specs.State.{first_reactor};
-ghost use Rattle.history_book.specs.Time.{next_time, reactor_after_fault, reactor_after_last, reactor_after_tick};
+ghost use Rattle.history_rules.specs.Order.{was_taken};
+ghost use Rattle.history_rules.specs.Requests.{reactor_after_done, reactor_after_take};
+ghost use Rattle.history_rules.specs.State.{first_reactor};
+ghost use Rattle.history_rules.specs.Time.{next_time, reactor_after_fault, reactor_after_last, reactor_after_tick};
 
 use crate::reactor_half::ReactorWorks;
 use asio_types::{ActNo, NoMemory, OpNo, Point};

@@ -1,8 +1,8 @@
 ghost use Rattle.std.specs.Prelude.{◌≡◌, ◌↔◌, length, IsTrue, IfOk};
 ghost use Rattle.std.specs.Bool.{OnTrue, OnFalse};
-ghost use Rattle.history_book.specs.Time.{CanTurn};
-ghost use Rattle.history_book.specs.Legal.{MayHappen, IsWhole, after_event, context_after, reactor_after};
-ghost use Rattle.history_book.specs.State.{first_state};
+ghost use Rattle.history_rules.specs.Time.{CanTurn};
+ghost use Rattle.history_rules.specs.Legal.{MayHappen, IsWhole, after_event, context_after, reactor_after};
+ghost use Rattle.history_rules.specs.State.{first_state};
 
 use crate::context::ContextReplay;
 use crate::reactor_replay::ReactorReplay;

@@ -1,13 +1,12 @@
 ghost use Rattle.std.specs.Prelude.{◌≡◌, ◌↔◌, IsTrue};
-ghost use Rattle.history_book.specs.Order.{is_untaken, IsFirstRequest};
-ghost use Rattle.history_book.specs.Requests.{IsGivenUntold, MayTell, MayTurn, MayTake, MayComplete, turn_begun, context_after_done};
+ghost use Rattle.history_rules.specs.Order.{is_untaken, IsFirstRequest};
+ghost use Rattle.history_rules.specs.Requests.{IsGivenUntold, MayTell, MayTurn, MayTake, MayComplete, turn_begun, context_after_done};
 
 use crate::context::ContextReplay;
-use crate::order::{called_at, is_back_before, is_request};
-use crate::phase::{ActPhase, Cause};
 use crate::reactor_half::ReactorWorks;
 use crate::replay::Replay;
 use asio_types::{ActNo, Code, Lane, OpNo};
+use history_rules::{ActPhase, Cause, called_at, is_back_before, is_request};
 
 impl ContextReplay {
     /// A turn of the reactor begins here.

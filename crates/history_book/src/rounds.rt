@@ -1,15 +1,15 @@
 ghost use Rattle.std.specs.Prelude.{◌≡◌, ◌↔◌, ◌≤◌, ◌<◌, ℕ, length, count_by, IsTrue, All, IfNone, IfSome, false, true};
-ghost use Rattle.history_book.specs.Rounds.{this_round, restarts, runs, HasRoundLeft, RoundIsOpen, NothingRuns, NoCallIsOpen, AllClosed, is_unspent, is_outstanding, is_act_outstanding, outstanding_work, is_quiet, AllQuiet, MayEndRound, MayStopRound, MayEndPoll, MayRestart, IsOver, MayDrop, IsNextDropped, after_poll, after_closing, after_restart, after_outside_stop, after_drop};
+ghost use Rattle.history_rules.specs.Rounds.{this_round, restarts, runs, HasRoundLeft, RoundIsOpen, NothingRuns, NoCallIsOpen, AllClosed, is_unspent, is_outstanding, is_act_outstanding, outstanding_work, is_quiet, AllQuiet, MayEndRound, MayStopRound, MayEndPoll, MayRestart, IsOver, MayDrop, IsNextDropped, after_poll, after_closing, after_restart, after_outside_stop, after_drop};
 ghost use Rattle.std.specs.List.{range_with_len};
 ghost use Rattle.session_script.specs.Limits.{most_acts};
-ghost use Rattle.history_book.specs.State.{phase_at};
+ghost use Rattle.history_rules.specs.State.{phase_at};
 
 use crate::calls::is_open;
 use crate::context::ContextReplay;
 use crate::executions::is_running;
-use crate::phase::{ActPhase, Allowance};
 use crate::replay::Replay;
 use asio_types::OpNo;
+use history_rules::{ActPhase, Allowance};
 use session_script::{Pace, Round, Script};
 
 impl ContextReplay {

@@ -3,7 +3,7 @@ ghost use Rattle.std.specs.Vec.{vec_capacity, vec_len};
 ghost use Rattle.std.specs.VecDeque.{deque_capacity, deque_len};
 ghost use Rattle.stream_rules.specs.Pipes.{pipe_stream};
 ghost use Rattle.history_book.specs.Asking.{IsReading, IsWriting, queues_of};
-ghost use Rattle.history_book.specs.Settling.{served_at, served_stream, settled, with_streams_served, with_waits_served, AreDueTogether};
+ghost use Rattle.history_rules.specs.Settling.{served_at, served_stream, settled, with_streams_served, with_waits_served, AreDueTogether};
 
 use crate::asking::{Asking, Queues};
 use crate::reactor_half::ReactorWorks;

@@ -1,10 +1,10 @@
 ghost use Rattle.std.specs.Prelude.{◌≡◌, ◌≢◌, map, IfOk, IsTrue, ◌↔◌, Ok};
-ghost use Rattle.history_book.specs.State.{all_lanes, each_lane};
-ghost use Rattle.history_book.specs.Stopping.{allowance_of, with_allowance, less_one, at_most_one, after_stop_on};
-ghost use Rattle.history_book.specs.declared.phase.Allowance.TheVariants as allowance;
+ghost use Rattle.history_rules.specs.State.{all_lanes, each_lane};
+ghost use Rattle.history_rules.specs.Stopping.{allowance_of, with_allowance, less_one, at_most_one, after_stop_on};
+ghost use Rattle.history_rules.specs.declared.phase.Allowance.TheVariants as allowance;
 
-use crate::phase::Allowance;
 use asio_types::{Lane, NoMemory};
+use history_rules::Allowance;
 use std::alloc::Global;
 use std::marker::Model;
 
@@ -18,7 +18,7 @@ pub(crate) struct LaneAllowances {
 }
 
 impl Model for LaneAllowances {
-    ghost use Rattle.history_book.specs.State.{Allowances};
+    ghost use Rattle.history_rules.specs.State.{Allowances};
 
     ghost Value = { Allowances };
 

@@ -1,5 +1,5 @@
 ghost use Rattle.std.specs.Prelude.{◌≡◌, ◌↔◌, IsTrue};
-ghost use Rattle.history_book.specs.Time.{IsIdle, MayTick, MayDrain, MayBreakOff, MayFault, context_after_fault};
+ghost use Rattle.history_rules.specs.Time.{IsIdle, MayTick, MayDrain, MayBreakOff, MayFault, context_after_fault};
 
 use crate::context::ContextReplay;
 use crate::replay::Replay;

@@ -1,10 +1,11 @@
 ghost use Rattle.std.specs.Prelude.{◌≡◌, filter, if◌then◌else◌, map, nat_lt};
-ghost use Rattle.history_book.specs.Time.{least_of, lesser, next_expiry, next_time};
-ghost use Rattle.history_book.specs.Waiting.{expiry_in};
+ghost use Rattle.history_rules.specs.Time.{least_of, lesser, next_expiry, next_time};
+ghost use Rattle.history_rules.specs.Waits.{expiry_in};
 
 use crate::reactor_half::ReactorWorks;
-use crate::waiting::{Wait, expiry_in};
+use crate::waiting::expiry_in;
 use asio_types::Point;
+use history_rules::Wait;
 
 fn lesser(x: u64, least: Option<u64>) -> Option<u64>
     ensures { result ≡ lesser x least }

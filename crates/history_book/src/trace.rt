@@ -1,8 +1,7 @@
-ghost use Rattle.std.specs.Prelude.{◌≡◌, ◌≤◌, List, IfOk, OnErr};
+ghost use Rattle.std.specs.Prelude.{◌≡◌, ◌≤◌, IfOk, OnErr};
 ghost use Rattle.asio_types.specs.Faults.{CountsFaults};
 ghost use Rattle.asio_types.specs.Sink.{Extends, ExtendsByPart};
-ghost use Rattle.history_book.specs.Trace.{AreEvents, trace_of};
-ghost use Rattle.asio_types.specs.declared.event.Event.{Event};
+ghost use Rattle.history_book.specs.Trace.{trace_of};
 
 use crate::history::History;
 use crate::trace_line::TraceLine;
@@ -26,8 +25,11 @@ pub fn write_trace<K: Sink>(history: &History, sink: &mut K) -> Result<(), Faile
     Ok(())
 }
 
-/// A trace fixes its history: events with the same trace are the same events.
-pub fn one_to_one()
-    ensures { (first second : List Event) → AreEvents first → AreEvents second →
-        trace_of first ≡ trace_of second → first ≡ second }
-{}
+/// A trace fixes its history: histories with the same trace have the same events.
+pub fn one_to_one(first: &History, second: &History)
+    ensures { trace_of first.now.events ≡ trace_of second.now.events →
+        first.now.events ≡ second.now.events }
+{
+    first.holds_events();
+    second.holds_events();
+}

@@ -1,12 +1,13 @@
 ghost use Rattle.std.specs.Prelude.{◌≡◌, ◌+◌, ◌*◌, ◌<◌, ◌^◌, length};
 ghost use Rattle.session_script.specs.Script.{act_of};
-ghost use Rattle.history_book.specs.Kinds.{slot_of};
-ghost use Rattle.history_book.specs.Performing.{performed, performed_by, with_taken};
-ghost use Rattle.history_book.specs.QueueRoom.{HasPlace, stream_asked};
-ghost use Rattle.history_book.specs.Requests.{disconnected, reactor_after_done, reactor_after_take, slot_in, told_off};
-ghost use Rattle.history_book.specs.Settling.{AreDueTogether};
-ghost use Rattle.history_book.specs.Time.{at_last, at_time, next_time, pending_count, reactor_after_fault, reactor_after_last, reactor_after_tick};
-ghost use Rattle.history_book.specs.Untold.{gone, read_gone, write_gone};
+ghost use Rattle.history_rules.specs.Kinds.{slot_of};
+ghost use Rattle.history_rules.specs.Performing.{performed, performed_by, with_taken};
+ghost use Rattle.history_book.specs.QueueRoom.{HasPlace};
+ghost use Rattle.history_rules.specs.Bounds.{stream_asked};
+ghost use Rattle.history_rules.specs.Requests.{disconnected, reactor_after_done, reactor_after_take, slot_in, told_off};
+ghost use Rattle.history_rules.specs.Settling.{AreDueTogether};
+ghost use Rattle.history_rules.specs.Time.{at_last, at_time, next_time, pending_count, reactor_after_fault, reactor_after_last, reactor_after_tick};
+ghost use Rattle.history_rules.specs.Untold.{gone, read_gone, write_gone};
 
 use crate::reactor_half::ReactorWorks;
 use asio_types::{ActNo, OpNo, Point, SlotNo, StreamNo};

@@ -1,8 +1,8 @@
 ghost use Rattle.std.specs.Prelude.{◌≡◌, ◌↔◌, IsTrue, Some};
 ghost use Rattle.session_script.specs.Script.{act_of};
-ghost use Rattle.history_book.specs.Performing.{queues_at};
-ghost use Rattle.history_book.specs.Requests.{IsNextDue};
-ghost use Rattle.history_book.specs.Untold.{head_of, is_read_mark, is_write_mark, may_give_all, may_give_read, may_give_some, may_give_until, may_give_write, may_have_moved, reading_place, writing_place, IsToldAs, MayGive, MayGiveUntold};
+ghost use Rattle.history_rules.specs.Performing.{queues_at};
+ghost use Rattle.history_rules.specs.Requests.{IsNextDue};
+ghost use Rattle.history_rules.specs.Untold.{head_of, is_read_mark, is_write_mark, may_give_all, may_give_read, may_give_some, may_give_until, may_give_write, may_have_moved, reading_place, writing_place, IsToldAs, MayGive, MayGiveUntold};
 
 use crate::reactor_half::ReactorWorks;
 use asio_types::{Code, OpNo, StreamNo};

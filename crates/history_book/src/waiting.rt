@@ -1,18 +1,11 @@
 ghost use Rattle.std.specs.Prelude.{◌≡◌, ◌+◌, ◌≤◌, ◌++◌, filter, length, not};
 ghost use Rattle.std.specs.Vec.{vec_capacity, vec_len};
-ghost use Rattle.history_book.specs.Waiting.{all_completed_with, expiry_in, is_chosen};
+ghost use Rattle.history_rules.specs.Waits.{all_completed_with, expiry_in};
+ghost use Rattle.history_book.specs.Waiting.{is_chosen};
 
 use asio_types::{Code, OpNo, TimerNo};
+use history_rules::Wait;
 use stream_rules::Completion;
-
-/// A wait of a timer that hasn't completed.
-#[derive(Clone, Copy, Debug, PartialEq, Eq)]
-pub struct Wait {
-    /// The operation.
-    pub op: OpNo,
-    /// Its timer.
-    pub timer: TimerNo,
-}
 
 /// Which waits complete together.
 #[derive(Clone, Copy)]

@@ -5,9 +5,9 @@ use Rattle.std.proofs.lemmas.Bool.{cases_eq}
 use Rattle.std.proofs.lemmas.Bool.Decides.{nat_tests}
 use Rattle.std.proofs.lemmas.List.{append-nil, get_or-set_other, get_or-set_same, length-set, map-append}
 use Rattle.std.proofs.lemmas.List.Elements.{All-head, All-tail, filter-append}
-use Rattle.history_book.specs.Performing.{is_wait_of}
-use Rattle.history_book.specs.Settling.{sorted_by}
-use Rattle.history_book.specs.declared.waiting.Wait.{Wait}
+use Rattle.history_rules.specs.Performing.{is_wait_of}
+use Rattle.history_rules.specs.Settling.{sorted_by}
+use Rattle.history_rules.specs.declared.wait.Wait.{Wait}
 use Rattle.timer_queue.specs.declared.entry.TimerEntry.{TimerEntry}
 use Rattle.timer_queue.specs.Entry.{is_entry_before}
 use Rattle.timer_queue.specs.Queue.{Timers, put}

@@ -4,8 +4,8 @@ use Rattle.std.specs.Option.{IfSome}
 use Rattle.session_script.specs.Script.{act_of}
 use Rattle.stream_rules.specs.declared.queue.Completion.{Completion}
 use Rattle.stream_rules.specs.World.{lines_after}
-use Rattle.history_book.specs.Requests.{disconnected, reactor_after_done, slot_in, told_off}
-use Rattle.history_book.specs.State.{ReactorHalf}
+use Rattle.history_rules.specs.Requests.{disconnected, reactor_after_done, slot_in, told_off}
+use Rattle.history_rules.specs.State.{ReactorHalf}
 use Rattle.reactor_trait.specs.Reactor.{Outside}
 use Rattle.proactor_core.specs.Due.{Due}
 use Rattle.proactor_core.specs.Proactor.{IsAt, ProactorView}

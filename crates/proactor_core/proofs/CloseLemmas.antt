@@ -10,8 +10,8 @@ use Rattle.stream_rules.specs.Queue.{Pending}
 use Rattle.stream_rules.specs.Serving.{Reading, Writing}
 use Rattle.stream_rules.specs.Stream.{Stream, closed_stream, new_stream}
 use Rattle.stream_rules.specs.World.{changed_at, lines_after, stream_at}
-use Rattle.history_book.specs.Performing.{aborted, all_of_stream, closed_at, queues_at, shut_at, with_writes}
-use Rattle.history_book.specs.State.{ReactorHalf, StreamQueues, no_queues}
+use Rattle.history_rules.specs.Performing.{aborted, all_of_stream, closed_at, queues_at, shut_at, with_writes}
+use Rattle.history_rules.specs.State.{ReactorHalf, StreamQueues, no_queues}
 use Rattle.reactor_trait.specs.Reactor.{Outside, ReactorState, outside_closed, state_closed}
 use Rattle.proactor_core.specs.Due.{listed}
 use Rattle.proactor_core.specs.Proactor.{IsAt, IsTurning, ProactorView}

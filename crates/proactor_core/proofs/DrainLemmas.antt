@@ -1,10 +1,10 @@
 -- Waits that leave one after another, and are listed.
 use Rattle.std.proofs.Common.{◌≡◌, ℕ, ◌+◌, ◌≤◌, Bool, not, List, [], ◌∷◌, length, map, filter, refl, ap, sym, subst, ◌∙◌, arith}
 use Rattle.stream_rules.specs.declared.queue.Completion.{Completion}
-use Rattle.history_book.specs.Performing.{aborted, is_wait_of}
-use Rattle.history_book.specs.Settling.{sorted_by, waited}
-use Rattle.history_book.specs.Waiting.{expiry_in}
-use Rattle.history_book.specs.declared.waiting.Wait.{Wait}
+use Rattle.history_rules.specs.Performing.{aborted, is_wait_of}
+use Rattle.history_rules.specs.Settling.{sorted_by, waited}
+use Rattle.history_rules.specs.Waits.{expiry_in}
+use Rattle.history_rules.specs.declared.wait.Wait.{Wait}
 use Rattle.proactor_core.specs.Due.{Due, listed}
 use Rattle.proactor_core.specs.Waits.{TakesExpired, TakesFirstOf, Waiting, aborts, expired, has_expired, without}
 use Rattle.proactor_core.proofs.FilterLemmas.{filter-all, none-passes}

@@ -5,8 +5,8 @@ use Rattle.std.proofs.lemmas.Bool.{cases_lt}
 use Rattle.cancel_slots.specs.declared.connection.Connection.{Connection}
 use Rattle.cancel_slots.specs.Slots.{chosen_by, connection_of}
 use Rattle.session_script.specs.Script.{ScriptModel}
-use Rattle.history_book.specs.Performing.{emitted}
-use Rattle.history_book.specs.State.{ReactorHalf}
+use Rattle.history_rules.specs.Performing.{emitted}
+use Rattle.history_rules.specs.State.{ReactorHalf}
 use Rattle.reactor_trait.specs.Reactor.{Outside}
 use Rattle.proactor_core.specs.Following.{IsConnected, chosen_cancelled}
 use Rattle.proactor_core.specs.Proactor.{IsAt, ProactorView}

@@ -3,7 +3,7 @@ use Rattle.std.proofs.Common.{◌≡◌, ◌<◌, ◌≤◌, nat_le, Bool, true,
 use Rattle.std.specs.List.{All}
 use Rattle.std.proofs.lemmas.Bool.Decides.{nat_tests}
 use Rattle.std.proofs.lemmas.List.Elements.{All-head, All-tail, All-weaker}
-use Rattle.history_book.specs.Settling.{put_by, sorted_by}
+use Rattle.history_rules.specs.Settling.{put_by, sorted_by}
 use Rattle.timer_queue.specs.declared.entry.TimerEntry.{TimerEntry}
 use Rattle.timer_queue.specs.Entry.{is_entry_before, IsBefore}
 use Rattle.timer_queue.specs.Queue.{put}

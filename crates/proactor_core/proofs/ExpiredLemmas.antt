@@ -4,10 +4,10 @@ use Rattle.std.specs.List.{All}
 use Rattle.std.proofs.lemmas.Bool.Decides.{nat_tests}
 use Rattle.std.proofs.lemmas.List.{length-set}
 use Rattle.std.proofs.lemmas.List.Elements.{All-filter, All-head, All-tail, filter_passes}
-use Rattle.history_book.specs.Performing.{is_wait_of}
-use Rattle.history_book.specs.Settling.{sorted_by, waited}
-use Rattle.history_book.specs.Waiting.{expiry_in}
-use Rattle.history_book.specs.declared.waiting.Wait.{Wait}
+use Rattle.history_rules.specs.Performing.{is_wait_of}
+use Rattle.history_rules.specs.Settling.{sorted_by, waited}
+use Rattle.history_rules.specs.Waits.{expiry_in}
+use Rattle.history_rules.specs.declared.wait.Wait.{Wait}
 use Rattle.timer_queue.specs.declared.entry.TimerEntry.{TimerEntry}
 use Rattle.timer_queue.specs.Entry.{IsBefore}
 use Rattle.timer_queue.specs.Queue.{Timers}

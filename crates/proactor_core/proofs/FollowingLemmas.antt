@@ -11,11 +11,11 @@ use Rattle.session_script.specs.declared.act.Act.{Act}
 use Rattle.session_script.specs.Script.{ScriptModel, act_of}
 use Rattle.cancel_slots.specs.declared.connection.Connection.{Connection}
 use Rattle.cancel_slots.specs.Slots.{chosen_by, connection_of}
-use Rattle.history_book.specs.Kinds.{filter_of, supported_by}
-use Rattle.history_book.specs.Performing.{connected, emitted, emitted_to, is_wait_of, one_wait_cancelled, operation_cancelled}
-use Rattle.history_book.specs.Requests.{disconnected, released}
-use Rattle.history_book.specs.State.{ReactorHalf, first_reactor}
-use Rattle.history_book.specs.declared.waiting.Wait.{Wait}
+use Rattle.history_rules.specs.Kinds.{filter_of, supported_by}
+use Rattle.history_rules.specs.Performing.{connected, emitted, emitted_to, is_wait_of, one_wait_cancelled, operation_cancelled}
+use Rattle.history_rules.specs.Requests.{disconnected, released}
+use Rattle.history_rules.specs.State.{ReactorHalf, first_reactor}
+use Rattle.history_rules.specs.declared.wait.Wait.{Wait}
 use Rattle.proactor_core.specs.Following.{FollowsHistories, IsConnected, chosen_cancelled}
 use Rattle.proactor_core.specs.Tables.{TableState, left_by, op_in, slot_left, slot_taken, with_tables}
 use Rattle.proactor_core.specs.Waits.{abort_of_one, without_one}

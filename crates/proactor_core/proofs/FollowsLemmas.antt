@@ -14,13 +14,13 @@ use Rattle.stream_rules.specs.declared.queue.Completion.{Completion}
 use Rattle.asio_types.specs.declared.world.Line.{Line}
 use Rattle.stream_rules.specs.Stream.{Stream, new_stream}
 use Rattle.stream_rules.specs.World.{lines_after}
-use Rattle.history_book.specs.Performing.{performed}
-use Rattle.history_book.specs.Requests.{MayTell, reactor_after_done}
-use Rattle.history_book.specs.Rounds.{IsDrained, IsEmptied, is_held}
-use Rattle.history_book.specs.Settling.{settled}
-use Rattle.history_book.specs.State.{ReactorHalf, StreamQueues}
-use Rattle.history_book.specs.Time.{next_time, pending_count}
-use Rattle.history_book.specs.Waiting.{expiry_in}
+use Rattle.history_rules.specs.Performing.{performed}
+use Rattle.history_rules.specs.Requests.{MayTell, reactor_after_done}
+use Rattle.history_rules.specs.Rounds.{IsDrained, IsEmptied, is_held}
+use Rattle.history_rules.specs.Settling.{settled}
+use Rattle.history_rules.specs.State.{ReactorHalf, StreamQueues}
+use Rattle.history_rules.specs.Time.{next_time, pending_count}
+use Rattle.history_rules.specs.Waits.{expiry_in}
 use Rattle.reactor_trait.specs.Reactor.{Outside, ReactorState, outside_at}
 use Rattle.proactor_core.specs.Proactor.{Follows, FollowsInTurn, FollowsUntold, FollowsUntoldInTurn, IsAt, IsSound, ProactorView, StandsAt, point_ahead, sent_to_peer, tells}
 use Rattle.proactor_core.specs.Streams.{StreamView, pending_on, pending_in_all, queues_in}

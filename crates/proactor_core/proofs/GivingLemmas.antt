@@ -16,7 +16,7 @@ use Rattle.composed_ops.specs.Progress.{FitsMove, IsCountWithin, IsUnderWay, Mov
 use Rattle.composed_ops.specs.Step.{asking_outcome, outcome_by, step_of, told_code}
 use Rattle.composed_ops.specs.Want.{asking_want, counted_want, until_want}
 use Rattle.composed_ops.proofs.CountLemmas.{all-nothing, some-there}
-use Rattle.history_book.specs.Untold.{is_from_to, is_read_mark, is_write_mark, may_give_all, may_give_some, may_give_until}
+use Rattle.history_rules.specs.Untold.{is_from_to, is_read_mark, is_write_mark, may_give_all, may_give_some, may_give_until}
 use Rattle.reactor_trait.specs.Reactor.{IsMoveWithin}
 use Rattle.proactor_core.specs.Reading.{may_give, IsAllowed}
 use Rattle.proactor_core.specs.Round.{round_of}

@@ -6,8 +6,8 @@ use Rattle.session_script.specs.declared.act.Act.{Act}
 use Rattle.session_script.specs.declared.act.Act.TheVariants as act
 use Rattle.session_script.specs.Script.{ScriptModel, act_of}
 use Rattle.session_script.specs.WellFormed.{FitsAct, header_of}
-use Rattle.history_book.specs.Kinds.{slot_of}
-use Rattle.history_book.specs.Kinds.{reading_of, writing_of}
+use Rattle.history_rules.specs.Kinds.{slot_of}
+use Rattle.history_rules.specs.Kinds.{reading_of, writing_of}
 use Rattle.stream_rules.specs.Serving.{All_bytes, All_of, Reading, Some_bytes, Some_of, Until, Writing}
 use Rattle.composed_ops.specs.StreamOperation.{Reads, Writes, asking_of, reading_size}
 use Rattle.proactor_core.specs.Rooms.{waits_for}

@@ -3,9 +3,9 @@ use Rattle.std.proofs.Common.{◌≡◌, ℕ, ◌<◌, ◌≤◌, nat_le, min, B
 use Rattle.std.specs.List.{All, Any}
 use Rattle.std.specs.Option.{IfSome, IsNone}
 use Rattle.std.proofs.lemmas.List.Elements.{All-head, All-tail}
-use Rattle.history_book.specs.Settling.{put_by, sorted_by}
-use Rattle.history_book.specs.Time.{least_of, lesser}
-use Rattle.history_book.specs.Waiting.{expiry_in}
+use Rattle.history_rules.specs.Settling.{put_by, sorted_by}
+use Rattle.history_rules.specs.Time.{least_of, lesser}
+use Rattle.history_rules.specs.Waits.{expiry_in}
 use Rattle.timer_queue.specs.declared.entry.TimerEntry.{TimerEntry}
 use Rattle.proactor_core.specs.Waits.{expiry_of_entry, serial_of, wait_of, waits_of}
 

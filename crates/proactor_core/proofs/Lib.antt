@@ -1,3 +1,4 @@
+pub mod CountsLemmas
 pub mod AbortingLemmas
 pub mod AcceptLemmas
 pub mod AtLemmas

@@ -7,7 +7,7 @@ use Rattle.asio_types.specs.declared.code.Code.{Code}
 use Rattle.stream_rules.specs.Cutting.{Course}
 use Rattle.stream_rules.specs.declared.queue.Completion.{Completion}
 use Rattle.stream_rules.specs.Queue.{Pending, QueueServed, Side, completed_first, served_head, served_queue, reading_side, writing_side}
-use Rattle.history_book.specs.Untold.{may_give_read, may_give_write}
+use Rattle.history_rules.specs.Untold.{may_give_read, may_give_write}
 use Rattle.stream_rules.specs.Serving.{Outcome, Reading, Writing, Some_bytes, All_bytes, Until}
 use Rattle.stream_rules.specs.Stream.{Stream}
 use Rattle.composed_ops.specs.StreamOperation.{StreamOperation, Reads, Writes}
@@ -19,7 +19,7 @@ use Rattle.proactor_core.specs.Held.{HeldBytes}
 use Rattle.proactor_core.specs.Pending.{progress_in, pending_read, pending_write, reading_asked, writing_asked, unmoved, AreReads, AreWrites, GivesDue, GivesInOrder, IsNewRead, IsServedBy}
 use Rattle.proactor_core.specs.Reactor.{whole_told, ChangesOne}
 use Rattle.proactor_core.specs.Reading.{exchange_at, may_give, Ends, AsksToRead, MayRead}
-use Rattle.history_book.specs.State.{StreamQueues}
+use Rattle.history_rules.specs.State.{StreamQueues}
 use Rattle.proactor_core.specs.Streams.{IsStreamServed, StreamView}
 use Rattle.proactor_core.specs.Writing.{AsksToWrite, MayWrite}
 

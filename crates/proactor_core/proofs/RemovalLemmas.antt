@@ -7,9 +7,9 @@ use Rattle.std.proofs.lemmas.Bool.Decides.{nat_tests}
 use Rattle.std.proofs.lemmas.List.{length-set}
 use Rattle.std.proofs.lemmas.List.Elements.{All-filter, Contains-get_or, filter_passes}
 use Rattle.std.proofs.lemmas.List.Filters.{length-filter_both}
-use Rattle.history_book.specs.Performing.{aborted, is_wait_for, is_wait_of}
-use Rattle.history_book.specs.Settling.{sorted_by}
-use Rattle.history_book.specs.declared.waiting.Wait.{Wait}
+use Rattle.history_rules.specs.Performing.{aborted, is_wait_for, is_wait_of}
+use Rattle.history_rules.specs.Settling.{sorted_by}
+use Rattle.history_rules.specs.declared.wait.Wait.{Wait}
 use Rattle.timer_queue.specs.declared.entry.TimerEntry.{TimerEntry}
 use Rattle.timer_queue.specs.Queue.{Timers}
 use Rattle.timer_queue.proofs.OrderLemmas.{is_other}

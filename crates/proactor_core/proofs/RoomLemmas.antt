@@ -12,10 +12,10 @@ use Rattle.asio_types.specs.Faults.{one_more}
 use Rattle.session_script.specs.declared.act.Act.{Act}
 use Rattle.session_script.specs.declared.act.Act.TheVariants as act
 use Rattle.session_script.specs.Script.{ScriptModel, act_of}
-use Rattle.history_book.specs.Performing.{aborted, is_wait_of}
-use Rattle.history_book.specs.Settling.{sorted_by, waited}
-use Rattle.history_book.specs.Waiting.{expiry_in}
-use Rattle.history_book.specs.declared.waiting.Wait.{Wait}
+use Rattle.history_rules.specs.Performing.{aborted, is_wait_of}
+use Rattle.history_rules.specs.Settling.{sorted_by, waited}
+use Rattle.history_rules.specs.Waits.{expiry_in}
+use Rattle.history_rules.specs.declared.wait.Wait.{Wait}
 use Rattle.stream_rules.specs.declared.queue.Completion.{Completion}
 use Rattle.proactor_core.specs.Due.{listed}
 use Rattle.proactor_core.specs.Room.{AsksToWait, HasRoomLeft, IsUntaken, CallsKeepRoom, MayWait}

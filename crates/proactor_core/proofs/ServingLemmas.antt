@@ -5,7 +5,7 @@ use Rattle.std.specs.Option.{IfSome}
 use Rattle.std.proofs.lemmas.List.{get_or-map, length-map, length-set}
 use Rattle.std.proofs.lemmas.List.Sums.{get_or-le-sum_by, sum_by-set}
 use Rattle.std.proofs.Math.Seq.{map-set_same}
-use Rattle.history_book.specs.Untold.{may_give_read, may_give_write}
+use Rattle.history_rules.specs.Untold.{may_give_read, may_give_write}
 use Rattle.reactor_trait.specs.Reactor.{Outside, ReactorState}
 use Rattle.proactor_core.specs.Due.{Due}
 use Rattle.proactor_core.specs.Reactor.{ChangesOne, IsServable, told_stream}

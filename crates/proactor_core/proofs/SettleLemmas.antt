@@ -10,11 +10,11 @@ use Rattle.session_script.specs.Script.{ScriptModel}
 use Rattle.stream_rules.specs.declared.queue.Completion.{Completion}
 use Rattle.stream_rules.specs.Stream.{Stream}
 use Rattle.stream_rules.specs.World.{lines_after}
-use Rattle.history_book.specs.Settling.{served_at, served_below, settled, sorted_by, waited, with_waits_served}
-use Rattle.history_book.specs.State.{ReactorHalf, StreamQueues}
-use Rattle.history_book.specs.declared.waiting.Wait.{Wait}
-use Rattle.history_book.specs.Waiting.{expiry_in}
-use Rattle.history_book.proofs.PerformingLemmas.{All-passing}
+use Rattle.history_rules.specs.Settling.{served_at, served_below, settled, sorted_by, waited, with_waits_served}
+use Rattle.history_rules.specs.State.{ReactorHalf, StreamQueues}
+use Rattle.history_rules.specs.declared.wait.Wait.{Wait}
+use Rattle.history_rules.specs.Waits.{expiry_in}
+use Rattle.history_rules.proofs.PerformingLemmas.{All-passing}
 use Rattle.reactor_trait.specs.Reactor.{Outside, ReactorState}
 use Rattle.proactor_core.specs.Due.{Due}
 use Rattle.proactor_core.specs.Untold.{AreGivenBelow, AreUnderWay, turned}

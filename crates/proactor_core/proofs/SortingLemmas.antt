@@ -3,7 +3,7 @@ use Rattle.std.proofs.Common.{◌≡◌, ℕ, ◌<◌, ◌≤◌, nat_le, Bool, 
 use Rattle.std.specs.List.{All}
 use Rattle.std.proofs.lemmas.List.Elements.{All-cons, All-filter, All-head, All-nil, All-tail, All-weaker}
 use Rattle.std.proofs.lemmas.Bool.Decides.{nat_tests}
-use Rattle.history_book.specs.Settling.{put_by, sorted_by}
+use Rattle.history_rules.specs.Settling.{put_by, sorted_by}
 
 module _ {X : Type 0} (key : X → ℕ) where
   pub put_by-front : (x y : X) (ys : List X) → key x ≤ key y → put_by key x (y ∷ ys) ≡ x ∷ y ∷ ys

@@ -16,15 +16,6 @@ use Rattle.proactor_core.specs.Proactor.{HasRoomForActs, IsSound, ProactorView}
 use Rattle.proactor_core.specs.Streams.{StreamView, pending_in_all}
 use Rattle.proactor_core.specs.Tables.{TableState, left_by, slot_left}
 
--- 32 bits count what is pending
-pub counts-fit : (script : ScriptModel) (s : TableState) (streams : List StreamView) → HasRoomForActs script s streams →
-    length s.waiting.waits + pending_in_all streams + length s.due.coming < 2 ^ 32
-counts-fit script s streams room =
-    let spare = room.tables.spare in
-    let due = room.within.due in
-    let most = room.fit.most in
-    omega arith
-
 -- a completion that was told leaves its room
 pub told-room : (script : ScriptModel) (streams : List StreamView) (s : TableState) (due : Due) (head : Completion) →
     s.due.coming ≡ head ∷ due.coming → due.spare ≡ s.due.spare + 1 → HasRoomForActs script s streams →

@@ -13,9 +13,9 @@ use Rattle.session_script.specs.Script.{ScriptModel}
 use Rattle.session_script.specs.WellFormed.{IsWellFormed}
 use Rattle.stream_rules.specs.Stream.{Stream, new_stream}
 use Rattle.stream_rules.specs.World.{first_streams, lines_after, lines_at, stream_at, times_after}
-use Rattle.history_book.specs.State.{ReactorHalf, first_reactor, no_queues}
-use Rattle.history_book.specs.Turns.{latest}
-use Rattle.history_book.proofs.PlayedLemmas.{length-perform_lines}
+use Rattle.history_rules.specs.State.{ReactorHalf, first_reactor, no_queues}
+use Rattle.history_rules.specs.Bounds.{latest}
+use Rattle.history_rules.proofs.LinesLemmas.{length-perform_lines}
 use Rattle.reactor_trait.specs.Reactor.{Outside, ReactorState, outside_ready, state_ready}
 use Rattle.proactor_core.specs.Following.{IsConnected}
 use Rattle.proactor_core.specs.Proactor.{AreAtStart, Follows, HasRoomForActs, IsAt, IsSound, ProactorView}

@@ -12,8 +12,8 @@ use Rattle.stream_rules.specs.declared.queue.Completion.{Completion}
 use Rattle.stream_rules.specs.Queue.{Pending}
 use Rattle.stream_rules.specs.Serving.{Reading, Writing}
 use Rattle.stream_rules.specs.World.{times_after}
-use Rattle.history_book.specs.Performing.{aborted, all_aborted, bad, is_of, new_pending, one_of_stream_cancelled, with_taken}
-use Rattle.history_book.specs.State.{ReactorHalf}
+use Rattle.history_rules.specs.Performing.{aborted, all_aborted, bad, is_of, new_pending, one_of_stream_cancelled, with_taken}
+use Rattle.history_rules.specs.State.{ReactorHalf}
 use Rattle.reactor_trait.specs.Reactor.{Outside, ReactorState}
 use Rattle.proactor_core.specs.Due.{Due, listed}
 use Rattle.proactor_core.specs.Proactor.{HasRoomForActs, IsAt, IsTurning, ProactorView}

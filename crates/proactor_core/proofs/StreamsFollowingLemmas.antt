@@ -6,9 +6,9 @@ use Rattle.std.proofs.lemmas.List.{get_or-map, get_or-set_other, get_or-set_same
 use Rattle.stream_rules.specs.declared.queue.Completion.{Completion}
 use Rattle.stream_rules.specs.Stream.{Stream, new_stream}
 use Rattle.stream_rules.specs.World.{stream_at}
-use Rattle.history_book.specs.Performing.{queues_at}
-use Rattle.history_book.specs.Settling.{served_at, served_below, served_stream, StreamServed}
-use Rattle.history_book.specs.State.{ReactorHalf, StreamQueues, no_queues}
+use Rattle.history_rules.specs.Performing.{queues_at}
+use Rattle.history_rules.specs.Settling.{served_at, served_below, served_stream, StreamServed}
+use Rattle.history_rules.specs.State.{ReactorHalf, StreamQueues, no_queues}
 use Rattle.reactor_trait.specs.Reactor.{Outside}
 use Rattle.proactor_core.specs.Due.{Due}
 use Rattle.proactor_core.specs.Reactor.{told_stream, whole_told, ChangesOne}

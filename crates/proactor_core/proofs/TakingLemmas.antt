@@ -7,10 +7,10 @@ use Rattle.asio_types.specs.Faults.{one_more}
 use Rattle.cancel_slots.specs.declared.connection.Connection.{Connection}
 use Rattle.session_script.specs.Script.{ScriptModel}
 use Rattle.stream_rules.specs.World.{times_after}
-use Rattle.history_book.specs.Performing.{aborted, connected, is_wait_for, is_wait_of, with_taken}
-use Rattle.history_book.specs.State.{ReactorHalf}
-use Rattle.history_book.specs.Turns.{latest}
-use Rattle.history_book.specs.declared.waiting.Wait.{Wait}
+use Rattle.history_rules.specs.Performing.{aborted, connected, is_wait_for, is_wait_of, with_taken}
+use Rattle.history_rules.specs.State.{ReactorHalf}
+use Rattle.history_rules.specs.Bounds.{latest}
+use Rattle.history_rules.specs.declared.wait.Wait.{Wait}
 use Rattle.reactor_trait.specs.Reactor.{Outside, ReactorState}
 use Rattle.proactor_core.specs.Due.{listed}
 use Rattle.proactor_core.specs.Following.{IsConnected}

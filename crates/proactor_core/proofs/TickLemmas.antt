@@ -17,15 +17,15 @@ use Rattle.session_script.specs.WellFormed.{IsWellFormed}
 use Rattle.stream_rules.specs.Stream.{Stream, marked_last, new_stream, line_performed}
 use Rattle.stream_rules.specs.World.{lines_after, lines_at, next_point, perform_line, perform_lines, stream_at, streams_at_last, times_after}
 use Rattle.stream_rules.proofs.WorldLemmas.{lines_after-later, lines_at-later, next_point-later, times_after-moved}
-use Rattle.history_book.specs.Settling.{settled}
-use Rattle.history_book.specs.State.{ReactorHalf}
-use Rattle.history_book.specs.Time.{at_last, at_time, lesser, least_of, next_time}
-use Rattle.history_book.specs.Turns.{latest}
-use Rattle.history_book.specs.Waiting.{expiry_in}
-use Rattle.history_book.specs.declared.waiting.Wait.{Wait}
-use Rattle.history_book.proofs.LimitLemmas.{time-below}
-use Rattle.history_book.proofs.PlayedLemmas.{length-perform_lines}
-use Rattle.history_book.proofs.TimeLemmas.{least_of-within, next_point-within}
+use Rattle.history_rules.specs.Settling.{settled}
+use Rattle.history_rules.specs.State.{ReactorHalf}
+use Rattle.history_rules.specs.Time.{at_last, at_time, lesser, least_of, next_time}
+use Rattle.history_rules.specs.Bounds.{latest}
+use Rattle.history_rules.specs.Waits.{expiry_in}
+use Rattle.history_rules.specs.declared.wait.Wait.{Wait}
+use Rattle.history_rules.proofs.LimitLemmas.{time-below}
+use Rattle.history_rules.proofs.LinesLemmas.{length-perform_lines}
+use Rattle.history_rules.proofs.TimeLemmas.{least_of-within, next_point-within}
 use Rattle.reactor_trait.specs.Reactor.{Outside, ReactorState, outside_at, state_at}
 use Rattle.proactor_core.specs.Proactor.{HasRoomForActs, IsAt, IsSound, IsTurning, ProactorView, after_point, point_ahead}
 use Rattle.proactor_core.specs.Reactor.{tells, whole_told}

@@ -11,11 +11,11 @@ use Rattle.stream_rules.specs.Queue.{Pending}
 use Rattle.stream_rules.specs.Serving.{Reading, Writing}
 use Rattle.stream_rules.specs.Stream.{closed_stream}
 use Rattle.stream_rules.specs.World.{changed_at}
-use Rattle.history_book.specs.Kinds.{reading_of, writing_of}
-use Rattle.history_book.specs.Performing.{aborted, all_aborted, all_of_stream, closed_at, emitted, emitted_to, is_of, is_reached, is_wait_for, is_wait_of, one_of_stream_cancelled, one_wait_cancelled, operation_cancelled, queues_at, shut_at, waits_cancelled, with_due, with_queues, with_writes}
-use Rattle.history_book.specs.State.{ReactorHalf, StreamQueues}
-use Rattle.history_book.specs.declared.waiting.Wait.{Wait}
-use Rattle.history_book.specs.Untold.{may_have_moved}
+use Rattle.history_rules.specs.Kinds.{reading_of, writing_of}
+use Rattle.history_rules.specs.Performing.{aborted, all_aborted, all_of_stream, closed_at, emitted, emitted_to, is_of, is_reached, is_wait_for, is_wait_of, one_of_stream_cancelled, one_wait_cancelled, operation_cancelled, queues_at, shut_at, waits_cancelled, with_due, with_queues, with_writes}
+use Rattle.history_rules.specs.State.{ReactorHalf, StreamQueues}
+use Rattle.history_rules.specs.declared.wait.Wait.{Wait}
+use Rattle.history_rules.specs.Untold.{may_have_moved}
 use Rattle.proactor_core.specs.Pending.{unmoved}
 use Rattle.proactor_core.specs.Untold.{unmoved_queues, AreToldBy, IsKnown, IsToldBy, MayAbort}
 use Rattle.proactor_core.proofs.FilterLemmas.{filter-map}

@@ -10,9 +10,9 @@ use Rattle.session_script.specs.Script.{ScriptModel}
 use Rattle.stream_rules.specs.declared.queue.Completion.{Completion}
 use Rattle.stream_rules.specs.Queue.{Pending}
 use Rattle.stream_rules.specs.Serving.{Reading, Writing}
-use Rattle.history_book.specs.Kinds.{reading_of, writing_of}
-use Rattle.history_book.specs.State.{StreamQueues, no_queues}
-use Rattle.history_book.specs.Untold.{may_give_read, may_give_write, reading_place, writing_place}
+use Rattle.history_rules.specs.Kinds.{reading_of, writing_of}
+use Rattle.history_rules.specs.State.{StreamQueues, no_queues}
+use Rattle.history_rules.specs.Untold.{may_give_read, may_give_write, reading_place, writing_place}
 use Rattle.proactor_core.specs.Pending.{unmoved, GivesInOrder}
 use Rattle.proactor_core.specs.Untold.{none_below, none_given, one_below, queues_of_view, read_given, unmoved_queues, without_read, without_write, write_given, AreGiven, AreGivenBelow, AreKnown, AreKnownAt, IsFirstGiven, IsGivenAt, IsKnown}
 use Rattle.proactor_core.proofs.UntoldLikeLemmas.{each-set, rested-at}

@@ -11,9 +11,9 @@ use Rattle.session_script.specs.Script.{ScriptModel}
 use Rattle.stream_rules.specs.declared.queue.Completion.{Completion}
 use Rattle.stream_rules.specs.Queue.{Pending}
 use Rattle.stream_rules.specs.Stream.{Stream}
-use Rattle.history_book.specs.Kinds.{reading_of, writing_of}
-use Rattle.history_book.specs.Performing.{queues_at, with_due, with_queues}
-use Rattle.history_book.specs.State.{ReactorHalf, StreamQueues, no_queues}
+use Rattle.history_rules.specs.Kinds.{reading_of, writing_of}
+use Rattle.history_rules.specs.Performing.{queues_at, with_due, with_queues}
+use Rattle.history_rules.specs.State.{ReactorHalf, StreamQueues, no_queues}
 use Rattle.proactor_core.specs.Pending.{unmoved}
 use Rattle.proactor_core.specs.Untold.{none_given, queues_of_view, read_given, unmoved_queues, write_given, AreGiven, AreKnownAt, AreToldBy, IsKnown, IsUntoldWith, MayAbortAt}
 use Rattle.proactor_core.proofs.WaitLemmas.{All-from_map}

@@ -11,10 +11,10 @@ use Rattle.session_script.specs.Script.{Entry, ScriptModel, act_of}
 use Rattle.session_script.specs.WellFormed.{header_of, FitsAct, IsWellFormed}
 use Rattle.stream_rules.specs.Queue.{Pending}
 use Rattle.stream_rules.specs.Serving.{All_bytes, All_of, Reading, Some_bytes, Some_of, Until, Writing}
-use Rattle.history_book.specs.Kinds.{reading_of, writing_of}
-use Rattle.history_book.specs.Performing.{bad, connected, expiry_set, guard_released, is_wait_of, new_pending, performed, performed_act, performed_by, queues_at, read_accepted, wait_accepted, with_due, with_queues, with_taken, write_accepted}
-use Rattle.history_book.specs.State.{ReactorHalf, StreamQueues}
-use Rattle.history_book.specs.Untold.{may_have_moved}
+use Rattle.history_rules.specs.Kinds.{reading_of, writing_of}
+use Rattle.history_rules.specs.Performing.{bad, connected, expiry_set, guard_released, is_wait_of, new_pending, performed, performed_act, performed_by, queues_at, read_accepted, wait_accepted, with_due, with_queues, with_taken, write_accepted}
+use Rattle.history_rules.specs.State.{ReactorHalf, StreamQueues}
+use Rattle.history_rules.specs.Untold.{may_have_moved}
 use Rattle.proactor_core.specs.Pending.{unmoved}
 use Rattle.proactor_core.specs.Untold.{unmoved_queues, AreToldBy, IsKnown, MayAbort, UntoldPerforms}
 use Rattle.proactor_core.proofs.UntoldCancelLemmas.{closed-alike, emitted-alike, one-wait-cancelled, waits-cancelled, MayAbortFresh}

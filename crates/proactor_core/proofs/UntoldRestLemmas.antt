@@ -7,10 +7,10 @@ use Rattle.std.proofs.lemmas.List.{get_or-replicate, get_or_past, length-append,
 use Rattle.std.proofs.lemmas.List.Elements.{All-map, All-nil}
 use Rattle.session_script.specs.Script.{ScriptModel}
 use Rattle.stream_rules.specs.declared.queue.Completion.{Completion}
-use Rattle.history_book.specs.Kinds.{reading_of, writing_of}
-use Rattle.history_book.specs.Rounds.{is_held, IsEmptied}
-use Rattle.history_book.specs.State.{ReactorHalf, StreamQueues, first_reactor, no_queues}
-use Rattle.history_book.specs.Time.{at_last, at_time, next_time}
+use Rattle.history_rules.specs.Kinds.{reading_of, writing_of}
+use Rattle.history_rules.specs.Rounds.{is_held, IsEmptied}
+use Rattle.history_rules.specs.State.{ReactorHalf, StreamQueues, first_reactor, no_queues}
+use Rattle.history_rules.specs.Time.{at_last, at_time, next_time}
 use Rattle.proactor_core.specs.Pending.{unmoved}
 use Rattle.proactor_core.specs.Untold.{queues_of_view, unmoved_queues, AreToldBy, IsKnown, IsUntoldWith, MayAbort, UntoldBegins, UntoldAnswers, UntoldEnds, UntoldRests, UntoldTicks}
 use Rattle.proactor_core.proofs.UntoldGivenLemmas.{given-count, rested-count}

@@ -13,11 +13,11 @@ use Rattle.stream_rules.specs.Queue.{Pending}
 use Rattle.stream_rules.specs.Serving.{All_bytes, All_of, Reading, Some_bytes, Some_of, Until, Writing}
 use Rattle.composed_ops.specs.StreamOperation.{Reads, Writes}
 use Rattle.composed_ops.specs.Progress.{IsUnderWay, StreamProgress}
-use Rattle.history_book.specs.Kinds.{reading_of, writing_of}
-use Rattle.history_book.specs.Settling.{due_waits, expiry_of, is_due, sorted_by, waited, with_waits_served}
-use Rattle.history_book.specs.State.{ReactorHalf, StreamQueues, no_queues}
-use Rattle.history_book.specs.declared.waiting.Wait.{Wait}
-use Rattle.history_book.specs.Untold.{may_have_moved, reading_place}
+use Rattle.history_rules.specs.Kinds.{reading_of, writing_of}
+use Rattle.history_rules.specs.Settling.{due_waits, expiry_of, is_due, sorted_by, waited, with_waits_served}
+use Rattle.history_rules.specs.State.{ReactorHalf, StreamQueues, no_queues}
+use Rattle.history_rules.specs.declared.wait.Wait.{Wait}
+use Rattle.history_rules.specs.Untold.{may_have_moved, reading_place}
 use Rattle.proactor_core.specs.Untold.{queues_of_view, turned, unmoved_queues, AreKnown, AreKnownAt, AreToldBy, AreUnderWay, IsKnown, IsReadUnderWay, IsUntoldWith, IsWriteUnderWay, MayAbort, UntoldSettles}
 use Rattle.proactor_core.proofs.UntoldGivenLemmas.{below-given, given-known}
 use Rattle.proactor_core.proofs.UntoldLikeLemmas.{alike-due, alike-from, alike-kept, forget, known-moved, rested-at, rested-known, IsAlike}

@@ -6,8 +6,8 @@ use Rattle.std.proofs.lemmas.List.{append_assoc, length-map, map-set}
 use Rattle.std.proofs.lemmas.List.Elements.{All-cons, All-map, All-nil}
 use Rattle.composed_ops.specs.StreamOperation.{StreamOperation, Reads, Writes}
 use Rattle.composed_ops.specs.Progress.{IsUnderWay}
-use Rattle.history_book.specs.State.{StreamQueues}
-use Rattle.history_book.specs.Untold.{may_give_read, may_give_write}
+use Rattle.history_rules.specs.State.{StreamQueues}
+use Rattle.history_rules.specs.Untold.{may_give_read, may_give_write}
 use Rattle.reactor_trait.specs.Reactor.{Outside}
 use Rattle.proactor_core.specs.declared.pending.PendingOp.{PendingOp}
 use Rattle.proactor_core.specs.Due.{Due}

@@ -11,10 +11,10 @@ use Rattle.stream_rules.specs.declared.queue.Completion.{Completion}
 use Rattle.stream_rules.specs.Queue.{Pending}
 use Rattle.stream_rules.specs.Serving.{All_bytes, All_of, Reading, Some_bytes, Some_of, Until, Writing}
 use Rattle.stream_rules.specs.Stream.{Stream}
-use Rattle.history_book.specs.Kinds.{reading_of, stream_of, writing_of}
-use Rattle.history_book.specs.Requests.{disconnected, reactor_after_done, slot_in, told_off}
-use Rattle.history_book.specs.State.{ReactorHalf, StreamQueues}
-use Rattle.history_book.specs.Untold.{gone, head_of, may_give_read, may_give_write, read_gone, reading_place, write_gone, writing_place, MayGiveRead, MayGiveUntold, MayGiveWrite}
+use Rattle.history_rules.specs.Kinds.{reading_of, stream_of, writing_of}
+use Rattle.history_rules.specs.Requests.{disconnected, reactor_after_done, slot_in, told_off}
+use Rattle.history_rules.specs.State.{ReactorHalf, StreamQueues}
+use Rattle.history_rules.specs.Untold.{gone, head_of, may_give_read, may_give_write, read_gone, reading_place, write_gone, writing_place, MayGiveRead, MayGiveUntold, MayGiveWrite}
 use Rattle.proactor_core.specs.Untold.{none_given, queues_of_view, read_given, unmoved_queues, without_read, without_write, write_given, AreGiven, AreKnown, AreKnownAt, AreToldBy, IsFirstGiven, IsKnown, IsUntoldWith, MayAbortAll, TellAlike, UntoldTells}
 use Rattle.proactor_core.proofs.UntoldGivenLemmas.{All-drop}
 use Rattle.proactor_core.proofs.UntoldLikeLemmas.{each-set}

@@ -4,8 +4,8 @@ use Rattle.std.proofs.lemmas.Bool.{cases_lt}
 use Rattle.std.proofs.lemmas.List.{get_or-set_other}
 use Rattle.std.proofs.lemmas.List.Elements.{All-from_get_or, All-map}
 use Rattle.stream_rules.specs.declared.queue.Completion.{Completion}
-use Rattle.history_book.specs.Rounds.{IsEmptied}
-use Rattle.history_book.specs.State.{StreamQueues}
+use Rattle.history_rules.specs.Rounds.{IsEmptied}
+use Rattle.history_rules.specs.State.{StreamQueues}
 use Rattle.reactor_trait.specs.Reactor.{Outside}
 use Rattle.proactor_core.specs.Due.{Due}
 use Rattle.proactor_core.specs.Streams.{new_stream_view, none_served, one_served, queues_in, stream_in, AreServedBelow, StreamView}
@@ -14,14 +14,17 @@ use Rattle.proactor_core.proofs.UntoldSettleLemmas.{untold-settles}
 use Rattle.proactor_core.proofs.UntoldStreamLemmas.{served-count, streams-give-below}
 
 pub untold-turns : UntoldTurns
-untold-turns script mid half last number reached streams old new told left due later unserved queued listed few served under_way =
+untold-turns script mid half streams new later reached unserved turn =
     let queues = map queues_in new in
-    let below = streams-give-below last number old new told left due later few served in
+    let below =
+    streams-give-below turn.last turn.number turn.old new turn.told turn.left turn.due later turn.within turn.served in
     let from =
-    subst (λ (qs : List StreamQueues). AreGivenBelow number qs queues due.coming later.coming) (sym queued) below in
-    let after = subst (λ (d : List Completion). AreGivenBelow number mid.queues queues d later.coming) listed from in
-    untold-settles script mid half number reached streams queues later.coming unserved after
-    (All-map AreUnderWay queues_in new under_way)
+    subst (λ (qs : List StreamQueues). AreGivenBelow turn.number qs queues turn.due.coming later.coming) (sym turn.queued)
+    below in
+    let after =
+    subst (λ (d : List Completion). AreGivenBelow turn.number mid.queues queues d later.coming) turn.listed from in
+    untold-settles script mid half turn.number reached streams queues later.coming unserved after
+    (All-map AreUnderWay queues_in new turn.under_way)
 
 -- the streams that were served have no operation
 emptied-below : {last : Bool} {number : ℕ} {old new : List StreamView} {told left : Option Outside} {due later : Due} →

@@ -4,9 +4,9 @@ use Rattle.std.specs.List.{All}
 use Rattle.std.proofs.lemmas.Bool.{cases_eq}
 use Rattle.std.proofs.lemmas.List.{get_or-map, get_or-set_other, get_or-set_same, length-map, map-set, set-get_or}
 use Rattle.std.proofs.lemmas.List.Elements.{All-map}
-use Rattle.history_book.specs.Performing.{is_wait_for}
-use Rattle.history_book.specs.Settling.{sorted_by}
-use Rattle.history_book.specs.declared.waiting.Wait.{Wait}
+use Rattle.history_rules.specs.Performing.{is_wait_for}
+use Rattle.history_rules.specs.Settling.{sorted_by}
+use Rattle.history_rules.specs.declared.wait.Wait.{Wait}
 use Rattle.timer_queue.specs.declared.entry.TimerEntry.{TimerEntry}
 use Rattle.timer_queue.specs.Queue.{Timers}
 use Rattle.proactor_core.specs.Waits.{is_entry_for, serial_of, wait_of, waits_of}

@@ -5,8 +5,8 @@ use Rattle.stream_rules.specs.declared.queue.Completion.{Completion}
 use Rattle.stream_rules.specs.Serving.{Reading, Writing}
 use Rattle.stream_rules.specs.Stream.{closed_stream}
 use Rattle.stream_rules.specs.World.{changed_at}
-use Rattle.history_book.specs.Performing.{all_aborted, all_of_stream, bad, is_of, new_pending, one_of_stream_cancelled, read_accepted, shut_at, write_accepted}
-use Rattle.history_book.specs.State.{ReactorHalf, StreamQueues, no_queues}
+use Rattle.history_rules.specs.Performing.{all_aborted, all_of_stream, bad, is_of, new_pending, one_of_stream_cancelled, read_accepted, shut_at, write_accepted}
+use Rattle.history_rules.specs.State.{ReactorHalf, StreamQueues, no_queues}
 use Rattle.proactor_core.specs.Due.{listed}
 use Rattle.proactor_core.specs.Streams.{StreamView, aborts_of_op, bad_if_closed, closed_view, new_stream_view, queues_in, read_begun, stream_in, with_stream_in, without_op, write_begun}
 use Rattle.proactor_core.specs.Tables.{TableState}

@@ -2,7 +2,7 @@
 -- Cancellation"; basic_stream_socket::close).
 use Rattle.std.specs.Prelude.{ℕ, ◌≡◌, ◌==◌, nat_lt, Bool, true, false, List, [], ◌∷◌, map}
 use Rattle.stream_rules.specs.declared.queue.Completion.{Completion}
-use Rattle.history_book.specs.Performing.{aborted, all_of_stream}
+use Rattle.history_rules.specs.Performing.{aborted, all_of_stream}
 use Rattle.proactor_core.specs.declared.pending.PendingOp.{PendingOp}
 use Rattle.proactor_core.specs.Pending.{pending_read, pending_write, progress_in}
 

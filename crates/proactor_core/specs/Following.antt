@@ -5,12 +5,12 @@ use Rattle.session_script.specs.declared.act.Act.{Act}
 use Rattle.session_script.specs.Script.{ScriptModel, act_of}
 use Rattle.cancel_slots.specs.declared.connection.Connection.{Connection}
 use Rattle.cancel_slots.specs.Slots.{chosen_by}
-use Rattle.history_book.specs.Kinds.{filter_of, supported_by}
-use Rattle.history_book.specs.Performing.{connected, emitted, expiry_set, guard_released, is_wait_for, is_wait_of, one_wait_cancelled, operation_cancelled, wait_accepted, waits_cancelled, with_taken}
-use Rattle.history_book.specs.Requests.{disconnected}
-use Rattle.history_book.specs.Settling.{with_waits_served}
-use Rattle.history_book.specs.State.{ReactorHalf}
-use Rattle.history_book.specs.Time.{reactor_after_fault}
+use Rattle.history_rules.specs.Kinds.{filter_of, supported_by}
+use Rattle.history_rules.specs.Performing.{connected, emitted, expiry_set, guard_released, is_wait_for, is_wait_of, one_wait_cancelled, operation_cancelled, wait_accepted, waits_cancelled, with_taken}
+use Rattle.history_rules.specs.Requests.{disconnected}
+use Rattle.history_rules.specs.Settling.{with_waits_served}
+use Rattle.history_rules.specs.State.{ReactorHalf}
+use Rattle.history_rules.specs.Time.{reactor_after_fault}
 use Rattle.proactor_core.specs.Tables.{TableState, act_taken, first_cancelled, guard_gone, op_in, reactor_lost, slot_left, slot_taken, timer_cancelled, timer_set, wait_begun, wait_cancelled, waits_completed, with_tables}
 
 -- an operation that an emit has chosen is cancelled, by what its act is

@@ -1,8 +1,10 @@
 pub mod Aborting
+pub mod Counts
 pub mod Due
 pub mod Following
 pub mod Held
 pub mod Pending
+pub mod Proactor
 pub mod Reactor
 pub mod Reading
 pub mod Room
@@ -13,8 +15,7 @@ pub mod StreamWork
 pub mod Streams
 pub mod StreamsFollowing
 pub mod Tables
-pub mod Waits
 pub mod Untold
+pub mod Waits
 pub mod Works
 pub mod Writing
-pub mod Proactor

@@ -12,11 +12,11 @@ use Rattle.session_script.specs.Limits.{most_acts}
 use Rattle.session_script.specs.Script.{ScriptModel, act_of}
 use Rattle.stream_rules.specs.Stream.{Stream}
 use Rattle.stream_rules.specs.World.{lines_after, next_point, stream_at, times_after}
-use Rattle.history_book.specs.Rounds.{IsEmptied}
-use Rattle.history_book.specs.State.{ReactorHalf, first_reactor}
-use Rattle.history_book.specs.Time.{least_of, reactor_after_last, reactor_after_tick}
-use Rattle.history_book.specs.Turns.{latest}
-use Rattle.history_book.specs.Waiting.{expiry_in}
+use Rattle.history_rules.specs.Rounds.{IsEmptied}
+use Rattle.history_rules.specs.State.{ReactorHalf, first_reactor}
+use Rattle.history_rules.specs.Time.{least_of, reactor_after_last, reactor_after_tick}
+use Rattle.history_rules.specs.Bounds.{latest}
+use Rattle.history_rules.specs.Waits.{expiry_in}
 use Rattle.cancel_slots.specs.declared.connection.Connection.{Connection}
 use Rattle.reactor_trait.specs.Reactor.{Outside, ReactorState, state_at, state_refused}
 use Rattle.proactor_core.specs.declared.stream_rooms.StreamSide.TheVariants as side
@@ -112,7 +112,13 @@ pub record IsTurning {X : Type 0} (state : X → ReactorState) (told : X → Opt
   pub room : HasRoomForActs view.script view.tables view.streams
   pub step : IsInStep view.script view.tables view.streams (state view.reactor) (told view.reactor)
 
--- an act of the script that wasn't taken may be taken in this turn
+-- an act that wasn't taken may be taken in this turn
+pub record MayTakeAct {X : Type 0} (state : X → ReactorState) (told : X → Option Outside) (a : ℕ)
+    (view : ProactorView X) : Type 0 where
+  pub turning : IsTurning state told view
+  pub untaken : IsUntaken a view.tables
+
+-- the same of an act that the script has as this
 pub record MayPerform {X : Type 0} (state : X → ReactorState) (told : X → Option Outside) (a : ℕ)
     (act : Act) (view : ProactorView X) : Type 0 where
   pub turning : IsTurning state told view

@@ -7,7 +7,7 @@ use Rattle.stream_rules.specs.Stream.{Stream}
 use Rattle.composed_ops.specs.StreamOperation.{StreamOperation, Reads, Writes, most_moved}
 use Rattle.composed_ops.specs.Feeding.{Exchange, GoesOn, IsFilled, course_at, course_of, whole_stream}
 use Rattle.composed_ops.specs.Progress.{IsSearched, IsUnderWay, StreamProgress}
-use Rattle.history_book.specs.Untold.{may_give_read, may_give_write}
+use Rattle.history_rules.specs.Untold.{may_give_read, may_give_write}
 use Rattle.reactor_trait.specs.Reactor.{Outside}
 use Rattle.proactor_core.specs.Held.{HeldBytes}
 use Rattle.proactor_core.specs.Reactor.{told_stream}

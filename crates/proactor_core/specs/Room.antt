@@ -4,8 +4,8 @@ use Rattle.std.specs.Prelude.{◌≡◌, ◌≢◌, ◌<◌, ◌≤◌, ℕ, ◌
 use Rattle.std.specs.List.{slice_index_or}
 use Rattle.session_script.specs.declared.act.Act.{Act}
 use Rattle.session_script.specs.Script.{ScriptModel, act_of}
-use Rattle.history_book.specs.Performing.{is_wait_of}
-use Rattle.history_book.specs.declared.waiting.Wait.{Wait}
+use Rattle.history_rules.specs.Performing.{is_wait_of}
+use Rattle.history_rules.specs.declared.wait.Wait.{Wait}
 use Rattle.proactor_core.specs.Due.{listed}
 use Rattle.proactor_core.specs.Rooms.{untaken_below, waits_for}
 use Rattle.proactor_core.specs.Tables.{TableState, act_taken, timer_set, wait_begun, waits_completed}

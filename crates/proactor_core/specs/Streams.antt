@@ -8,10 +8,10 @@ use Rattle.stream_rules.specs.declared.queue.Completion.{Completion}
 use Rattle.stream_rules.specs.Queue.{Pending}
 use Rattle.stream_rules.specs.Serving.{Reading, Writing}
 use Rattle.stream_rules.specs.Stream.{Stream}
-use Rattle.history_book.specs.Performing.{all_aborted, bad, is_of, new_pending}
-use Rattle.history_book.specs.Settling.{served_stream}
-use Rattle.history_book.specs.State.{StreamQueues}
-use Rattle.history_book.specs.Untold.{may_give_read, may_give_write}
+use Rattle.history_rules.specs.Performing.{all_aborted, bad, is_of, new_pending}
+use Rattle.history_rules.specs.Settling.{served_stream}
+use Rattle.history_rules.specs.State.{StreamQueues}
+use Rattle.history_rules.specs.Untold.{may_give_read, may_give_write}
 use Rattle.proactor_core.specs.Due.{Due, listed}
 use Rattle.proactor_core.specs.Pending.{GivesDue}
 use Rattle.proactor_core.specs.Reactor.{whole_told, ChangesOne}

@@ -2,8 +2,8 @@
 use Rattle.std.specs.Prelude.{ℕ, ◌≡◌, ◌<◌, Bool, Option, Some, List, length, map}
 use Rattle.std.specs.Option.{option_map}
 use Rattle.stream_rules.specs.World.{stream_at}
-use Rattle.history_book.specs.Settling.{served_below}
-use Rattle.history_book.specs.State.{ReactorHalf}
+use Rattle.history_rules.specs.Settling.{served_below}
+use Rattle.history_rules.specs.State.{ReactorHalf}
 use Rattle.reactor_trait.specs.Reactor.{Outside}
 use Rattle.proactor_core.specs.Due.{Due}
 use Rattle.proactor_core.specs.Reactor.{whole_told}

@@ -8,8 +8,8 @@ use Rattle.asio_types.specs.declared.outside.Point.{Point}
 use Rattle.asio_types.specs.declared.outside.Point.TheVariants as point
 use Rattle.cancel_slots.specs.declared.connection.Connection.{Connection}
 use Rattle.cancel_slots.specs.Slots.{connection_of}
-use Rattle.history_book.specs.Performing.{is_wait_for, is_wait_of}
-use Rattle.history_book.specs.State.{ReactorHalf}
+use Rattle.history_rules.specs.Performing.{is_wait_for, is_wait_of}
+use Rattle.history_rules.specs.State.{ReactorHalf}
 use Rattle.proactor_core.specs.Due.{Due, listed}
 use Rattle.proactor_core.specs.Waits.{Waiting, abort_of_one, aborts, expired, has_expired, without, without_one}
 

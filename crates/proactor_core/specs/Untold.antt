@@ -15,14 +15,14 @@ use Rattle.stream_rules.specs.Serving.{Reading, Writing}
 use Rattle.stream_rules.specs.Stream.{Stream}
 use Rattle.composed_ops.specs.StreamOperation.{Reads, Writes}
 use Rattle.composed_ops.specs.Progress.{IsUnderWay}
-use Rattle.history_book.specs.Kinds.{reading_of, stream_of, writing_of}
-use Rattle.history_book.specs.Performing.{performed}
-use Rattle.history_book.specs.Requests.{MayTell, reactor_after_done}
-use Rattle.history_book.specs.Rounds.{is_held, IsDrained, IsEmptied}
-use Rattle.history_book.specs.Settling.{settled, with_waits_served}
-use Rattle.history_book.specs.State.{ReactorHalf, StreamQueues, first_reactor, no_queues}
-use Rattle.history_book.specs.Time.{at_last, at_time, next_time, pending_count}
-use Rattle.history_book.specs.Untold.{IsToldAs, may_give_read, may_give_write, may_have_moved, reading_place, writing_place}
+use Rattle.history_rules.specs.Kinds.{reading_of, stream_of, writing_of}
+use Rattle.history_rules.specs.Performing.{performed}
+use Rattle.history_rules.specs.Requests.{MayTell, reactor_after_done}
+use Rattle.history_rules.specs.Rounds.{is_held, IsDrained, IsEmptied}
+use Rattle.history_rules.specs.Settling.{settled, with_waits_served}
+use Rattle.history_rules.specs.State.{ReactorHalf, StreamQueues, first_reactor, no_queues}
+use Rattle.history_rules.specs.Time.{at_last, at_time, next_time, pending_count}
+use Rattle.history_rules.specs.Untold.{IsToldAs, may_give_read, may_give_write, may_have_moved, reading_place, writing_place}
 use Rattle.reactor_trait.specs.Reactor.{Outside}
 use Rattle.proactor_core.specs.declared.pending.PendingOp.{PendingOp}
 use Rattle.proactor_core.specs.Due.{Due}
@@ -261,16 +261,29 @@ WorkIsUnderWay =
       writes = map pending_write writes;
     })
 
+-- in a turn, once the waits have completed, a proactor that has what mid has serves its streams, to
+-- these views and with this due
+pub record ServesInTurn (mid : ReactorHalf) (new : List StreamView) (later : Due) : Type 0 where
+  -- the streams and what was due before, and what the reactor told then and tells now
+  pub old : List StreamView
+  pub due : Due
+  pub told : Option Outside
+  pub left : Option Outside
+  pub queued : mid.queues ≡ map queues_in old
+  pub listed : due.coming ≡ (with_waits_served mid).due
+  -- so many streams were served, after the last time point or before it
+  pub last : Bool
+  pub number : ℕ
+  pub within : number ≤ length old
+  pub served : AreServedBelow last number old new told left due later
+  pub under_way : All (λ view. AreUnderWay (queues_in view)) new
+
 -- so a turn of a proactor leaves the history beside it
 abbrev pub UntoldTurns : Type 0
 UntoldTurns =
-    (script : ScriptModel) (mid half : ReactorHalf) (last : Bool) (number reached : ℕ)
-    (streams : List Stream)
-    (old new : List StreamView) (told left : Option Outside) (due later : Due) →
-    IsUnservedOf script mid half → mid.queues ≡ map queues_in old →
-    due.coming ≡ (with_waits_served mid).due →
-    number ≤ length old → AreServedBelow last number old new told left due later →
-    All (λ view. AreUnderWay (queues_in view)) new →
+    (script : ScriptModel) (mid half : ReactorHalf) (streams : List Stream) (new : List StreamView)
+    (later : Due) (reached : ℕ) →
+    IsUnservedOf script mid half → ServesInTurn mid new later →
     IsUntoldOf script (turned streams (map queues_in new) later.coming reached mid)
     (settled false half)
 

@@ -3,10 +3,10 @@
 use Rattle.std.specs.Prelude.{◌≡◌, ◌<◌, ◌≤◌, ◌^◌, ℕ, ◌+◌, ◌==◌, All, Bool, not, nat_le, List, [], ◌∷◌, Option, Some, None, length, map, filter, replicate}
 use Rattle.std.specs.List.{slice_index_or}
 use Rattle.stream_rules.specs.declared.queue.Completion.{Completion}
-use Rattle.history_book.specs.Performing.{aborted, is_wait_for, is_wait_of}
-use Rattle.history_book.specs.Settling.{sorted_by, waited}
-use Rattle.history_book.specs.declared.waiting.Wait.{Wait}
-use Rattle.history_book.specs.Waiting.{expiry_in}
+use Rattle.history_rules.specs.Performing.{aborted, is_wait_for, is_wait_of}
+use Rattle.history_rules.specs.Settling.{sorted_by, waited}
+use Rattle.history_rules.specs.declared.wait.Wait.{Wait}
+use Rattle.history_rules.specs.Waits.{expiry_in}
 use Rattle.timer_queue.specs.declared.entry.TimerEntry.{TimerEntry}
 use Rattle.timer_queue.specs.Queue.{Timers}
 

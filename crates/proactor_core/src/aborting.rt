@@ -1,6 +1,6 @@
 ghost use Rattle.std.specs.Prelude.{◌≡◌, ◌+◌, ◌≤◌, ◌++◌, IfNone, IfSome, [], filter, length, map, not};
 ghost use Rattle.std.specs.VecDeque.{deque_capacity, deque_len};
-ghost use Rattle.history_book.specs.Performing.{all_of_stream};
+ghost use Rattle.history_rules.specs.Performing.{all_of_stream};
 ghost use Rattle.proactor_core.specs.Aborting.{abort_of_pending, is_pending_op, pending_reads_go_first, IsFirstPending};
 ghost use Rattle.proactor_core.specs.Pending.{pending_read, pending_write};
 

@@ -1,5 +1,5 @@
 ghost use Rattle.std.specs.Prelude.{List, ℕ};
-ghost use Rattle.history_book.specs.State.{ReactorHalf};
+ghost use Rattle.history_rules.specs.State.{ReactorHalf};
 ghost use Rattle.session_script.specs.Script.{ScriptModel};
 ghost use Rattle.proactor_core.specs.Following.{FollowsHistories};
 ghost use Rattle.proactor_core.specs.Room.{HasRoomLeft, CallsKeepRoom};

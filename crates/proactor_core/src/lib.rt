@@ -4,6 +4,7 @@
 #![tactic(auto)]
 
 mod aborting;
+mod counts;
 mod due;
 mod held;
 mod law;

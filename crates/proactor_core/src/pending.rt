@@ -2,7 +2,7 @@ ghost use Rattle.std.specs.Prelude.{◌≡◌, ◌≤◌, [], IfSome, IsTrue, Li
 ghost use Rattle.asio_types.specs.Faults.{CountsFaults};
 ghost use Rattle.std.specs.VecDeque.{deque_capacity, deque_len};
 ghost use Rattle.stream_rules.specs.Queue.{reading_side, writing_side};
-ghost use Rattle.history_book.specs.Untold.{may_give_read, may_give_write};
+ghost use Rattle.history_rules.specs.Untold.{may_give_read, may_give_write};
 ghost use Rattle.proactor_core.specs.Pending.{pending_read, pending_write, AreReads, AreWrites, GivesDue, IsServedBy};
 ghost use Rattle.proactor_core.specs.Reactor.{tells, whole_told, ChangesOne, IsServable};
 

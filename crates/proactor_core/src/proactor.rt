@@ -1,15 +1,16 @@
-ghost use Rattle.std.specs.Prelude.{◌≡◌, ◌≤◌, ◌<◌, ◌+◌, ◌∷◌, ◌^◌, Some, None, [], count_by, length, replicate, slice_index_or, slice_set, false, true, IfErr, IfNone, IfOk, IfSome, IsTrue, OnErr, OnOk};
+ghost use Rattle.std.specs.Prelude.{◌≡◌, ◌≤◌, ◌<◌, ◌+◌, ◌∷◌, Some, None, [], count_by, length, replicate, slice_index_or, slice_set, false, true, IfErr, IfNone, IfOk, IfSome, IsTrue, OnErr, OnOk};
 ghost use Rattle.asio_types.specs.Faults.{Rose};
 ghost use Rattle.session_script.specs.Script.{act_of};
-ghost use Rattle.history_book.specs.Order.{was_taken};
-ghost use Rattle.history_book.specs.Performing.{performed};
-ghost use Rattle.history_book.specs.Requests.{MayTell, reactor_after_done, reactor_after_take, slot_in};
-ghost use Rattle.history_book.specs.Rounds.{IsDrained, is_held};
-ghost use Rattle.history_book.specs.Settling.{settled};
-ghost use Rattle.history_book.specs.State.{ReactorHalf, first_reactor};
-ghost use Rattle.history_book.specs.Time.{next_time, pending_count};
+ghost use Rattle.history_rules.specs.Order.{was_taken};
+ghost use Rattle.history_rules.specs.Performing.{performed};
+ghost use Rattle.history_rules.specs.Requests.{MayTell, reactor_after_done, reactor_after_take, slot_in};
+ghost use Rattle.history_rules.specs.Rounds.{IsDrained, is_held};
+ghost use Rattle.history_rules.specs.Settling.{settled};
+ghost use Rattle.history_rules.specs.State.{ReactorHalf, first_reactor};
+ghost use Rattle.history_rules.specs.Time.{next_time, pending_count};
 ghost use Rattle.reactor_trait.specs.Reactor.{state_at, state_ready};
 ghost use Rattle.proactor_core.specs.Proactor.{AreAtStart, CountsRefusal, Follows, FollowsInTurn, SetupIsRefused, IsSound, IsTurning, StandsAt, after_point, moved_state, point_ahead, tells};
+ghost use Rattle.proactor_core.specs.Counts.{within_32_bits};
 ghost use Rattle.proactor_core.specs.Room.{IsUntaken};
 ghost use Rattle.proactor_core.specs.Streams.{pending_in_all};
 ghost use Rattle.proactor_core.specs.Tables.{slot_left};
@@ -259,24 +260,35 @@ impl<'a, X: Reactor> Proactor<'a, X> {
         self.tables.was_taken(a)
     }
 
-    /// How many operations are pending, those that are due among them. Costs the number of streams.
-    pub fn pending(&self) -> u32
-        requires { IsSound X.state X.told self.now }
-        ensures count { result
-            ≡ length self.now.tables.waiting.waits + pending_in_all self.now.streams
-            + length self.now.tables.due.coming }
-        ensures half { (half : ReactorHalf) → Follows X.told self.now half →
-            result ≡ pending_count half }
+    /// The script that `start` got.
+    pub fn script(&self) -> &'a Script
+        ensures { result.now ≡ self.now.script }
     {
-        self.tables.waits() + self.streams.pending() + self.tables.count_due()
+        self.script
     }
 
-    /// How many guards hold the context.
-    pub fn guards(&self) -> u32
-        requires { length self.now.tables.guards < 2 ^ 32 }
-        ensures count { result ≡ count_by (λ held. held) self.now.tables.guards }
+    /// How many operations are pending, those that are due among them, as far as 32 bits count. May
+    /// be asked after a fault too. Costs the number of streams.
+    pub fn pending(&self) -> u32
+        ensures count { result
+            ≡ within_32_bits
+            (length self.now.tables.waiting.waits + pending_in_all self.now.streams
+            + length self.now.tables.due.coming) }
         ensures half { (half : ReactorHalf) → Follows X.told self.now half →
-            result ≡ count_by is_held half.guards }
+            result ≡ within_32_bits (pending_count half) }
+    {
+        self.tables
+            .waits()
+            .saturating_add(self.streams.pending())
+            .saturating_add(self.tables.count_due())
+    }
+
+    /// How many guards hold the context, as far as 32 bits count. May be asked after a fault too.
+    pub fn guards(&self) -> u32
+        ensures count { result
+            ≡ within_32_bits (count_by (λ held. held) self.now.tables.guards) }
+        ensures half { (half : ReactorHalf) → Follows X.told self.now half →
+            result ≡ within_32_bits (count_by is_held half.guards) }
     {
         self.tables.guards()
     }

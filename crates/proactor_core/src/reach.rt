@@ -1,8 +1,8 @@
 ghost use Rattle.std.specs.Prelude.{◌≡◌, ◌<◌, bit_and};
 ghost use Rattle.std.specs.Option.{ForSome};
 ghost use Rattle.session_script.specs.Script.{act_of};
-ghost use Rattle.history_book.specs.Requests.{slot_in};
-ghost use Rattle.history_book.specs.Kinds.{filter_of, slot_of, supported_by};
+ghost use Rattle.history_rules.specs.Requests.{slot_in};
+ghost use Rattle.history_rules.specs.Kinds.{filter_of, slot_of, supported_by};
 
 use asio_types::{OpNo, SlotNo, Types};
 use session_script::{Act, Script, acts_fit};

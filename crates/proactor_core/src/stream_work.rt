@@ -1,9 +1,10 @@
-ghost use Rattle.std.specs.Prelude.{◌≡◌, ◌<◌, ◌≤◌, ◌^◌, [], IfOk, IfSome, IsTrue, OnOk, false, length};
+ghost use Rattle.std.specs.Prelude.{◌≡◌, ◌<◌, ◌≤◌, [], IfOk, IfSome, IsTrue, OnOk, false, length};
 ghost use Rattle.asio_types.specs.Faults.{CountsFaults};
 ghost use Rattle.composed_ops.specs.StreamOperation.{most_moved};
 ghost use Rattle.composed_ops.specs.Machine.{progress_of};
 ghost use Rattle.composed_ops.specs.Progress.{new_progress, IsUnderWay};
-ghost use Rattle.history_book.specs.Performing.{all_of_stream, bad};
+ghost use Rattle.history_rules.specs.Performing.{all_of_stream, bad};
+ghost use Rattle.proactor_core.specs.Counts.{within_32_bits};
 ghost use Rattle.proactor_core.specs.Due.{listed};
 ghost use Rattle.proactor_core.specs.Pending.{reading_asked, writing_asked};
 ghost use Rattle.proactor_core.specs.Reactor.{tells, whole_told, ChangesOne, IsServable};
@@ -13,6 +14,7 @@ ghost use Rattle.proactor_core.specs.Untold.{AreUnderWay};
 ghost use Rattle.proactor_core.specs.Writing.{AsksToWrite};
 
 use crate::aborting::{abort_all, abort_in};
+use crate::counts::in_32_bits;
 use crate::due::DueList;
 use crate::held::HeldBytes;
 use crate::pending::{PendingOp, serve_reads, serve_writes};
@@ -171,10 +173,9 @@ impl<'a> StreamWork<'a> {
 
     /// How many operations are pending here.
     pub(crate) fn pending(&self) -> u32
-        requires { pending_on self.now < 2 ^ 32 }
-        ensures { result ≡ pending_on self.now }
+        ensures { result ≡ within_32_bits (pending_on self.now) }
     {
-        self.reads.len() as u32 + self.writes.len() as u32
+        in_32_bits(self.reads.len()).saturating_add(in_32_bits(self.writes.len()))
     }
 
     /// Whether it was closed.

@@ -1,11 +1,12 @@
-ghost use Rattle.std.specs.Prelude.{◌≡◌, ◌<◌, ◌≤◌, ◌^◌, ℕ, [], false, length, slice_index_or, vec_len, Some, IfOk, IfSome, IsTrue, OnOk};
+ghost use Rattle.std.specs.Prelude.{◌≡◌, ◌<◌, ◌≤◌, ℕ, [], false, length, slice_index_or, vec_len, Some, IfOk, IfSome, IsTrue, OnOk};
 ghost use Rattle.asio_types.specs.Faults.{CountsFaults};
 ghost use Rattle.composed_ops.specs.StreamOperation.{most_moved};
 ghost use Rattle.composed_ops.specs.Machine.{progress_of};
 ghost use Rattle.composed_ops.specs.Progress.{new_progress, IsUnderWay};
-ghost use Rattle.history_book.specs.Performing.{all_of_stream};
+ghost use Rattle.history_rules.specs.Performing.{all_of_stream};
 ghost use Rattle.session_script.specs.Script.{act_of};
 ghost use Rattle.session_script.specs.declared.act.Act.{Act as act};
+ghost use Rattle.proactor_core.specs.Counts.{within_32_bits};
 ghost use Rattle.proactor_core.specs.Due.{listed};
 ghost use Rattle.proactor_core.specs.Pending.{reading_asked, writing_asked};
 ghost use Rattle.proactor_core.specs.Reactor.{tells, whole_told, ChangesOne, IsServable};
@@ -141,12 +142,11 @@ impl<'a> Streams<'a> {
 
     /// How many operations are pending on all streams. Costs the number of streams.
     pub(crate) fn pending(&self) -> u32
-        requires { pending_in_all self.now < 2 ^ 32 }
-        ensures { result ≡ pending_in_all self.now }
+        ensures { result ≡ within_32_bits (pending_in_all self.now) }
     {
-        let mut pending = 0;
+        let mut pending = 0u32;
         for stream in 0..self.streams.len() {
-            pending += self.streams[stream].pending();
+            pending = pending.saturating_add(self.streams[stream].pending());
         }
         pending
     }

@@ -1,13 +1,15 @@
 ghost use Rattle.std.specs.Prelude.{◌≡◌, ◌≢◌, ◌<◌, ◌≤◌, ◌+◌, ◌∷◌, ◌^◌, All, Bool, [], count_by, filter, length, map, replicate, slice_index_or, true, IfNone, IfOk, IfSome};
 ghost use Rattle.std.specs.Option.{ForSome};
 ghost use Rattle.cancel_slots.specs.Slots.{chosen_by, connection_of};
-ghost use Rattle.history_book.specs.Performing.{is_wait_of};
-ghost use Rattle.history_book.specs.State.{first_reactor};
-ghost use Rattle.history_book.specs.Time.{least_of};
-ghost use Rattle.history_book.specs.Waiting.{expiry_in};
+ghost use Rattle.history_rules.specs.Performing.{is_wait_of};
+ghost use Rattle.history_rules.specs.State.{first_reactor};
+ghost use Rattle.history_rules.specs.Time.{least_of};
+ghost use Rattle.history_rules.specs.Waits.{expiry_in};
+ghost use Rattle.proactor_core.specs.Counts.{within_32_bits};
 ghost use Rattle.proactor_core.specs.Room.{HasRoomLeft};
 ghost use Rattle.proactor_core.specs.Tables.{act_taken, first_cancelled, guard_gone, point_passed, reactor_lost, slot_left, slot_taken, timer_cancelled, timer_set, wait_begun, wait_cancelled, waits_completed, with_tables};
 
+use crate::counts::in_32_bits;
 use crate::due::DueList;
 use crate::waits::Waits;
 use asio_types::{ActNo, GuardNo, NoMemory, OpNo, Point, SlotNo, TimerNo, Types};
@@ -275,17 +277,15 @@ impl Tables {
 
     /// How many guards hold the context.
     pub(crate) fn guards(&self) -> u32
-        requires { length self.now.guards < 2 ^ 32 }
-        ensures { result ≡ count_by (λ held. held) self.now.guards }
+        ensures { result ≡ within_32_bits (count_by (λ held. held) self.now.guards) }
     {
-        self.guards.iter().filter(|held| **held).count() as u32
+        in_32_bits(self.guards.iter().filter(|held| **held).count())
     }
 
     /// How many completions weren't told yet.
     pub(crate) fn count_due(&self) -> u32
-        requires { length self.now.due.coming < 2 ^ 32 }
-        ensures { result ≡ length self.now.due.coming }
+        ensures { result ≡ within_32_bits (length self.now.due.coming) }
     {
-        self.due.count() as u32
+        in_32_bits(self.due.count())
     }
 }

@@ -1,10 +1,10 @@
 ghost use Rattle.std.specs.Prelude.{◌≡◌, ◌<◌, ◌≤◌, ◌+◌, Some, None, find, length, slice_index_or, slice_set, true};
-ghost use Rattle.history_book.specs.Kinds.{reading_of, slot_of, writing_of};
-ghost use Rattle.history_book.specs.Performing.{closed_at, connected, emitted, expiry_set, guard_released, is_wait_of, one_of_stream_cancelled, one_wait_cancelled, performed, read_accepted, wait_accepted, waits_cancelled, with_taken, write_accepted};
-ghost use Rattle.history_book.specs.State.{ReactorHalf};
-ghost use Rattle.history_book.specs.Turns.{latest};
+ghost use Rattle.history_rules.specs.Kinds.{reading_of, slot_of, writing_of};
+ghost use Rattle.history_rules.specs.Performing.{closed_at, connected, emitted, expiry_set, guard_released, is_wait_of, one_of_stream_cancelled, one_wait_cancelled, performed, read_accepted, wait_accepted, waits_cancelled, with_taken, write_accepted};
+ghost use Rattle.history_rules.specs.State.{ReactorHalf};
+ghost use Rattle.history_rules.specs.Bounds.{latest};
 ghost use Rattle.proactor_core.specs.Following.{chosen_cancelled};
-ghost use Rattle.proactor_core.specs.Proactor.{IsAt, IsTurning, MayConnect, MayPerform, TakesAct, IsSound, tells};
+ghost use Rattle.proactor_core.specs.Proactor.{IsAt, IsTurning, MayConnect, MayPerform, MayTakeAct, TakesAct, IsSound, tells};
 ghost use Rattle.proactor_core.specs.Room.{IsUntaken};
 ghost use Rattle.session_script.specs.WellFormed.{IsWellFormed};
 ghost use Rattle.proactor_core.specs.Rooms.{waits_for};
@@ -49,8 +49,8 @@ impl<'a, X: Reactor> Proactor<'a, X> {
     }
 
     /// A timer is given a new expiry (`steady_timer::expires_at`).
-    pub(crate) fn take_expiry(&mut self, a: ActNo, timer: TimerNo, expiry: u64, act: &Act)
-        requires may { MayPerform X.state X.told a act.now self.old }
+    pub(crate) fn take_expiry(&mut self, a: ActNo, timer: TimerNo, expiry: u64)
+        requires may { MayTakeAct X.state X.told a self.old }
         requires timer { timer < length self.old.tables.waiting.expiries }
         requires within { expiry ≤ latest (self.old.tables.accepted + 1) }
         ensures turning { IsTurning X.state X.told self.new }
@@ -63,8 +63,8 @@ impl<'a, X: Reactor> Proactor<'a, X> {
     }
 
     /// The waits of a timer are cancelled (`steady_timer::cancel`).
-    pub(crate) fn take_cancel(&mut self, a: ActNo, timer: TimerNo, act: &Act)
-        requires may { MayPerform X.state X.told a act.now self.old }
+    pub(crate) fn take_cancel(&mut self, a: ActNo, timer: TimerNo)
+        requires may { MayTakeAct X.state X.told a self.old }
         requires timer { timer < length self.old.tables.waiting.expiries }
         ensures turning { IsTurning X.state X.told self.new }
         ensures takes { TakesAct a self.old self.new }
@@ -76,8 +76,8 @@ impl<'a, X: Reactor> Proactor<'a, X> {
     }
 
     /// The first wait of a timer is cancelled (`steady_timer::cancel_one`).
-    pub(crate) fn take_cancel_one(&mut self, a: ActNo, timer: TimerNo, act: &Act)
-        requires may { MayPerform X.state X.told a act.now self.old }
+    pub(crate) fn take_cancel_one(&mut self, a: ActNo, timer: TimerNo)
+        requires may { MayTakeAct X.state X.told a self.old }
         requires timer { timer < length self.old.tables.waiting.expiries }
         ensures turning { IsTurning X.state X.told self.new }
         ensures takes { TakesAct a self.old self.new }
@@ -90,8 +90,8 @@ impl<'a, X: Reactor> Proactor<'a, X> {
     }
 
     /// A guard is released (`executor_work_guard::reset`).
-    pub(crate) fn take_release(&mut self, a: ActNo, guard: GuardNo, act: &Act)
-        requires may { MayPerform X.state X.told a act.now self.old }
+    pub(crate) fn take_release(&mut self, a: ActNo, guard: GuardNo)
+        requires may { MayTakeAct X.state X.told a self.old }
         requires guard { guard < length self.old.tables.guards }
         ensures turning { IsTurning X.state X.told self.new }
         ensures takes { TakesAct a self.old self.new }
@@ -103,8 +103,8 @@ impl<'a, X: Reactor> Proactor<'a, X> {
     }
 
     /// An act that asks the reactor for nothing is taken.
-    pub(crate) fn take_other(&mut self, a: ActNo, act: &Act)
-        requires may { MayPerform X.state X.told a act.now self.old }
+    pub(crate) fn take_other(&mut self, a: ActNo)
+        requires may { MayTakeAct X.state X.told a self.old }
         ensures turning { IsTurning X.state X.told self.new }
         ensures takes { TakesAct a self.old self.new }
         ensures follows { (half : ReactorHalf) → IsAt X.told self.old half →
@@ -162,8 +162,8 @@ impl<'a, X: Reactor> Proactor<'a, X> {
     }
 
     /// A stream is closed (`basic_stream_socket::close`).
-    pub(crate) fn take_close(&mut self, a: ActNo, stream: StreamNo, act: &Act)
-        requires may { MayPerform X.state X.told a act.now self.old }
+    pub(crate) fn take_close(&mut self, a: ActNo, stream: StreamNo)
+        requires may { MayTakeAct X.state X.told a self.old }
         requires known { stream < length self.old.streams }
         ensures turning { IsTurning X.state X.told self.new }
         ensures taken { self.new.tables.taken ≡ slice_set self.old.tables.taken a true }
@@ -224,8 +224,8 @@ impl<'a, X: Reactor> Proactor<'a, X> {
     }
 
     /// The operation that is reached is cancelled, if there is one (`cancellation_signal::emit`).
-    pub(crate) fn take_emit(&mut self, a: ActNo, slot: SlotNo, types: Types, act: &Act)
-        requires may { MayPerform X.state X.told a act.now self.old }
+    pub(crate) fn take_emit(&mut self, a: ActNo, slot: SlotNo, types: Types)
+        requires may { MayTakeAct X.state X.told a self.old }
         requires slot { slot < length self.old.tables.slots }
         ensures turning { IsTurning X.state X.told self.new }
         ensures takes { TakesAct a self.old self.new }
@@ -264,21 +264,21 @@ impl<'a, X: Reactor> Proactor<'a, X> {
             Act::Wait { timer, .. } => self.take_wait(a, *timer, act),
             Act::Expires { timer, after } => {
                 let expiry = self.tables.now() + *after;
-                self.take_expiry(a, *timer, expiry, act);
+                self.take_expiry(a, *timer, expiry);
             }
-            Act::ExpiresAt { timer, at } => self.take_expiry(a, *timer, *at, act),
-            Act::Cancel { timer } => self.take_cancel(a, *timer, act),
-            Act::CancelOne { timer } => self.take_cancel_one(a, *timer, act),
-            Act::Emit { slot, types } => self.take_emit(a, *slot, *types, act),
-            Act::Close { stream } => self.take_close(a, *stream, act),
-            Act::Release { guard } => self.take_release(a, *guard, act),
+            Act::ExpiresAt { timer, at } => self.take_expiry(a, *timer, *at),
+            Act::Cancel { timer } => self.take_cancel(a, *timer),
+            Act::CancelOne { timer } => self.take_cancel_one(a, *timer),
+            Act::Emit { slot, types } => self.take_emit(a, *slot, *types),
+            Act::Close { stream } => self.take_close(a, *stream),
+            Act::Release { guard } => self.take_release(a, *guard),
             Act::ReadSome { stream, .. } => self.take_read(a, *stream, act),
             Act::ReadAll { stream, .. } => self.take_read(a, *stream, act),
             Act::Until { stream, .. } => self.take_read(a, *stream, act),
             Act::WriteSome { stream, .. } => self.take_write(a, *stream, act),
             Act::WriteAll { stream, .. } => self.take_write(a, *stream, act),
             Act::Post { .. } | Act::Defer { .. } | Act::Dispatch { .. } | Act::Stop => {
-                self.take_other(a, act);
+                self.take_other(a);
             }
         }
     }

@@ -1,8 +1,8 @@
 ghost use Rattle.std.specs.Prelude.{◌≡◌, ◌≢◌, ◌<◌, ◌≤◌, ◌+◌, ◌++◌, ◌∷◌, All, [], filter, find, length, map, replicate, slice_index_or, slice_set, IfNone, IfOk, IfSome, ℕ};
 ghost use Rattle.std.specs.Bool.{OnTrue, OnFalse};
-ghost use Rattle.history_book.specs.Performing.{aborted, is_wait_for, is_wait_of};
-ghost use Rattle.history_book.specs.Time.{least_of};
-ghost use Rattle.history_book.specs.Waiting.{expiry_in};
+ghost use Rattle.history_rules.specs.Performing.{aborted, is_wait_for, is_wait_of};
+ghost use Rattle.history_rules.specs.Time.{least_of};
+ghost use Rattle.history_rules.specs.Waits.{expiry_in};
 ghost use Rattle.proactor_core.specs.Due.{listed};
 ghost use Rattle.proactor_core.specs.Rooms.{acts_below, waits_for};
 ghost use Rattle.proactor_core.specs.Waits.{abort_of_one, aborts, expired, has_expired, no_waits, without, without_one, TakesExpired, TakesFirstOf};

@@ -2,7 +2,7 @@
 use Rattle.std.proofs.Common.{◌≤◌, ◌<◌, ◌^◌, ℕ, Bool, List, [], ◌∷◌, length, refl, arith, ap, sym, ◌≡◌, ◌∙◌, length-append}
 use Rattle.asio_types.specs.declared.event.Event.{Event}
 use Rattle.history_book.proofs.ReadingLemmas.{same_events}
-use Rattle.history_book.specs.Legal.{IsLegal}
+use Rattle.history_rules.specs.Legal.{IsLegal}
 use Rattle.history_book.specs.Trace.{AreEvents, line_end, line_of, trace_of}
 use Rattle.session_script.specs.Script.{ScriptModel}
 use Rattle.trace_check.proofs.EventLineLemmas.{line_is, text_of}

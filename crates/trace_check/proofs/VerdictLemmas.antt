@@ -5,8 +5,8 @@ use Rattle.std.proofs.Math.Seq.{split_at}
 use Rattle.std.proofs.lemmas.Bool.{cases_lt}
 use Rattle.std.proofs.lemmas.List.{length-take-le, take_more}
 use Rattle.asio_types.specs.declared.event.Event.{Event}
-use Rattle.history_book.specs.Legal.{IsLegalFrom, IsLegalSoFar, MayHappen, after_event, state_from, state_of}
-use Rattle.history_book.specs.State.{State, first_state}
+use Rattle.history_rules.specs.Legal.{IsLegalFrom, IsLegalSoFar, MayHappen, after_event, state_from, state_of}
+use Rattle.history_rules.specs.State.{State, first_state}
 use Rattle.session_script.specs.Script.{ScriptModel}
 use Rattle.trace_check.specs.Verdict.{IsIllegalAt, IsVerdict}
 use Rattle.trace_check.specs.declared.verdict.Verdict.{Verdict}

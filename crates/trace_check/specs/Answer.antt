@@ -2,7 +2,7 @@
 use Rattle.std.specs.Prelude.{◌≡◌, ◌⊎◌, ℕ, List, length, ⊤}
 use Rattle.asio_types.specs.Faults.{Rose}
 use Rattle.asio_types.specs.declared.event.Event.{Event}
-use Rattle.history_book.specs.Legal.{IsLegal}
+use Rattle.history_rules.specs.Legal.{IsLegal}
 use Rattle.session_script.specs.Script.{ScriptModel}
 use Rattle.session_script.specs.declared.refusal.Refusal.{Refusal}
 use Rattle.text_io.specs.Seen.{Seen, Writes, WritesPart}

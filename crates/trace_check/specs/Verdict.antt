@@ -1,7 +1,7 @@
 -- What is to be said of the events of a trace.
 use Rattle.std.specs.Prelude.{◌≡◌, ◌+◌, ℕ, Bool, List, ◌∷◌, ◌++◌, length}
 use Rattle.asio_types.specs.declared.event.Event.{Event}
-use Rattle.history_book.specs.Legal.{IsLegal, IsLegalSoFar, IsWhole, MayHappen, state_of}
+use Rattle.history_rules.specs.Legal.{IsLegal, IsLegalSoFar, IsWhole, MayHappen, state_of}
 use Rattle.session_script.specs.Script.{ScriptModel}
 use Rattle.trace_check.specs.declared.verdict.Verdict.{Verdict}
 use Rattle.trace_check.specs.declared.verdict.Verdict.TheVariants as verdict

@@ -1,5 +1,7 @@
 ghost use Rattle.trace_check.specs.Verdict.{VerdictsAreUnique};
-ghost use Rattle.trace_check.specs.ReadBack.{LegalTracesAreFoundLegal};
+ghost use Rattle.trace_check.specs.ReadBack.{AreFoundWhereLegal};
+
+use history_book::History;
 
 /// Events have one verdict.
 pub fn verdicts_are_unique()
@@ -7,8 +9,9 @@ pub fn verdicts_are_unique()
 {}
 
 /// The trace of a legal history is read as that history and no other, and its verdict is that it is
-/// legal. This is said of histories whose numbers fit their types and whose traces are no longer
-/// than is read.
-pub fn legal_traces_are_found_legal()
-    ensures { LegalTracesAreFoundLegal }
-{}
+/// legal: of every history that there is, whose trace is no longer than is read.
+pub fn legal_traces_are_found_legal(history: &History)
+    ensures { AreFoundWhereLegal history.now.events }
+{
+    history.holds_events();
+}

@@ -1,5 +1,5 @@
 ghost use Rattle.std.specs.Prelude.{◌≡◌, IfNone, IfSome, true, false};
-ghost use Rattle.history_book.specs.Rounds.{MayRestart};
+ghost use Rattle.history_rules.specs.Rounds.{MayRestart};
 ghost use Rattle.book_context.specs.BookSteps.{CannotClose, HasClosed, IsClosing, IsGoing};
 ghost use Rattle.book_context.specs.Recorded.{recorded_state};
 ghost use Rattle.book_context.specs.Recording.{with_closing, with_outside_stop, with_restart};

@@ -1,11 +1,11 @@
 ghost use Rattle.std.specs.Prelude.{◌≡◌, ◌≤◌, ◌<◌, ◌+◌, [], ◌∷◌, Contains, IfSome, IsTrue, None, false, length, map};
 ghost use Rattle.asio_types.specs.Faults.{Rose};
 ghost use Rattle.asio_types.specs.declared.event.Event.TheVariants as event;
-ghost use Rattle.history_book.specs.Legal.{IsLegal, state_of};
-ghost use Rattle.history_book.specs.Marks.{HasMarks};
+ghost use Rattle.history_rules.specs.Legal.{IsLegal, state_of};
+ghost use Rattle.history_rules.specs.Marks.{HasMarks};
 ghost use Rattle.proactor_core.specs.Proactor.{tells};
 ghost use Rattle.book_context.specs.BookSteps.{IsBookOver};
-ghost use Rattle.book_context.specs.Finish.{IsEnding};
+ghost use Rattle.book_context.specs.Finish.{GoesOnByDrops, IsEnding};
 ghost use Rattle.book_context.specs.InTurn.{KeepsFaults};
 ghost use Rattle.book_context.specs.Recorded.{recorded_half};
 
@@ -31,6 +31,7 @@ fn discard_next<'a, H: CompletionHandler, N: Session>(
     ensures script { recording.new.script ≡ recording.old.script }
     ensures half { recorded_half N.told recording.new ≡ recorded_half N.told recording.old }
     ensures faults { KeepsFaults recording.old recording.new }
+    ensures goes_on { GoesOnByDrops recording.old.events recording.new.events }
 {
     drops_are_recorded();
     let script = recording.script();
@@ -45,6 +46,7 @@ fn discard_next<'a, H: CompletionHandler, N: Session>(
 }
 
 /// Destroys the handlers that were accepted and never ran, in rising number.
+#[tactic(auto, using(crate::proofs::FinishLemmas::by_none, crate::proofs::FinishLemmas::by_more))]
 fn discard_unspent<'a, H: CompletionHandler, N: Session>(
     recording: &mut Record<'a>,
     hands: Hands<'a, H>,
@@ -55,6 +57,7 @@ fn discard_unspent<'a, H: CompletionHandler, N: Session>(
     ensures script { recording.new.script ≡ recording.old.script }
     ensures half { recorded_half N.told recording.new ≡ recorded_half N.told recording.old }
     ensures faults { KeepsFaults recording.old recording.new }
+    ensures goes_on { GoesOnByDrops recording.old.events recording.new.events }
 {
     let mut left = hands;
     for op in 0..recording.script().acts() {
@@ -66,9 +69,10 @@ fn discard_unspent<'a, H: CompletionHandler, N: Session>(
 impl<'a, X: Reactor, H: CompletionHandler, N: Session> Book<'a, X, H, N> {
     /// Destroys the handlers that never ran, in rising number, and gives the history and the
     /// reactor back. A handler whose operation was never accepted is destroyed too, and no event
-    /// shows it.
+    /// shows it. The history is the book's own, with the drops behind it.
     pub fn finish(self) -> (History, X)
         requires over { IsBookOver N.script self.recording }
+        ensures begins { GoesOnByDrops self.entry.recording.events result.0.events }
         ensures legal { IsLegal N.script N.told result.0.events }
         ensures marked { HasMarks N.run N.drop result.0.events }
         ensures unstopped { N.outside ≡ false → Contains result.0.events (event.Stop None) → ⊥ }

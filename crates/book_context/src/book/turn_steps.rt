@@ -1,6 +1,6 @@
 ghost use Rattle.std.specs.Prelude.{◌≡◌, ◌≢◌, ◌⊎◌, [], IfSome, false, true};
-ghost use Rattle.history_book.specs.Requests.{reactor_after_take};
-ghost use Rattle.history_book.specs.Time.{next_time};
+ghost use Rattle.history_rules.specs.Requests.{reactor_after_take};
+ghost use Rattle.history_rules.specs.Time.{next_time};
 ghost use Rattle.proactor_core.specs.Proactor.{after_point};
 ghost use Rattle.book_context.specs.Book.{KeepsHistory};
 ghost use Rattle.book_context.specs.BookSteps.{passed_event};

@@ -1,8 +1,8 @@
-ghost use Rattle.std.specs.Prelude.{◌≡◌, ◌<◌, ◌≤◌, ◌+◌, ◌^◌, [], count_by, false, length, true};
-ghost use Rattle.history_book.specs.Rounds.{is_held};
-ghost use Rattle.history_book.specs.State.{ReactorHalf};
-ghost use Rattle.history_book.specs.Time.{pending_count};
-ghost use Rattle.proactor_core.specs.Proactor.{Follows, IsSound};
+ghost use Rattle.std.specs.Prelude.{◌≡◌, ◌≤◌, ◌+◌, [], count_by, false, true};
+ghost use Rattle.history_rules.specs.Rounds.{is_held};
+ghost use Rattle.history_rules.specs.State.{ReactorHalf};
+ghost use Rattle.history_rules.specs.Time.{pending_count};
+ghost use Rattle.proactor_core.specs.Proactor.{Follows};
 ghost use Rattle.book_context.specs.Book.{KeepsHistory, KeepsReactor};
 ghost use Rattle.book_context.specs.InTurn.{SpendsNone, WaitsForOutside};
 ghost use Rattle.book_context.specs.Steps.{IsRoundOpen};
@@ -18,8 +18,6 @@ use reactor_trait::Reactor;
 
 /// Whether something is pending, or a guard holds the context.
 pub(super) fn has_work<X: Reactor>(proactor: &Proactor<'_, X>) -> bool
-    requires sound { IsSound X.state X.told proactor.now }
-    requires guards { length proactor.now.tables.guards < 2 ^ 32 }
     ensures some { result ≡ true → (half : ReactorHalf) → Follows X.told proactor.now half →
         1 ≤ pending_count half + count_by is_held half.guards }
     ensures none { result ≡ false → (half : ReactorHalf) → Follows X.told proactor.now half →

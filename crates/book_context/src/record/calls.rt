@@ -1,8 +1,8 @@
 //! What the calls of an execution do to what a context keeps.
 ghost use Rattle.std.specs.Prelude.{◌≡◌, ◌+◌, ◌≤◌, [], ◌∷◌, length};
 ghost use Rattle.session_script.specs.Script.{stops};
-ghost use Rattle.history_book.specs.Calls.{accepted};
-ghost use Rattle.history_book.specs.Order.{is_request};
+ghost use Rattle.history_rules.specs.Calls.{accepted};
+ghost use Rattle.history_rules.specs.Order.{is_request};
 ghost use Rattle.strand_core.specs.Execution.{events_of};
 ghost use Rattle.strand_core.specs.declared.posted.Posted.{Posted};
 ghost use Rattle.book_context.specs.Called.{are_stopping};

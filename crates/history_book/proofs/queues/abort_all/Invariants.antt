@@ -2,7 +2,7 @@ use Rattle.std.proofs.Common.{◌≡◌, ℕ, ◌+◌, ◌≤◌, ◌++◌, map,
 use Rattle.std.specs.VecDeque.{deque_capacity, deque_len}
 use Rattle.stream_rules.specs.Queue.{asked}
 use Rattle.stream_rules.specs.Serving.{Reading, Writing}
-use Rattle.history_book.specs.Performing.{all_of_stream}
+use Rattle.history_rules.specs.Performing.{all_of_stream}
 use Rattle.history_book.proofs.queues.abort_all.Given as goal
 
 abbrev pub invariant-loop-first : goal.invariant-loop-first

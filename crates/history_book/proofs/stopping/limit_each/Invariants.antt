@@ -1,5 +1,5 @@
 use Rattle.std.proofs.Common.{◌≡◌, map, take, drop, ◌++◌}
-use Rattle.history_book.specs.Stopping.{at_most_one}
+use Rattle.history_rules.specs.Stopping.{at_most_one}
 use Rattle.history_book.proofs.stopping.limit_each.Given as goal
 
 abbrev pub invariant-loop-strand : goal.invariant-loop-strand

@@ -1,7 +1,7 @@
 use Rattle.std.proofs.Common.{sym}
-use Rattle.history_book.specs.declared.waiting.Wait.{Wait}
-use Rattle.history_book.specs.Waiting.{expiry_in}
-use Rattle.history_book.proofs.TimeLemmas.{least-more}
+use Rattle.history_rules.specs.declared.wait.Wait.{Wait}
+use Rattle.history_rules.specs.Waits.{expiry_in}
+use Rattle.history_rules.proofs.TimeLemmas.{least-more}
 use Rattle.history_book.proofs.time_points.next_expiry.Goals as goal
 
 pub loop-wait-preserved : goal.loop-wait-preserved

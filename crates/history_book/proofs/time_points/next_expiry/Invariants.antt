@@ -1,6 +1,6 @@
 use Rattle.std.proofs.Common.{◌≡◌, filter, map, nat_lt, take}
-use Rattle.history_book.specs.Time.{least_of}
-use Rattle.history_book.specs.Waiting.{expiry_in}
+use Rattle.history_rules.specs.Time.{least_of}
+use Rattle.history_rules.specs.Waits.{expiry_in}
 use Rattle.history_book.proofs.time_points.next_expiry.Given as goal
 
 abbrev pub invariant-loop-wait : goal.invariant-loop-wait

@@ -1,5 +1,6 @@
 use Rattle.std.proofs.Common.{◌≡◌, ◌+◌, ◌≤◌, ◌++◌, take, vec_len, vec_capacity}
-use Rattle.history_book.specs.Waiting.{all_completed_with, is_chosen}
+use Rattle.history_rules.specs.Waits.{all_completed_with}
+use Rattle.history_book.specs.Waiting.{is_chosen}
 use Rattle.history_book.proofs.waiting.list_waits.Given as goal
 
 abbrev pub invariant-loop-wait : goal.invariant-loop-wait

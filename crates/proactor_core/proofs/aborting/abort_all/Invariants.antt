@@ -1,6 +1,6 @@
 use Rattle.std.proofs.Common.{◌≡◌, ◌+◌, ◌≤◌, ◌++◌, length, map}
 use Rattle.std.specs.VecDeque.{deque_capacity, deque_len}
-use Rattle.history_book.specs.Performing.{all_of_stream}
+use Rattle.history_rules.specs.Performing.{all_of_stream}
 use Rattle.proactor_core.specs.Pending.{pending_read, pending_write}
 use Rattle.proactor_core.proofs.aborting.abort_all.Given as goal
 

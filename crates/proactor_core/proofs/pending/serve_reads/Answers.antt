@@ -3,7 +3,7 @@ use Rattle.std.specs.List.{All}
 use Rattle.stream_rules.specs.Queue.{Pending}
 use Rattle.stream_rules.specs.Serving.{Reading}
 use Rattle.composed_ops.specs.StreamOperation.{StreamOperation}
-use Rattle.history_book.specs.Untold.{may_give_read}
+use Rattle.history_rules.specs.Untold.{may_give_read}
 use Rattle.proactor_core.specs.declared.pending.PendingOp.{PendingOp}
 use Rattle.proactor_core.specs.Due.{Due}
 use Rattle.proactor_core.specs.Pending.{pending_read, progress_in, reading_asked, unmoved, IsNewRead}

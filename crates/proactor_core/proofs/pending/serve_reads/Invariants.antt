@@ -2,7 +2,7 @@ use Rattle.std.proofs.Common.{◌≡◌, ◌<◌, ◌≤◌, length, map}
 use Rattle.std.specs.Option.{IfSome}
 use Rattle.std.specs.VecDeque.{deque_capacity, deque_len}
 use Rattle.stream_rules.specs.Queue.{reading_side}
-use Rattle.history_book.specs.Untold.{may_give_read}
+use Rattle.history_rules.specs.Untold.{may_give_read}
 use Rattle.proactor_core.specs.Pending.{pending_read, AreReads}
 use Rattle.proactor_core.specs.Reactor.{tells, whole_told, ChangesOne}
 use Rattle.proactor_core.proofs.QueueLemmas.{GivesSoFar, RulesSoFar}

@@ -3,7 +3,7 @@ use Rattle.std.proofs.lemmas.Grind.{common_steps}
 use Rattle.stream_rules.specs.Queue.{Pending, writing_side}
 use Rattle.stream_rules.specs.Serving.{Writing}
 use Rattle.composed_ops.specs.StreamOperation.{StreamOperation}
-use Rattle.history_book.specs.Untold.{may_give_write}
+use Rattle.history_rules.specs.Untold.{may_give_write}
 use Rattle.proactor_core.specs.declared.pending.PendingOp.{PendingOp}
 use Rattle.proactor_core.specs.Due.{Due}
 use Rattle.proactor_core.specs.Pending.{pending_write, progress_in, writing_asked, unmoved}

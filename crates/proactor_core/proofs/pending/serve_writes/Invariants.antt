@@ -2,7 +2,7 @@ use Rattle.std.proofs.Common.{◌≡◌, ℕ, ◌<◌, ◌≤◌, List, length, 
 use Rattle.std.specs.Option.{IfSome}
 use Rattle.std.specs.VecDeque.{deque_capacity, deque_len}
 use Rattle.stream_rules.specs.Queue.{writing_side}
-use Rattle.history_book.specs.Untold.{may_give_write}
+use Rattle.history_rules.specs.Untold.{may_give_write}
 use Rattle.proactor_core.specs.Pending.{pending_write, AreWrites}
 use Rattle.proactor_core.specs.Reactor.{tells, whole_told, ChangesOne}
 use Rattle.proactor_core.proofs.QueueLemmas.{GivesSoFar, RulesSoFar}

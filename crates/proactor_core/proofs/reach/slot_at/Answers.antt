@@ -1,5 +1,5 @@
 use Rattle.std.proofs.Common.{sym, ap, ◌∙◌, arith}
-use Rattle.history_book.specs.Requests.{slot_in}
+use Rattle.history_rules.specs.Requests.{slot_in}
 use Rattle.proactor_core.proofs.KnownLemmas.{no-act, slot-known}
 use Rattle.proactor_core.proofs.reach.slot_at.Goals as goal
 

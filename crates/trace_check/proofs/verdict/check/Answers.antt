@@ -1,6 +1,6 @@
 use Rattle.std.proofs.Common.{arith, get_or, refl, sym, take, ◌∙◌}
 use Rattle.asio_types.specs.declared.event.Event.TheVariants as event
-use Rattle.history_book.specs.Legal.{state_of}
+use Rattle.history_rules.specs.Legal.{state_of}
 use Rattle.trace_check.proofs.VerdictLemmas.{after_here, illegal_at, legal_more, may_here, state_more}
 use Rattle.trace_check.proofs.verdict.check.Goals as goal
 

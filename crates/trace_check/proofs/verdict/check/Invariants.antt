@@ -1,5 +1,5 @@
 use Rattle.std.proofs.Common.{◌≡◌, take}
-use Rattle.history_book.specs.Legal.{IsLegalSoFar, state_of}
+use Rattle.history_rules.specs.Legal.{IsLegalSoFar, state_of}
 use Rattle.trace_check.proofs.verdict.check.Given as goal
 
 abbrev pub invariant-loop-i : goal.invariant-loop-i

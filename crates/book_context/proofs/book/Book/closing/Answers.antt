@@ -1,7 +1,5 @@
-use Rattle.std.proofs.Common.{refl, sym, ap, arith}
+use Rattle.std.proofs.Common.{refl, sym}
 use Rattle.book_context.proofs.ClosingLemmas.{cannot_asked, cannot_ready, cannot_run, may_end, may_poll, may_stop}
-use Rattle.book_context.proofs.FollowsLemmas.{sound_guards}
-use Rattle.book_context.proofs.OpenRoundLemmas.{few_guards}
 use Rattle.book_context.proofs.book.Book.closing.Goals as goal
 
 pub returns-then-stopped-clause-closes : goal.returns-then-stopped-clause-closes
@@ -26,14 +24,6 @@ returns-then-not-is_request_empty-clause-cannot g c =
     (cannot_asked g.X.Reactor.state g.X.Reactor.told g.X.Reactor.faults g.N.Session.told g.N.Session.faults c.self.inside.record
     c.self.inside.proactor c.self.invariant.history.recorded c.self.invariant.reactor
     (sym c.if-failed.ensures) (sym c.if-stopped.ensures) c.rounds_are_recorded.ensures.work (c.if-not-is_request_empty.ensures.some refl))
-
-pub has_work-requires-clause-guards : goal.has_work-requires-clause-guards
-has_work-requires-clause-guards g c =
-    let same = sound_guards g.X.Reactor.state g.X.Reactor.told c.self.inside.proactor
-    (c.self.invariant.reactor.turned (sym c.if-failed.ensures)).telling.sound in
-    let script = ap (λ s. s.guards) c.self.invariant.reactor.script in
-    let few = few_guards c.self.inside.record.script c.self.invariant.history.recorded.script in
-    omega (arith, same, script, few)
 
 pub returns-then-not-has_work-clause-closes : goal.returns-then-not-has_work-clause-closes
 returns-then-not-has_work-clause-closes g c =

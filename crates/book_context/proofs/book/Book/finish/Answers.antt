@@ -1,7 +1,8 @@
 use Rattle.std.proofs.Common.{◌∙◌, ap, sym, subst}
-use Rattle.history_book.specs.FromOutside.{has_outside_stop}
+use Rattle.history_rules.specs.FromOutside.{has_outside_stop}
 use Rattle.book_context.specs.Book.{BookView}
 use Rattle.book_context.specs.BookSteps.{IsBookOver}
+use Rattle.book_context.specs.Finish.{GoesOnByDrops}
 use Rattle.book_context.proofs.FinishLemmas.{no_stop}
 use Rattle.book_context.proofs.FinishOverLemmas.{begin_ending, over_legal, rose_at_end, sent_at_end, stood_at_end}
 use Rattle.book_context.proofs.book.Book.finish.Goals as goal
@@ -44,3 +45,10 @@ returns-clause-sent g c =
     sent_at_end c.self.invariant.history c.self.invariant.reactor c.discard_unspent-left.new.recording c.into_history.result.events
     (ap (λ h. h.events) c.into_history.ensures) discarded.faults c.into_reactor.result c.into_reactor.ensures.stands
     (discarded.script ∙ c.self.invariant.history.is_script) discarded.half
+
+pub returns-clause-begins : goal.returns-clause-begins
+returns-clause-begins g c =
+    subst (λ events. GoesOnByDrops c.args.self.recording.events events)
+    (sym (ap (λ h. h.events) c.into_history.ensures))
+    (subst (λ (v : BookView g.row.X.Denot). GoesOnByDrops v.recording.events c.discard_unspent-left.new.recording.events)
+    c.self.view_is c.discard_unspent-left.ensures.goes_on)

@@ -2,7 +2,7 @@ use Rattle.std.proofs.Common.{refl, sym, ap, subst, ◌∙◌}
 use Rattle.std.specs.Option.{option_map}
 use Rattle.op_handlers.specs.Rack.{handler_at}
 use Rattle.session_script.specs.Script.{is_op}
-use Rattle.history_book.specs.State.{first_reactor}
+use Rattle.history_rules.specs.State.{first_reactor}
 use Rattle.proactor_core.specs.Proactor.{Follows}
 use Rattle.book_context.specs.Left.{most_history}
 use Rattle.book_context.specs.Recording.{HasCalledOpening, new_recording}

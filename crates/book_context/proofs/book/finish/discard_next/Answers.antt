@@ -2,10 +2,11 @@ use Rattle.std.proofs.Common.{◌≡◌, ◌+◌, ◌∙◌, true, false, inl, i
 use Rattle.std.specs.List.{slice_index_or}
 use Rattle.session_script.specs.Lanes.{is_inline}
 use Rattle.session_script.specs.Script.{ScriptModel, is_op}
-use Rattle.book_context.specs.Finish.{IsEnding}
 use Rattle.book_context.specs.InTurn.{KeepsFaults}
 use Rattle.book_context.specs.Recorded.{recorded_half}
-use Rattle.book_context.proofs.FinishLemmas.{drop_faults, drop_half, drop_next, dropped, none_else, pass_other, pass_spent}
+use Rattle.book_context.specs.Recording.{Recording}
+use Rattle.book_context.specs.Finish.{GoesOnByDrops, IsEnding}
+use Rattle.book_context.proofs.FinishLemmas.{by_none, by_one, drop_faults, drop_half, drop_next, dropped, none_else, pass_other, pass_spent}
 use Rattle.book_context.proofs.book.finish.discard_next.Given as given
 use Rattle.book_context.proofs.book.finish.discard_next.Goals as goal
 use Rattle.book_context.proofs.book.finish.discard_next.Goals.{After-discard-rest}
@@ -79,3 +80,14 @@ returns-in_default-clause-ending g c =
     let discarded = c.discard-rest.ensures in
     pass_spent c.requires.ending law.unspent c.discard-rest.result.0 discarded.script discarded.after law.passes
     (sym discarded.mark ∙ none_else c.discard-rest.result.1 c.in_default.not-Some)
+
+pub returns-then-not-is_op-clause-goes_on : goal.returns-then-not-is_op-clause-goes_on
+returns-then-not-is_op-clause-goes_on g c = by_none c.args.recording.now.events
+
+pub returns-in-Some-clause-goes_on : goal.returns-in-Some-clause-goes_on
+returns-in-Some-clause-goes_on g c =
+    subst (λ (r : Recording). GoesOnByDrops c.args.recording.now.events r.events) (sym c.push.ensures)
+    (by_one c.args.op c.in-Some.mark c.args.recording.now.events)
+
+pub returns-in_default-clause-goes_on : goal.returns-in_default-clause-goes_on
+returns-in_default-clause-goes_on g c = by_none c.args.recording.now.events

@@ -1,5 +1,5 @@
 use Rattle.std.proofs.Common.{inl, refl, sym, ap, subst, ◌∙◌}
-use Rattle.history_book.specs.Requests.{reactor_after_take}
+use Rattle.history_rules.specs.Requests.{reactor_after_take}
 use Rattle.proactor_core.specs.Proactor.{Follows, tells}
 use Rattle.book_context.specs.Recorded.{recorded_half}
 use Rattle.book_context.specs.Oldest.{with_request}

@@ -1,5 +1,5 @@
 use Rattle.std.proofs.Common.{sym, ap, subst, ◌∙◌}
-use Rattle.history_book.specs.Time.{next_time}
+use Rattle.history_rules.specs.Time.{next_time}
 use Rattle.proactor_core.specs.Proactor.{Follows, after_point, tells}
 use Rattle.book_context.specs.Recorded.{recorded_half}
 use Rattle.book_context.proofs.ReactorTurnLemmas.{begun_turn, lost_keeps, next_moved, now-point, now_turned, whole_keeps, whole_turned}

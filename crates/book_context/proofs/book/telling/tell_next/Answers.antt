@@ -4,7 +4,7 @@ use Rattle.book_context.specs.InTurn.{HasOnlyTold, IsInTurn}
 use Rattle.book_context.specs.Recorded.{recorded_half}
 use Rattle.book_context.specs.TurnSteps as steps
 use Rattle.book_context.proofs.ToldLemmas.{done_history, done_told, done_turn, step, still_works, turned-none}
-use Rattle.history_book.specs.Requests.{slot_in}
+use Rattle.history_rules.specs.Requests.{slot_in}
 use Rattle.session_script.specs.Script.{act_of}
 use Rattle.book_context.proofs.book.telling.tell_next.Given as given
 use Rattle.book_context.proofs.book.telling.tell_next.Goals as goal

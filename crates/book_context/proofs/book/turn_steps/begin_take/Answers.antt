@@ -1,5 +1,5 @@
 use Rattle.std.proofs.Common.{refl, sym, subst}
-use Rattle.history_book.specs.Requests.{reactor_after_take}
+use Rattle.history_rules.specs.Requests.{reactor_after_take}
 use Rattle.book_context.specs.Book.{KeepsHistory}
 use Rattle.book_context.specs.InTurn.{HasBegun}
 use Rattle.book_context.specs.Oldest.{with_request}

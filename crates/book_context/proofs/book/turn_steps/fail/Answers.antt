@@ -1,5 +1,5 @@
 use Rattle.std.proofs.Common.{ap, refl, sym, subst}
-use Rattle.history_book.specs.State.{State}
+use Rattle.history_rules.specs.State.{State}
 use Rattle.book_context.specs.Book.{KeepsHistory}
 use Rattle.book_context.specs.InTurn.{HasBroken}
 use Rattle.book_context.specs.TurnSteps as steps

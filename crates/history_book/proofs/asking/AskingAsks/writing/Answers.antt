@@ -1,5 +1,5 @@
 use Rattle.std.proofs.Common.{arith}
-use Rattle.history_book.proofs.LimitLemmas.{size-below}
+use Rattle.history_rules.proofs.LimitLemmas.{size-below}
 use Rattle.history_book.proofs.asking.AskingAsks.writing.Goals as goal
 
 pub returns-in-WriteSome-clause-countable : goal.returns-in-WriteSome-clause-countable

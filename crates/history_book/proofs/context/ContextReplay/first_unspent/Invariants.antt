@@ -1,7 +1,7 @@
 use Rattle.std.proofs.Common.{◌≡◌, ℕ, ◌<◌}
 use Rattle.std.specs.Prelude.{false}
-use Rattle.history_book.specs.Rounds.{is_unspent}
-use Rattle.history_book.specs.State.{phase_at}
+use Rattle.history_rules.specs.Rounds.{is_unspent}
+use Rattle.history_rules.specs.State.{phase_at}
 use Rattle.history_book.proofs.context.ContextReplay.first_unspent.Given as goal
 
 abbrev pub invariant-loop-n : goal.invariant-loop-n

@@ -1,5 +1,5 @@
 use Rattle.std.proofs.Common.{sym, ap, ◌∙◌, below_more, rules}
-use Rattle.history_book.specs.Order.{goes_before}
+use Rattle.history_rules.specs.Order.{goes_before}
 use Rattle.history_book.proofs.context.ContextReplay.is_first_of_lane.Goals as goal
 use Rattle.history_book.proofs.context.ContextReplay.is_first_of_lane.Goals.{else-eq-via-then-eq+else-goes_before, else-eq-via-else-eq}
 

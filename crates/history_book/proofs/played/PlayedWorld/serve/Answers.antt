@@ -3,7 +3,7 @@ use Rattle.std.proofs.lemmas.List.{length-map}
 use Rattle.stream_rules.specs.Pipes.{pipe_stream}
 use Rattle.stream_rules.specs.Stream.{Stream}
 use Rattle.history_book.specs.Asking.{queues_of}
-use Rattle.history_book.specs.Settling.{served_stream}
+use Rattle.history_rules.specs.Settling.{served_stream}
 use Rattle.history_book.proofs.PlayedLemmas.{played-changed}
 use Rattle.history_book.proofs.played.PlayedWorld.serve.Goals as goal
 

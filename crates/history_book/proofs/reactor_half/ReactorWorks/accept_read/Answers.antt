@@ -1,8 +1,8 @@
 use Rattle.std.proofs.Common.{◌++◌, ◌∷◌, [], length, refl, ap, ◌∙◌, arith}
 use Rattle.std.proofs.lemmas.List.{map-append, length-append}
 use Rattle.history_book.specs.Asking.{asked_reading, IsReading}
-use Rattle.history_book.specs.Performing.{new_pending}
-use Rattle.history_book.specs.State.{StreamQueues}
+use Rattle.history_rules.specs.Performing.{new_pending}
+use Rattle.history_rules.specs.State.{StreamQueues}
 use Rattle.history_book.proofs.RoomLemmas.{queues-at, queues-changed, size-of, AreQueues-at, IsRoomy-changed, All-push}
 use Rattle.history_book.proofs.reactor_half.ReactorWorks.accept_read.Goals as goal
 

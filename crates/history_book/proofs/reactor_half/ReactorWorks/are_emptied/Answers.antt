@@ -2,7 +2,7 @@ use Rattle.std.proofs.Common.{map}
 use Rattle.std.specs.Bool.{IsTrue}
 use Rattle.std.specs.List.{All}
 use Rattle.history_book.specs.Asking.{queues_of}
-use Rattle.history_book.specs.Rounds.{IsEmptied}
+use Rattle.history_rules.specs.Rounds.{IsEmptied}
 use Rattle.history_book.proofs.RoomLemmas.{all-emptied, emptied-all}
 use Rattle.history_book.proofs.reactor_half.ReactorWorks.are_emptied.Goals as goal
 

@@ -1,5 +1,5 @@
 use Rattle.asio_types.specs.declared.code.Code.TheVariants as code
-use Rattle.history_book.specs.Performing.{is_wait_of}
+use Rattle.history_rules.specs.Performing.{is_wait_of}
 use Rattle.history_book.proofs.RoomLemmas.{IsRoomy-completed}
 use Rattle.history_book.proofs.reactor_half.ReactorWorks.cancel.Goals as goal
 

@@ -1,8 +1,8 @@
 use Rattle.std.proofs.Common.{◌≡◌, ◌++◌, length, not, filter, ap, sym, ◌∙◌, append_assoc, arith}
 use Rattle.history_book.specs.Asking.{asked_reading, asked_writing, queues_of, IsReading, IsWriting}
-use Rattle.history_book.specs.Performing.{all_aborted, is_of}
+use Rattle.history_rules.specs.Performing.{all_aborted, is_of}
 use Rattle.history_book.specs.Queues.{aborts_of, is_queued}
-use Rattle.history_book.specs.State.{StreamQueues}
+use Rattle.history_rules.specs.State.{StreamQueues}
 use Rattle.history_book.proofs.QueuesLemmas.{filter-asked, aborts-asked}
 use Rattle.history_book.proofs.RoomLemmas.{queues-at, queues-changed, size-pending, AreQueues-at, IsRoomy-changed, All-left, left-count}
 use Rattle.history_book.proofs.reactor_half.ReactorWorks.cancel_in_stream.Goals as goal

@@ -1,5 +1,5 @@
 use Rattle.std.proofs.Common.{arith}
-use Rattle.history_book.proofs.LimitLemmas.{time-below}
+use Rattle.history_rules.proofs.LimitLemmas.{time-below}
 use Rattle.history_book.proofs.reactor_half.ReactorWorks.perform.Goals as goal
 
 pub overflow_add-now : goal.overflow_add-now

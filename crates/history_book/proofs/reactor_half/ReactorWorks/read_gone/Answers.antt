@@ -2,7 +2,7 @@ use Rattle.std.proofs.Common.{length, drop, refl, ap, ◌∙◌, arith}
 use Rattle.std.proofs.lemmas.List.{length-drop, drop-map}
 use Rattle.stream_rules.specs.Queue.{asked}
 use Rattle.history_book.specs.Asking.{asked_reading, IsReading}
-use Rattle.history_book.specs.State.{StreamQueues}
+use Rattle.history_rules.specs.State.{StreamQueues}
 use Rattle.history_book.proofs.RoomLemmas.{queues-changed, AreQueues-at, IsRoomy-changed, All-behind}
 use Rattle.history_book.proofs.reactor_half.ReactorWorks.read_gone.Goals as goal
 

@@ -3,7 +3,7 @@ use Rattle.std.proofs.lemmas.List.{length-set, length-map, map-set}
 use Rattle.stream_rules.specs.World.{stream_at}
 use Rattle.history_book.specs.Asking.{queues_of}
 use Rattle.history_book.specs.Played.{Played}
-use Rattle.history_book.specs.Settling.{served_stream}
+use Rattle.history_rules.specs.Settling.{served_stream}
 use Rattle.history_book.proofs.RoomLemmas.{queues-at, size-pending, AreQueues-at, IsRoomy-changed, IsRoomy-streams}
 use Rattle.history_book.proofs.reactor_half.ReactorWorks.serve.Goals as goal
 use Rattle.history_book.proofs.reactor_half.ReactorWorks.serve.Goals.{After-index_mut-queues}

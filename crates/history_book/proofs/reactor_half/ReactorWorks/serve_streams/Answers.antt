@@ -1,5 +1,5 @@
 use Rattle.std.proofs.Common.{arith}
-use Rattle.history_book.proofs.SettlingLemmas.{length-served_below}
+use Rattle.history_rules.proofs.SettlingLemmas.{length-served_below}
 use Rattle.history_book.proofs.reactor_half.ReactorWorks.serve_streams.Goals as goal
 
 pub serve-requires : goal.serve-requires

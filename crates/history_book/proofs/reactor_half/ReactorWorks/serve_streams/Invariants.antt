@@ -1,5 +1,5 @@
 use Rattle.std.proofs.Common.{◌≡◌, length}
-use Rattle.history_book.specs.Settling.{served_below}
+use Rattle.history_rules.specs.Settling.{served_below}
 use Rattle.history_book.proofs.reactor_half.ReactorWorks.serve_streams.Given as goal
 
 abbrev pub invariant-loop-stream : goal.invariant-loop-stream

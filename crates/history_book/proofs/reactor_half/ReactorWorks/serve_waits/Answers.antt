@@ -2,7 +2,7 @@ use Rattle.asio_types.specs.declared.code.Code.TheVariants as code
 use Rattle.history_book.specs.Waiting.{is_chosen}
 use Rattle.history_book.specs.declared.waiting.Which.TheVariants as which
 use Rattle.history_book.proofs.RoomLemmas.{IsRoomy-completed}
-use Rattle.history_book.proofs.SettlingLemmas.{due-together}
+use Rattle.history_rules.proofs.SettlingLemmas.{due-together}
 use Rattle.history_book.proofs.reactor_half.ReactorWorks.serve_waits.Goals as goal
 
 pub invariant_of-self : goal.invariant_of-self

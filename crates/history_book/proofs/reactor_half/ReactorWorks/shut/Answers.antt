@@ -1,11 +1,11 @@
 use Rattle.std.proofs.Common.{◌++◌, [], true, length, set, ap, sym, ◌∙◌, arith}
 use Rattle.std.proofs.lemmas.List.{length-set}
 use Rattle.history_book.specs.Asking.{asked_reading, asked_writing, IsReading, IsWriting}
-use Rattle.history_book.specs.Performing.{all_of_stream}
+use Rattle.history_rules.specs.Performing.{all_of_stream}
 use Rattle.stream_rules.specs.Stream.{closed_stream}
 use Rattle.stream_rules.specs.World.{stream_at}
 use Rattle.history_book.specs.Played.{Played}
-use Rattle.history_book.specs.State.{StreamQueues}
+use Rattle.history_rules.specs.State.{StreamQueues}
 use Rattle.history_book.proofs.QueuesLemmas.{all-count}
 use Rattle.history_book.proofs.RoomLemmas.{queues-at, queues-changed, size-pending, AreQueues-at, IsRoomy-changed, IsRoomy-streams, All-none}
 use Rattle.history_book.proofs.reactor_half.ReactorWorks.shut.Goals as goal

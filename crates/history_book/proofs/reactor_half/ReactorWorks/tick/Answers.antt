@@ -1,9 +1,9 @@
 use Rattle.std.proofs.Common.{length, map, ap, ◌∙◌}
 use Rattle.history_book.specs.Played.{Played}
-use Rattle.history_book.specs.Waiting.{expiry_in}
+use Rattle.history_rules.specs.Waits.{expiry_in}
 use Rattle.history_book.proofs.PlayedLemmas.{length-played_at}
 use Rattle.history_book.proofs.RoomLemmas.{IsRoomy-streams}
-use Rattle.history_book.proofs.TimeLemmas.{next-above}
+use Rattle.history_rules.proofs.TimeLemmas.{next-above}
 use Rattle.history_book.proofs.reactor_half.ReactorWorks.tick.Goals as goal
 
 pub tick-requires-clause-ahead : goal.tick-requires-clause-ahead

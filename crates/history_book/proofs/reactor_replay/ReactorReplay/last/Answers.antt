@@ -1,5 +1,5 @@
-use Rattle.history_book.specs.Time.{at_last}
-use Rattle.history_book.proofs.PerformingLemmas.{together-ahead}
+use Rattle.history_rules.specs.Time.{at_last}
+use Rattle.history_rules.proofs.PerformingLemmas.{together-ahead}
 use Rattle.history_book.proofs.SettledLemmas.{IsSettled-last}
 use Rattle.history_book.proofs.reactor_replay.ReactorReplay.last.Goals as goal
 

@@ -1,6 +1,6 @@
 use Rattle.std.proofs.Common.{arith}
 use Rattle.session_script.specs.Script.{act_of}
-use Rattle.history_book.proofs.PerformingLemmas.{performs-by}
+use Rattle.history_rules.proofs.PerformingLemmas.{performs-by}
 use Rattle.history_book.proofs.SettledLemmas.{IsSettled-take, has-place, now-soon, room-left}
 use Rattle.history_book.proofs.reactor_replay.ReactorReplay.take.Goals as goal
 

@@ -1,8 +1,8 @@
 use Rattle.std.proofs.Common.{◌≡◌, ℕ, ◌<◌}
 use Rattle.std.specs.Prelude.{true}
-use Rattle.history_book.specs.Order.{was_taken}
-use Rattle.history_book.specs.Rounds.{is_quiet}
-use Rattle.history_book.specs.State.{phase_at}
+use Rattle.history_rules.specs.Order.{was_taken}
+use Rattle.history_rules.specs.Rounds.{is_quiet}
+use Rattle.history_rules.specs.State.{phase_at}
 use Rattle.history_book.proofs.replay.Replay.all_quiet.Given as goal
 
 abbrev pub invariant-loop-n : goal.invariant-loop-n

@@ -1,7 +1,7 @@
 use Rattle.std.proofs.Common.{◌≡◌, ℕ, ◌<◌}
 use Rattle.std.specs.Prelude.{true, false}
-use Rattle.history_book.specs.Order.{is_untaken, is_back_before}
-use Rattle.history_book.specs.State.{call_at}
+use Rattle.history_rules.specs.Order.{is_untaken, is_back_before}
+use Rattle.history_rules.specs.State.{call_at}
 use Rattle.history_book.proofs.replay.Replay.is_first_request.Given as goal
 
 abbrev pub invariant-loop-n : goal.invariant-loop-n

@@ -1,5 +1,5 @@
 use Rattle.std.proofs.Common.{◌≡◌, set, sym, ap, subst, ◌∙◌}
-use Rattle.history_book.specs.Performing.{one_of_stream_cancelled}
+use Rattle.history_rules.specs.Performing.{one_of_stream_cancelled}
 use Rattle.proactor_core.specs.Proactor.{IsAt, IsTurning, ProactorView}
 use Rattle.proactor_core.specs.Due.{listed}
 use Rattle.proactor_core.specs.Streams.{aborts_of_op, stream_in, without_op}

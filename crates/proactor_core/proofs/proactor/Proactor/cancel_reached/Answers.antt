@@ -1,5 +1,5 @@
 use Rattle.std.proofs.Common.{refl, ap, arith}
-use Rattle.history_book.specs.Performing.{is_wait_for}
+use Rattle.history_rules.specs.Performing.{is_wait_for}
 use Rattle.proactor_core.specs.Proactor.{ProactorView}
 use Rattle.proactor_core.specs.StreamRooms.{stream_read, stream_written}
 use Rattle.proactor_core.specs.Tables.{TableState, wait_cancelled}

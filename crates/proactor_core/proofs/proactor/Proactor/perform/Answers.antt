@@ -1,6 +1,6 @@
 use Rattle.std.proofs.Common.{ap, subst, ◌∙◌, arith}
 use Rattle.session_script.specs.WellFormed.{FitsAct, header_of}
-use Rattle.history_book.proofs.LimitLemmas.{time-below}
+use Rattle.history_rules.proofs.LimitLemmas.{time-below}
 use Rattle.proactor_core.specs.Proactor.{ProactorView}
 use Rattle.proactor_core.proofs.proactor.Proactor.perform.Goals as goal
 

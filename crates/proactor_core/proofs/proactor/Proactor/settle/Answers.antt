@@ -1,7 +1,7 @@
 use Rattle.std.proofs.Common.{length, refl, sym, ap, subst, ◌∙◌, arith}
 use Rattle.proactor_core.specs.Due.{Due}
 use Rattle.proactor_core.specs.Proactor.{Follows, IsSound, ProactorView, tells}
-use Rattle.history_book.specs.Settling.{settled}
+use Rattle.history_rules.specs.Settling.{settled}
 use Rattle.proactor_core.specs.Streams.{AreServedBelow}
 use Rattle.proactor_core.specs.Tables.{TableState}
 use Rattle.proactor_core.proofs.FollowsLemmas.{settles-in-turn}

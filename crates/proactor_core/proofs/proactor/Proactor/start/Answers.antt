@@ -1,6 +1,6 @@
 use Rattle.std.proofs.Common.{◌∙◌, true, ap}
 use Rattle.std.specs.Option.{option_map}
-use Rattle.history_book.specs.State.{ReactorHalf}
+use Rattle.history_rules.specs.State.{ReactorHalf}
 use Rattle.reactor_trait.specs.Reactor.{outside_ready, state_ready}
 use Rattle.proactor_core.proofs.StartLemmas.{follows-first, sound-first}
 use Rattle.proactor_core.proofs.proactor.Proactor.start.Goals as goal

@@ -1,6 +1,6 @@
 use Rattle.std.proofs.Common.{subst, ◌∙◌}
-use Rattle.history_book.specs.Performing.{performed}
-use Rattle.history_book.specs.Settling.{settled}
+use Rattle.history_rules.specs.Performing.{performed}
+use Rattle.history_rules.specs.Settling.{settled}
 use Rattle.proactor_core.specs.Proactor.{Follows}
 use Rattle.proactor_core.proofs.FollowsLemmas.{guards-performed, on-ok, performs-in-turn}
 use Rattle.proactor_core.proofs.proactor.Proactor.take.Goals as goal

@@ -1,6 +1,6 @@
 use Rattle.std.proofs.Common.{refl, ap, ◌∙◌, find}
-use Rattle.history_book.specs.Performing.{is_wait_of, one_wait_cancelled}
-use Rattle.history_book.specs.State.{ReactorHalf}
+use Rattle.history_rules.specs.Performing.{is_wait_of, one_wait_cancelled}
+use Rattle.history_rules.specs.State.{ReactorHalf}
 use Rattle.proactor_core.specs.Proactor.{ProactorView}
 use Rattle.proactor_core.specs.Room.{IsUntaken}
 use Rattle.proactor_core.specs.Tables.{TableState, act_taken, first_cancelled}

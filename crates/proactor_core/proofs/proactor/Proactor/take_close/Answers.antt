@@ -1,12 +1,12 @@
 use Rattle.std.proofs.Common.{◌≡◌, refl, sym, ap, subst, ◌∙◌}
-use Rattle.history_book.specs.Performing.{shut_at, with_taken}
+use Rattle.history_rules.specs.Performing.{shut_at, with_taken}
 use Rattle.proactor_core.specs.Proactor.{IsAt, IsTurning, ProactorView}
 use Rattle.reactor_trait.specs.Reactor.{outside_closed}
 use Rattle.proactor_core.specs.Reactor.{tells}
 use Rattle.proactor_core.specs.Room.{IsUntaken}
 use Rattle.proactor_core.specs.Streams.{closes_state, closes_told, stream_in}
 use Rattle.proactor_core.specs.Due.{listed}
-use Rattle.history_book.specs.Performing.{all_of_stream}
+use Rattle.history_rules.specs.Performing.{all_of_stream}
 use Rattle.proactor_core.specs.Tables.{TableState, act_taken}
 use Rattle.proactor_core.proofs.CloseLemmas.{close-step, close-turning, closed_in, shut-before, shuts}
 use Rattle.proactor_core.proofs.TakingLemmas.{act-room, tables-turning, taken-step}

@@ -1,5 +1,5 @@
 use Rattle.std.proofs.Common.{◌≡◌, ◌<◌, Bool, List, Some, None, false, get_or, length, refl, sym, ap, subst, ◌∙◌}
-use Rattle.history_book.specs.Performing.{emitted}
+use Rattle.history_rules.specs.Performing.{emitted}
 use Rattle.proactor_core.specs.Following.{chosen_cancelled}
 use Rattle.proactor_core.specs.Proactor.{IsAt, ProactorView}
 use Rattle.proactor_core.specs.Room.{IsUntaken}

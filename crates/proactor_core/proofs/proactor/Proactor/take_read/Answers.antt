@@ -3,7 +3,7 @@ use Rattle.std.specs.Option.{option_map}
 use Rattle.composed_ops.specs.StreamOperation.{Reads, most_moved}
 use Rattle.composed_ops.specs.Machine.{progress_of}
 use Rattle.composed_ops.specs.Progress.{StreamProgress, new_progress}
-use Rattle.history_book.specs.Performing.{read_accepted, with_taken}
+use Rattle.history_rules.specs.Performing.{read_accepted, with_taken}
 use Rattle.proactor_core.specs.Pending.{reading_asked}
 use Rattle.proactor_core.specs.Proactor.{IsAt, IsTurning, ProactorView}
 use Rattle.proactor_core.specs.Streams.{bad_if_closed, read_begun, stream_in, with_stream_in}

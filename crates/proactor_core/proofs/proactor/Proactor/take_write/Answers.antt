@@ -3,7 +3,7 @@ use Rattle.std.specs.Option.{option_map}
 use Rattle.composed_ops.specs.StreamOperation.{Writes}
 use Rattle.composed_ops.specs.Machine.{progress_of}
 use Rattle.composed_ops.specs.Progress.{StreamProgress, new_progress}
-use Rattle.history_book.specs.Performing.{with_taken, write_accepted}
+use Rattle.history_rules.specs.Performing.{with_taken, write_accepted}
 use Rattle.proactor_core.specs.Pending.{writing_asked}
 use Rattle.proactor_core.specs.Proactor.{IsAt, IsTurning, ProactorView}
 use Rattle.proactor_core.specs.Streams.{bad_if_closed, stream_in, with_stream_in, write_begun}

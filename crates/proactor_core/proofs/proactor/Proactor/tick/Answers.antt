@@ -1,6 +1,6 @@
 use Rattle.std.proofs.Common.{◌≡◌, sym, ap, subst, ◌∙◌, arith}
 use Rattle.stream_rules.specs.World.{next_point}
-use Rattle.history_book.specs.Settling.{settled}
+use Rattle.history_rules.specs.Settling.{settled}
 use Rattle.proactor_core.specs.Proactor.{Follows, ProactorView, point_ahead, tells}
 use Rattle.proactor_core.specs.Tables.{TableState}
 use Rattle.proactor_core.proofs.FollowsLemmas.{moves-in-turn, next-alike, tells-moved}

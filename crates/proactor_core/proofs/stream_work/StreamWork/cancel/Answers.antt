@@ -4,7 +4,7 @@ use Rattle.std.proofs.lemmas.List.{length-append, length-map}
 use Rattle.stream_rules.specs.declared.queue.Completion.{Completion}
 use Rattle.stream_rules.specs.Queue.{Pending}
 use Rattle.stream_rules.specs.Serving.{Reading, Writing}
-use Rattle.history_book.specs.Performing.{all_aborted, is_of}
+use Rattle.history_rules.specs.Performing.{all_aborted, is_of}
 use Rattle.proactor_core.specs.declared.pending.PendingOp.{PendingOp}
 use Rattle.proactor_core.specs.Aborting.{abort_of_pending, is_pending_op}
 use Rattle.proactor_core.specs.Due.{listed}

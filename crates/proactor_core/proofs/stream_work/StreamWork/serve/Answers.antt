@@ -1,7 +1,7 @@
 use Rattle.std.proofs.Common.{map, refl, ap, arith}
 use Rattle.std.proofs.lemmas.List.{length-map}
 use Rattle.std.specs.VecDeque.{deque_capacity}
-use Rattle.history_book.specs.Untold.{may_give_read, may_give_write}
+use Rattle.history_rules.specs.Untold.{may_give_read, may_give_write}
 use Rattle.stream_rules.specs.Queue.{reading_side, writing_side}
 use Rattle.proactor_core.specs.Due.{Due}
 use Rattle.proactor_core.specs.Pending.{pending_read, pending_write, IsServedBy}

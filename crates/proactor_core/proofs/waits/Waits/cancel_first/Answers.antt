@@ -1,5 +1,5 @@
 use Rattle.std.proofs.Common.{[], ◌∷◌, ap, sym, ◌∙◌}
-use Rattle.history_book.specs.Performing.{is_wait_of}
+use Rattle.history_rules.specs.Performing.{is_wait_of}
 use Rattle.proactor_core.specs.Due.{listed}
 use Rattle.proactor_core.proofs.FilterLemmas.{find-filter, find-none, none-passes}
 use Rattle.proactor_core.proofs.ListingLemmas.{listed-nil}

@@ -1,5 +1,5 @@
 use Rattle.std.proofs.Common.{◌∙◌}
-use Rattle.history_book.specs.Performing.{is_wait_of}
+use Rattle.history_rules.specs.Performing.{is_wait_of}
 use Rattle.proactor_core.specs.Waits.{aborts}
 use Rattle.proactor_core.proofs.DrainLemmas.{drain-waits}
 use Rattle.proactor_core.proofs.waits.Waits.cancel_timer.Goals as goal

@@ -1,5 +1,5 @@
 use Rattle.std.proofs.Common.{length}
-use Rattle.history_book.specs.Performing.{is_wait_of}
+use Rattle.history_rules.specs.Performing.{is_wait_of}
 use Rattle.proactor_core.specs.Waits.{aborts}
 use Rattle.proactor_core.proofs.DrainLemmas.{IsDrainedTo}
 use Rattle.proactor_core.proofs.waits.Waits.cancel_timer.Given as goal

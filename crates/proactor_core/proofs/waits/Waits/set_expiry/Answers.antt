@@ -2,8 +2,8 @@ use Rattle.std.proofs.Common.{◌≡◌, ◌≢◌, ℕ, List, not, true, ap, sy
 use Rattle.std.specs.List.{All}
 use Rattle.std.proofs.lemmas.Bool.Decides.{nat_tests}
 use Rattle.std.proofs.lemmas.List.Elements.{All-weaker, filter_passes}
-use Rattle.history_book.specs.Performing.{is_wait_of}
-use Rattle.history_book.specs.declared.waiting.Wait.{Wait}
+use Rattle.history_rules.specs.Performing.{is_wait_of}
+use Rattle.history_rules.specs.declared.wait.Wait.{Wait}
 use Rattle.proactor_core.specs.Waits.{Waiting}
 use Rattle.proactor_core.proofs.waits.Waits.set_expiry.Goals as goal
 

@@ -2,7 +2,7 @@ use Rattle.std.proofs.Common.{rules, ◌≡◌, ◌<◌, ◌==◌, not, true, fa
 use Rattle.std.specs.List.{All, Any}
 use Rattle.std.proofs.lemmas.Fn.{filter_same}
 use Rattle.std.proofs.lemmas.List.{get_or_default, length-map, map-set}
-use Rattle.history_book.specs.Performing.{aborted, is_wait_for}
+use Rattle.history_rules.specs.Performing.{aborted, is_wait_for}
 use Rattle.timer_queue.specs.declared.entry.TimerEntry.{TimerEntry}
 use Rattle.timer_queue.specs.Queue.{Timers}
 use Rattle.timer_queue.proofs.OrderLemmas.{is_other}

@@ -1,0 +1,9 @@
+pub mod CancelledLemmas
+pub mod LaneLemmas
+pub mod LimitLemmas
+pub mod LinesLemmas
+pub mod PerformingLemmas
+pub mod SettlingLemmas
+pub mod SizesLemmas
+pub mod TimeLemmas
+pub mod VersionLemmas

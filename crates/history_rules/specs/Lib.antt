@@ -1,0 +1,17 @@
+pub mod Bounds
+pub mod Calls
+pub mod Executions
+pub mod FromOutside
+pub mod Kinds
+pub mod Legal
+pub mod Marks
+pub mod Order
+pub mod Performing
+pub mod Requests
+pub mod Rounds
+pub mod Settling
+pub mod State
+pub mod Stopping
+pub mod Time
+pub mod Untold
+pub mod Waits
