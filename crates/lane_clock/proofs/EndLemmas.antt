@@ -5,15 +5,20 @@ use Rattle.std.proofs.lemmas.Bool.{cases_lt}
 use mathlib.Core.Option.{some, some-injective, some-ne-none}
 use lib.ListN.{get_elem?}
 use Rattle.atomic_table.specs.Table.{State, opening, Final, Seen}
+use Rattle.lane_clock.specs.declared.found.Found.{Found}
 use Rattle.lane_clock.specs.declared.step.ClockStep.{ClockStep}
 use Rattle.lane_clock.specs.declared.step.Known.{Known}
 use Rattle.lane_clock.specs.declared.step.View.{View}
 use Rattle.lane_clock.specs.Layout.{Layout, total, place_word, cell_word}
 use Rattle.lane_clock.specs.Knowledge.{known, unknown, known_at, steps_at, owns_below}
-use Rattle.lane_clock.specs.Rule.{ClockWords, ClockRule}
-use Rattle.lane_clock.specs.History.{ClockEvent, steps_under, IsSoundHistory, AreWords, KnowsHistory, HasOneHistory, giver, words_after, first_words}
+use Rattle.lane_clock.specs.ClockWord.{found_of}
+use Rattle.lane_clock.specs.Rule.{ClockRule}
+use Rattle.lane_clock.specs.Closing.{Closed}
+use Rattle.lane_clock.specs.Chronicle.{AreWords, KnowsHistory, HasOneHistory, giver, first_words}
+use Rattle.lane_clock.specs.History.{ClockEvent, steps_under, word_after, IsSoundHistory, words_after}
 use Rattle.lane_clock.proofs.KnownLemmas.{mine_within, under_other}
-use Rattle.lane_clock.proofs.ClockLemmas.{word_bounded}
+use Rattle.lane_clock.proofs.ClockLemmas.{word_bounded, word_of-found_of}
+use Rattle.lane_clock.proofs.ShareLemmas.{none_heard}
 use Rattle.lane_clock.proofs.PartLemmas.{rule_of}
 
 zero_at : (n i : ℕ) → slice_index (replicate n 0) i ≡ 0
@@ -56,6 +61,7 @@ giver_knows plan = record {
   width = λ n m.
       let i = mine_within (owns_below plan.seats plan.seats) n m in
       let h = giver_long plan.seats in (omega arith, h, refl);
+  heard = none_heard;
 }
 
 alone : (v : View) (i : ℕ) (u : View) → get_elem? (v ∷ []) i ≡ some u → (i ≡ 0) × (v ≡ u)
@@ -103,17 +109,31 @@ all_known plan id n v s kept at mine all = λ i m. each m i
 pub closes : (plan : Layout) {S : Type 0} (id n : ℕ) (v : View) (ws : List ℕ) (xs : List S) →
     Final (Seen (λ s. HasOneHistory plan {S = S} s) id v) ws xs → (known_at v.known n).mine ≡ true →
     ((m : ℕ) → m < v.plan.seats → (known_at v.known m).mine ≡ true) →
-    (words : ClockWords) × (words.clock_word ≡ slice_index ws 0) × (words.clock_word < 2 ^ 64)
-    × ClockRule (λ m. steps_at v.known m) words plan.guards × (plan.guards < 2 ^ 15)
+    Closed (λ m. steps_at v.known m) plan (found_of (slice_index ws 0))
 closes plan {S} id n v ws xs final mine all =
     let s = final.0 in
     let kept = final.1.0 in
-    let at = final.1.1 in (
-      words_after plan.guards kept.history,
-      sym kept.words.clock ∙ ap (λ us. slice_index us 0) final.2,
-      word_bounded plan.guards kept.few.1 kept.history,
-      subst (λ ls. ClockRule ls (words_after plan.guards kept.history) plan.guards)
-          (sym (all_known plan id n v s kept at mine all))
-          (rule_of plan.guards plan.seats kept.few.1 kept.few.0 kept.history kept.sound),
-      kept.few.1,
-    )
+    let known = all_known plan id n v s kept final.1.1 mine all in
+    let read : word_after plan.guards kept.history ≡ slice_index ws 0 =
+    sym kept.words.clock ∙ ap (λ us. slice_index us 0) final.2 in
+    let small : slice_index ws 0 < 2 ^ 64 =
+    subst (λ k. k < 2 ^ 64) read (word_bounded plan.guards kept.few.1 kept.history) in
+    record {
+      few = kept.few;
+      history = kept.history;
+      sound = kept.sound;
+      all = λ m. ap (λ (ls : ℕ → List ClockStep). ls m) known;
+      word = read ∙ sym (word_of-found_of (slice_index ws 0) small);
+      parts = (omega arith, omega arith, omega arith);
+      rule =
+          subst (λ ls. ClockRule ls (words_after plan.guards kept.history) plan.guards) (sym known)
+          (rule_of plan.guards plan.seats kept.few.1 kept.few.0 kept.history kept.sound);
+    }
+
+-- what is equal may be written for it
+pub closed_as : (plan plan' : Layout) (ks ks' : List Known) (f f' : Found) → plan ≡ plan' → ks ≡ ks' → f ≡ f' →
+    Closed (λ n. steps_at ks n) plan f → Closed (λ n. steps_at ks' n) plan' f'
+closed_as plan plan' ks ks' f f' p k l c =
+    subst (Closed (λ n. steps_at ks' n) plan') l
+    (subst (λ (q : Layout). Closed (λ n. steps_at ks' n) q f) p
+    (subst (λ (us : List Known). Closed (λ n. steps_at us n) plan f) k c))

@@ -14,11 +14,13 @@ use Rattle.lane_clock.specs.declared.step.ClockStep.TheVariants.{Join}
 use Rattle.lane_clock.specs.declared.step.Known.{Known}
 use Rattle.lane_clock.specs.declared.step.View.{View}
 use Rattle.lane_clock.specs.Layout.{Layout}
-use Rattle.lane_clock.specs.Knowledge.{known, unknown, known_at, steps_at, more_of, joined, counts}
-use Rattle.lane_clock.specs.History.{ClockEvent, steps_under, StartOf, KnowsHistory, HasOneHistory}
-use Rattle.lane_clock.specs.Plays.{view_with, join_view, spent_view}
+use Rattle.lane_clock.specs.Knowledge.{known, unknown, known_at, steps_at, StartOf, Agree, AreTogether, more_of, joined, counts}
+use Rattle.lane_clock.specs.Chronicle.{KnowsHistory, HasOneHistory}
+use Rattle.lane_clock.specs.History.{ClockEvent, steps_under}
+use Rattle.lane_clock.specs.Plays.{taken_in, join_view, spent_view}
 use Rattle.lane_clock.proofs.KnownLemmas.{at_within, mine_within, stepped_mine}
 use Rattle.lane_clock.proofs.KeepLemmas.{steps_keep}
+use Rattle.lane_clock.proofs.ShareLemmas.{none_heard}
 use Rattle.lane_clock.proofs.WordLemmas.{joined_words}
 
 abbrev longer : List ClockStep → List ClockStep → List ClockStep
@@ -91,10 +93,37 @@ joined_long [] bs = omega arith
 joined_long (a ∷ as_) [] = omega arith
 joined_long (a ∷ as_) (b ∷ bs) = let h : length as_ ≤ length (joined as_ bs) = joined_long as_ bs in omega arith
 
+abbrev rest_of : List ClockStep → List ClockStep
+rest_of [] = []
+rest_of (x ∷ xs) = xs
+
+abbrev head_or : ClockStep → List ClockStep → ClockStep
+head_or d [] = d
+head_or d (x ∷ xs) = x
+
+-- two starts of one list agree
+starts_agree : (xs ys all : List ClockStep) → StartOf xs all → StartOf ys all → Agree xs ys
+starts_agree [] ys all hx hy = inl (ys, refl)
+starts_agree (x ∷ xs) [] all hx hy = inr (x ∷ xs, refl)
+starts_agree (x ∷ xs) (y ∷ ys) all hx hy =
+    let same : x ≡ y = ap (head_or x) (sym hx.1 ∙ hy.1) in
+    ⊎_elim (λ (h : StartOf xs ys). inl (h.0, λ i. sym same i ∷ h.1 i))
+    (λ (h : StartOf ys xs). inr (h.0, λ i. same i ∷ h.1 i))
+    (starts_agree xs ys (rest_of all) (hx.0, ap rest_of hx.1) (hy.0, ap rest_of hy.1))
+
+-- what two views know of a history agrees
+are_together : (plan : Layout) (es : List ClockEvent) (v w : View) → KnowsHistory plan es v → KnowsHistory plan es w →
+    AreTogether v.known w.known
+are_together plan es v w kv kw = record {
+  agree = λ n. starts_agree (steps_at v.known n) (steps_at w.known n) (steps_under n es) (kv.told n) (kw.told n);
+  first = λ n m. subst (StartOf (steps_at w.known n)) (sym (kv.whole n m)) (kw.told n);
+  second = λ n m. subst (StartOf (steps_at v.known n)) (sym (kw.whole n m)) (kv.told n);
+}
+
 module _ (plan : Layout) (es : List ClockEvent) (v w : View) (kv : KnowsHistory plan es v) (kw : KnowsHistory plan es w)
     (own : v.plan ≡ plan) (wide : length v.known ≡ plan.seats) where
   abbrev both : View
-  both = view_with v (joined v.known w.known)
+  both = taken_in v w.known
 
   mine_of : (n : ℕ) → (known_at both.known n).mine ≡ true →
       ((known_at v.known n).mine || (known_at w.known n).mine) ≡ true
@@ -117,6 +146,7 @@ module _ (plan : Layout) (es : List ClockEvent) (v w : View) (kv : KnowsHistory 
             (steps_under n es) (mine_of n m) (kv.whole n) (kw.whole n);
         width = λ n m.
             (⊎_elim (λ h. (kv.width n h).0) (λ h. (kw.width n h).0) (from_either _ _ (mine_of n m)), long, own);
+        heard = are_together plan es v w kv kw;
       }
 
 spent_knows : (plan : Layout) (es : List ClockEvent) → KnowsHistory plan es spent_view
@@ -125,13 +155,14 @@ spent_knows plan es = record {
   told = λ n. (steps_under n es, refl);
   whole = λ n m. absurd (false≢true m);
   width = λ n m. absurd (false≢true m);
+  heard = none_heard;
 }
 
 module _ (plan : Layout) {S : Type 0} (id : ℕ) (v : View) (other : ℕ) (w : View)
     (mine : (known_at v.known v.number).mine ≡ true) (s : State S View) (kept : HasOneHistory plan {S = S} s)
     (at : get_elem? s.views id ≡ some v) (apart : other ≢ id) (there : get_elem? s.views other ≡ some w) where
   abbrev together : View
-  together = view_with v (joined v.known w.known)
+  together = taken_in v w.known
 
   abbrev merged : List View
   merged = set (set s.views id together) other spent_view
@@ -204,7 +235,7 @@ pub may_join : (plan : Layout) {S : Type 0} (id : ℕ) (v : View) (other : ℕ) 
 may_join plan {S} id v other w mine s kept at apart later =
     let there : get_elem? s.views other ≡ some w =
     sym (set_else s.views id other (join_view v w.known) apart) ∙ later in
-    let v' : View = view_with v (joined v.known w.known) in
+    let v' : View = taken_in v w.known in
     let merged : List View = set (set s.views id v') other spent_view in
     let kept' = merge_keeps plan id v other w mine s kept at apart there in
     let here : get_elem? merged id ≡ some v' =

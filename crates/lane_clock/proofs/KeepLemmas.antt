@@ -11,8 +11,9 @@ use Rattle.lane_clock.specs.declared.step.ClockStep.{ClockStep}
 use Rattle.lane_clock.specs.declared.step.Known.{Known}
 use Rattle.lane_clock.specs.declared.step.View.{View}
 use Rattle.lane_clock.specs.Layout.{Layout}
-use Rattle.lane_clock.specs.Knowledge.{known_at, steps_at, stepped_at}
-use Rattle.lane_clock.specs.History.{ClockEvent, steps_under, Fits, StartOf, AreWords, KnowsHistory, HasOneHistory}
+use Rattle.lane_clock.specs.Knowledge.{known_at, steps_at, StartOf, stepped_at}
+use Rattle.lane_clock.specs.Chronicle.{AreWords, KnowsHistory, HasOneHistory}
+use Rattle.lane_clock.specs.History.{ClockEvent, steps_under, Fits}
 use Rattle.lane_clock.specs.Plays.{step_view}
 use Rattle.lane_clock.proofs.KnownLemmas.{mine_within, stepped_here, stepped_other, stepped_mine, event, under_same, under_other}
 
@@ -22,6 +23,10 @@ start_longer xs all x h = (h.0 ++ x ∷ [], ap (λ ys. ys ++ x ∷ []) h.1 ∙ a
 
 pub start_same : (xs all : List ClockStep) → xs ≡ all → StartOf xs all
 start_same xs all e = ([], sym e ∙ sym (append-nil xs))
+
+-- a start of a start of all
+pub start_trans : (xs ys all : List ClockStep) → StartOf xs ys → StartOf ys all → StartOf xs all
+start_trans xs ys all h k = (h.0 ++ k.0, k.1 ∙ (ap (λ zs. zs ++ k.0) h.1 ∙ append_assoc xs h.0 k.0))
 
 pub start_under : (xs : List ClockStep) (es : List ClockEvent) (n m : ℕ) (st : ClockStep) →
     StartOf xs (steps_under n es) → StartOf xs (steps_under n (event m st ∷ es))
@@ -41,6 +46,7 @@ module _ (plan : Layout) (es : List ClockEvent) (v : View) (st : ClockStep) (kno
         knows.whole m mine
         ∙ sym (under_other es m n st (λ e. not_mine (subst (λ k. (known_at v.known k).mine ≡ true) e mine)));
     width = knows.width;
+    heard = knows.heard;
   }
 
   -- who made the step knows it too
@@ -71,6 +77,7 @@ module _ (plan : Layout) (es : List ClockEvent) (v : View) (st : ClockStep) (kno
             ap (λ (k : Known). k.steps) (stepped_other v.known v.number m st ne)
             ∙ (knows.whole m (was m h) ∙ sym (under_other es m v.number st ne)));
         width = λ m h. let w = knows.width m (was m h) in (w.0, length-set v.known v.number _ ∙ w.1, w.2);
+        heard = knows.heard;
       }
 
 module _ (plan : Layout) {S : Type 0} (s : State S View) (kept : HasOneHistory plan s) (id : ℕ) (v : View)

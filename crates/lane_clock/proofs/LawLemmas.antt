@@ -8,9 +8,11 @@ use Rattle.lane_clock.specs.declared.found.Change.{Change}
 use Rattle.lane_clock.specs.declared.found.Change.TheVariants.{Same, Up, Down, DownTwo, Stop}
 use Rattle.lane_clock.specs.declared.step.ClockStep.{ClockStep}
 use Rattle.lane_clock.specs.ClockWord.{amount, word_of, IsParted}
-use Rattle.lane_clock.specs.Rule.{clock_in, IsFinding, by_draw, by_load, Draws, Loads, Finds, Closed}
+use Rattle.lane_clock.specs.Rule.{clock_in, IsFinding, by_draw, by_load, Draws, Loads, Finds}
 use Rattle.lane_clock.specs.Changes.{sum_below, up_of, down_of, stop_of, ups_below, downs_below, stops_below, ChangesAre, ChangesFit, AddsUp}
-use Rattle.lane_clock.specs.History.{steps_under, words_after}
+use Rattle.lane_clock.specs.Layout.{Layout}
+use Rattle.lane_clock.specs.History.{steps_under, word_after, words_after}
+use Rattle.lane_clock.specs.Closing.{Closed}
 use Rattle.lane_clock.specs.Laws.{HoldsBetweenSteps, ChangesStand, WorkAddsUp, NotesAreOlder}
 use Rattle.lane_clock.proofs.PartLemmas.{rule_of}
 
@@ -25,19 +27,19 @@ holds_between plan s kept = record {
 }
 
 -- the clock at the end
-last_clock : (lists : ℕ → List ClockStep) (guards : ℕ) (last : Found) (c : Closed lists guards last) →
-    clock_in c.words ≡ last.clock
-last_clock lists guards last c = let w = c.word in let a : last.clock < 2 ^ 32 = c.parts.0 in omega arith
+last_clock : (lists : ℕ → List ClockStep) (plan : Layout) (last : Found) (c : Closed lists plan last) →
+    clock_in (words_after plan.guards c.history) ≡ last.clock
+last_clock lists plan last c = let w = c.word in let a : last.clock < 2 ^ 32 = c.parts.0 in omega arith
 
 pub changes_stand : ChangesStand
-changes_stand lists guards last c = (
+changes_stand lists plan last c = (
   (λ k. pick k (cases_lt k last.clock)),
   (λ k lt. found k lt (cases_lt k last.clock)),
 )
   where
     once : (k : ℕ) → k < last.clock →
         (m : ℕ) × (i : ℕ) × (change : Change) × (f : Found) × Draws lists m i change f × (f.clock ≡ k)
-    once k lt = c.rule.draws_once.each k (subst (λ n. k < n) (sym (last_clock lists guards last c)) lt)
+    once k lt = c.rule.draws_once.each k (subst (λ n. k < n) (sym (last_clock lists plan last c)) lt)
 
     pick : (k : ℕ) → (k < last.clock) ⊎ (last.clock ≤ k) → Change
     pick k (inl lt) = (once k lt).2
@@ -49,7 +51,7 @@ changes_stand lists guards last c = (
     found k lt (inr ge) = absurd (omega arith)
 
 -- a change takes a whole word beside its parts
-borrow_of : Change → ℕ
+pub borrow_of : Change → ℕ
 borrow_of Same = 0
 borrow_of Up = 0
 borrow_of Down = 1
@@ -59,7 +61,7 @@ borrow_of Stop = 0
 amounts : (ℕ → Change) → ℕ → ℕ
 amounts changes n = sum_below (λ k. amount (changes k)) n
 
-parts_of : (c : Change) →
+pub parts_of : (c : Change) →
     amount c + 2 ^ 32 * down_of c ≡ 1 + 2 ^ 32 * up_of c + 2 ^ 48 * stop_of c + 2 ^ 64 * borrow_of c
 unfolding borrow_of
 parts_of Same = refl
@@ -98,17 +100,17 @@ parted clock work stops n guards amount ups downs halts borrows is sum at a b c 
     let same : clock + 2 ^ 32 * work + 2 ^ 48 * stops ≡ whole = omega arith in
     (omega arith, omega arith)
 
-module _ (lists : ℕ → List ClockStep) (guards : ℕ) (last : Found) (c : Closed lists guards last)
+module _ (lists : ℕ → List ClockStep) (plan : Layout) (last : Found) (c : Closed lists plan last)
     (changes : ℕ → Change) where
   abbrev whole : ℕ → ℕ
-  whole n = (guards * 2 ^ 32 + amounts changes n) % 2 ^ 64
+  whole n = (plan.guards * 2 ^ 32 + amounts changes n) % 2 ^ 64
 
   -- a draw found the guards and all changes before
   draws_sum : (n : ℕ) → ChangesAre lists changes n → (m i : ℕ) (d : Change) (f : Found) → Draws lists m i d f →
       f.clock ≡ n → word_of f ≡ whole n
   unfolding amounts
   draws_sum zero are m i d f h e =
-      let small : guards < 2 ^ 15 = c.few in c.rule.changes_add_up.first m i d f h e ∙ omega arith
+      let small : plan.guards < 2 ^ 15 = c.few.1 in c.rule.changes_add_up.first m i d f h e ∙ omega arith
   draws_sum (suc n) are m i d f h e =
       let p = are n (omega arith) in
       let was : word_of p.2 ≡ whole n = draws_sum n (λ k lt. are k (omega arith)) p.0 p.1 (changes n) p.2 p.3 p.4 in
@@ -121,14 +123,14 @@ module _ (lists : ℕ → List ClockStep) (guards : ℕ) (last : Found) (c : Clo
   end_sum : (n : ℕ) → ChangesAre lists changes n → last.clock ≡ n → word_of last ≡ whole n
   unfolding amounts
   end_sum zero are e =
-      let small : guards < 2 ^ 15 = c.few in
-      sym c.word ∙ (c.rule.changes_add_up.none (last_clock lists guards last c ∙ e) ∙ omega arith)
+      let small : plan.guards < 2 ^ 15 = c.few.1 in
+      sym c.word ∙ (c.rule.changes_add_up.none (last_clock lists plan last c ∙ e) ∙ omega arith)
   end_sum (suc n) are e =
       let p = are n (omega arith) in
       let was : word_of p.2 ≡ whole n = draws_sum n (λ k lt. are k (omega arith)) p.0 p.1 (changes n) p.2 p.3 p.4 in
       let a : p.2.clock ≡ n = p.4 in
-      let now : c.words.clock_word ≡ (word_of p.2 + amount (changes n)) % 2 ^ 64 =
-      c.rule.changes_add_up.last p.0 p.1 (changes n) p.2 p.3 (last_clock lists guards last c ∙ omega arith) in
+      let now : word_after plan.guards c.history ≡ (word_of p.2 + amount (changes n)) % 2 ^ 64 =
+      c.rule.changes_add_up.last p.0 p.1 (changes n) p.2 p.3 (last_clock lists plan last c ∙ omega arith) in
       sym c.word ∙ (now ∙ (ap (λ w. (w + amount (changes n)) % 2 ^ 64) was ∙ omega arith))
 
   finds_sum : (n : ℕ) → ChangesAre lists changes n → n ≤ last.clock → (m i : ℕ) (f : Found) → Finds lists m i f →
@@ -137,12 +139,12 @@ module _ (lists : ℕ → List ClockStep) (guards : ℕ) (last : Found) (c : Clo
     where
       load : (g : Found) → Loads lists m i g → g.clock ≡ n → (n < last.clock) ⊎ (last.clock ≤ n) → word_of g ≡ whole n
       load g at q (inl lt) =
-          let d = c.rule.draws_once.each n (subst (λ k. n < k) (sym (last_clock lists guards last c)) lt) in
+          let d = c.rule.draws_once.each n (subst (λ k. n < k) (sym (last_clock lists plan last c)) lt) in
           ap word_of (c.rule.loads_agree.drawn m i d.0 d.1 d.2 g d.3 at d.4 (q ∙ sym d.5))
           ∙ draws_sum n are d.0 d.1 d.2 d.3 d.4 d.5
       load g at q (inr ge) =
           let same : last.clock ≡ n = omega arith in
-          c.rule.loads_agree.standing m i g at (q ∙ (sym same ∙ sym (last_clock lists guards last c)))
+          c.rule.loads_agree.standing m i g at (q ∙ (sym same ∙ sym (last_clock lists plan last c)))
           ∙ (c.word ∙ end_sum n are same)
 
       go : (st : ClockStep) → get_elem? (lists m) i ≡ some st → (g : Found) → IsFinding st g → g.clock ≡ n →
@@ -150,29 +152,29 @@ module _ (lists : ℕ → List ClockStep) (guards : ℕ) (last : Found) (c : Clo
       go _ at _ (by_draw d g) q = draws_sum n are m i d g at q
       go _ at _ (by_load g) q = load g at q (cases_lt n last.clock)
 
-  adds_up : (n : ℕ) (f : Found) → IsParted f → f.clock ≡ n → ChangesFit guards changes n → word_of f ≡ whole n →
-      AddsUp guards changes n f
+  adds_up : (n : ℕ) (f : Found) → IsParted f → f.clock ≡ n → ChangesFit plan.guards changes n → word_of f ≡ whole n →
+      AddsUp plan.guards changes n f
   adds_up n f parts e room is =
       let s : amounts changes n + 2 ^ 32 * downs_below changes n
       ≡ n + 2 ^ 32 * ups_below changes n + 2 ^ 48 * stops_below changes n
       + 2 ^ 64 * sum_below (λ k. borrow_of (changes k)) n =
       sums changes n in
       let p =
-      parted f.clock f.work f.stops n guards (amounts changes n) (ups_below changes n) (downs_below changes n)
+      parted f.clock f.work f.stops n plan.guards (amounts changes n) (ups_below changes n) (downs_below changes n)
       (stops_below changes n) (sum_below (λ k. borrow_of (changes k)) n) is s e parts.0 parts.1 parts.2 room.down
       room.work room.stops in
       record { clock = e; work = p.0; stops = p.1 }
 
 pub work_adds_up : WorkAddsUp
-work_adds_up lists guards last c changes n are le room = record {
+work_adds_up lists plan last c changes n are le room = record {
   found = λ m i f h e.
-      adds_up lists guards last c changes n f (c.rule.changes_add_up.parted m i f h) e room
-      (finds_sum lists guards last c changes n are le m i f h e);
-  end = λ e. adds_up lists guards last c changes n last c.parts e room (end_sum lists guards last c changes n are e);
+      adds_up lists plan last c changes n f (c.rule.changes_add_up.parted m i f h) e room
+      (finds_sum lists plan last c changes n are le m i f h e);
+  end = λ e. adds_up lists plan last c changes n last c.parts e room (end_sum lists plan last c changes n are e);
 }
 
 pub notes_are_older : NotesAreOlder
-notes_are_older lists guards last c n j lane place note h =
+notes_are_older lists plan last c n j lane place note h =
     let put = c.rule.cells_once.seen n j lane place note h in
     let drew = c.rule.cells_once.placed put.0 put.1 lane place note put.2 in
     record { by = put.0; drawn = drew.0; put = put.1; order = drew.1; draws = drew.2; puts = put.2; before = put.3 }

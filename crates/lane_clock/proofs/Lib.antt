@@ -13,7 +13,9 @@ pub mod NoteLemmas
 pub mod PlaceLemmas
 pub mod ShareLemmas
 pub mod JoinLemmas
+pub mod AgreeLemmas
 pub mod EndLemmas
 pub mod RowLemmas
 pub mod SeatLemmas
 pub mod LawLemmas
+pub mod HistoryLemmas

@@ -7,7 +7,8 @@ use native.Mathlib.Decide.{ℕ_discrete}
 use lib.ListN.{get_elem?}
 use Rattle.atomic_table.proofs.Lists.{at_longer}
 use Rattle.lane_clock.specs.declared.step.ClockStep.{ClockStep}
-use Rattle.lane_clock.specs.History.{ClockEvent, steps_under, IsSoundHistory, StartOf}
+use Rattle.lane_clock.specs.Knowledge.{StartOf}
+use Rattle.lane_clock.specs.History.{ClockEvent, steps_under, IsSoundHistory}
 use Rattle.lane_clock.proofs.KnownLemmas.{at_push, event, under_same, under_other}
 use Rattle.lane_clock.proofs.KeepLemmas.{start_under, start_same}
 

@@ -12,7 +12,8 @@ use Rattle.lane_clock.specs.NoteWord.{IsNote, note_word, note_in_word}
 use Rattle.lane_clock.specs.Layout.{Layout, cell_word, lane_of_place, lane_of_cell, place_of_cell, slot, slot_lane, slot_place}
 use Rattle.lane_clock.specs.Knowledge.{known_at, steps_at}
 use Rattle.lane_clock.specs.Steps.{place_count, step_count, is_place, is_put, has_drawn, has_put}
-use Rattle.lane_clock.specs.History.{ClockEvent, HasOneHistory, IsSoundHistory, Fits, cell_after, cell_with, places_after, steps_under}
+use Rattle.lane_clock.specs.Chronicle.{HasOneHistory}
+use Rattle.lane_clock.specs.History.{ClockEvent, IsSoundHistory, Fits, cell_after, cell_with, places_after, steps_under}
 use Rattle.lane_clock.specs.Plays.{step_view, places, puts, looks}
 use Rattle.lane_clock.proofs.KeepLemmas.{steps_keep}
 use Rattle.lane_clock.proofs.WordLemmas.{slot_lane-slot, slot_place-slot, placed_words, put_words, looked}
@@ -218,7 +219,7 @@ module _ (plan : Layout) {S : Type 0} (slots id : ℕ) (me : Me S View)
         )
             (subst
             (λ (x : ℕ × ℕ).
-            Rattle.lane_clock.specs.History.AreWords plan
+            Rattle.lane_clock.specs.Chronicle.AreWords plan
             (Rattle.lane_clock.proofs.KnownLemmas.event me.0.number (Put lane place note) ∷ kept.history)
             (set s.words x.0 x.1)) (λ i. (sym is i, sym made i))
             (put_words plan kept.history s.words kept.words me.0.number lane place note inside)),

@@ -13,6 +13,7 @@ use Rattle.lane_clock.specs.Knowledge.{known, unknown, known_at, steps_at, joine
 use Rattle.lane_clock.specs.Seats.{SeatView, ClockId, Owns, Keeps, own, seen_as, after_step, after_join, new_clock_seat, new_clock_seats}
 use Rattle.lane_clock.specs.Steps.{has_drawn, has_put, is_place, is_put}
 use Rattle.lane_clock.specs.Plays.{step_view, join_view, giver_after, given}
+use Rattle.lane_clock.specs.Chronicle.{view_of}
 use Rattle.lane_clock.proofs.KnownLemmas.{mine_within, stepped_here, stepped_other, stepped_mine}
 use Rattle.lane_clock.proofs.WordLemmas.{slot_lane-slot, slot_place-slot}
 use Rattle.lane_clock.proofs.JoinLemmas.{joined_at}
@@ -52,7 +53,7 @@ or_assoc false b c = refl
 
 -- the giver with the numbers below n
 abbrev pub giver_at : Layout → ℕ → View
-giver_at plan n = record { plan = plan; number = n; known = owns_below n plan.seats }
+giver_at plan n = view_of plan n (owns_below n plan.seats)
 
 owned_front : (n m : ℕ) → known_at (replicate (suc n) (known true []) ++ replicate m unknown) n ≡ known true []
 owned_front zero m = refl
@@ -77,7 +78,7 @@ less_last plan n h =
     let ks : set (owns_below (suc n) plan.seats) (suc n - 1) unknown ≡ owns_below n plan.seats =
     ap (λ k. set (owns_below (suc n) plan.seats) k unknown) e
     ∙ (owned_less n (plan.seats - suc n) ∙ ap (λ m. replicate n (known true []) ++ replicate m unknown) f) in
-    λ i. record { plan = plan; number = e i; known = ks i }
+    λ i. view_of plan (e i) (ks i)
 
 gives_last : (table : TableId) (plan : Layout) (n : ℕ) → n < plan.seats →
     seen_as table (given (giver_at plan (suc n))) ≡ new_clock_seat record { table = table; plan = plan } n

@@ -13,10 +13,19 @@ use Rattle.lane_clock.specs.declared.step.ClockStep.{ClockStep}
 use Rattle.lane_clock.specs.declared.step.Known.{Known}
 use Rattle.lane_clock.specs.declared.step.View.{View}
 use Rattle.lane_clock.specs.Layout.{Layout}
-use Rattle.lane_clock.specs.Knowledge.{unknown, known_at, steps_at, copied, copy_of}
-use Rattle.lane_clock.specs.History.{ClockEvent, steps_under, StartOf, KnowsHistory, HasOneHistory}
+use Rattle.lane_clock.specs.Knowledge.{unknown, known_at, steps_at, StartOf, AreTogether, copied, copy_of}
+use Rattle.lane_clock.specs.Chronicle.{KnowsHistory, HasOneHistory, view_of}
+use Rattle.lane_clock.specs.History.{ClockEvent, steps_under}
 use Rattle.lane_clock.specs.Plays.{copy_view, giver_after, given}
 use Rattle.lane_clock.proofs.KnownLemmas.{mine_within, at_push}
+
+-- who took nothing in
+pub none_heard : AreTogether [] []
+none_heard = record {
+  agree = λ n. inl ([], refl);
+  first = λ n m. ([], refl);
+  second = λ n m. ([], refl);
+}
 
 nothing_first : (xs : List ClockStep) → StartOf [] xs
 nothing_first xs = (xs, refl)
@@ -37,6 +46,7 @@ copy_knows plan es v k =
       told = λ n. subst (λ (x : Known). StartOf x.steps (steps_under n es)) (sym (copied_at v.known n)) (k.told n);
       whole = λ n h. absurd (no n h);
       width = λ n h. absurd (no n h);
+      heard = k.heard;
     }
 
 module _ (plan : Layout) {S : Type 0} (id : ℕ) (v : View) where
@@ -108,7 +118,7 @@ module _ (plan : Layout) (v : View) (k : ℕ) (mine : (known_at v.known k).mine 
       dite (ℕ_discrete n k) (λ (e : n ≡ k). e) (λ ne. absurd (not_mine (sym (ap (λ (x : Known). x.mine) (gone_other n ne)) ∙ h)))
 
   left_knows : (es : List ClockEvent) (number : ℕ) → KnowsHistory plan es v →
-      KnowsHistory plan es record { plan = v.plan; number = number; known = left_known }
+      KnowsHistory plan es (view_of v.plan number left_known)
   left_knows es number h = record {
     short = subst (λ n. n ≤ plan.seats) (sym (length-set v.known k unknown)) h.short;
     told = λ n. dite (ℕ_discrete n k)
@@ -119,10 +129,11 @@ module _ (plan : Layout) (v : View) (k : ℕ) (mine : (known_at v.known k).mine 
         (λ ne. subst (λ (x : Known). StartOf x.steps (steps_under n es)) (sym (left_other v.known k n ne)) (h.told n));
     whole = λ n m. let q = left_mine n m in ap (λ (x : Known). x.steps) (left_other v.known k n q.0) ∙ h.whole n q.1;
     width = λ n m. let w = h.width n (left_mine n m).1 in (w.0, length-set v.known k unknown ∙ w.1, w.2);
+    heard = none_heard;
   }
 
   gone_knows : (es : List ClockEvent) (number : ℕ) → KnowsHistory plan es v →
-      KnowsHistory plan es record { plan = v.plan; number = number; known = gone_known }
+      KnowsHistory plan es (view_of v.plan number gone_known)
   gone_knows es number h =
       let long : length gone_known ≡ length v.known =
       length-set (replicate (length v.known) unknown) k (known_at v.known k)
@@ -142,16 +153,17 @@ module _ (plan : Layout) (v : View) (k : ℕ) (mine : (known_at v.known k).mine 
             (ap (λ (x : Known). x.steps) gone_here ∙ h.whole k mine);
         width = λ n m.
             let w = h.width k mine in (subst (λ j. j < plan.seats) (sym (gone_mine n m)) w.0, long ∙ w.1, w.2);
+        heard = none_heard;
       }
 
   -- the giver keeps its other numbers, and the new seat has this one
   module _ {S : Type 0} (id number : ℕ) (s : State S View) (kept : HasOneHistory plan {S = S} s)
       (at : get_elem? s.views id ≡ some v) where
     abbrev left : View
-    left = record { plan = v.plan; number = number; known = left_known }
+    left = view_of v.plan number left_known
 
     abbrev gone : View
-    gone = record { plan = v.plan; number = k; known = gone_known }
+    gone = view_of v.plan k gone_known
 
     abbrev views : List View
     views = set s.views id left ++ gone ∷ []

@@ -1,6 +1,8 @@
 -- Each kind of step on a word may be made by a seat, whatever the table is, and tells what it found.
 use Rattle.std.proofs.Common.{◌≡◌, ℕ, ◌+◌, ◌%◌, ◌^◌, ◌<◌, true, set, slice_index, sym, refl, ap, subst}
-use Rattle.atomic_table.specs.Table.{Me, keeps, step, Allows}
+use Rattle.std.proofs.lemmas.List.{set-get_or}
+use Rattle.atomic_table.specs.Table.{State, Me, keeps, step, Allows}
+use Rattle.atomic_table.proofs.Lists.{set_again}
 use mathlib.Core.Option.{none}
 use Rattle.lane_clock.specs.declared.found.Change.{Change}
 use Rattle.lane_clock.specs.declared.step.ClockStep.TheVariants.{Draw, Load}
@@ -9,8 +11,8 @@ use Rattle.lane_clock.specs.ClockWord.{amount, found_of}
 use Rattle.lane_clock.specs.Layout.{Layout}
 use Rattle.lane_clock.specs.Knowledge.{known_at, steps_at}
 use Rattle.lane_clock.specs.Steps.{draw_count, step_count}
-use Rattle.lane_clock.specs.History.{HasOneHistory}
-use Rattle.lane_clock.specs.Plays.{step_view, draws, loads}
+use Rattle.lane_clock.specs.Chronicle.{HasOneHistory}
+use Rattle.lane_clock.specs.Plays.{step_view, draws, loads, hears}
 use Rattle.lane_clock.proofs.KeepLemmas.{steps_keep}
 use Rattle.lane_clock.proofs.WordLemmas.{change_of-amount, loaded, drawn_words}
 
@@ -51,3 +53,21 @@ module _ (plan : Layout) {S : Type 0} (slots id : ℕ) (me : Me S View)
       (λ k.
       Allows (λ s. HasOneHistory plan {S = S} s) slots id me 0 (λ n. (n + k) % 2 ^ 64)
       (draws (step slots 0 k 0 none) me)) (sym e) (drawing c few)
+
+-- a load of any word leaves all as it is, and tells that what was heard agrees
+pub may_hear : (plan : Layout) {S : Type 0} (slots id : ℕ) (me : Me S View) (word : ℕ)
+    → Allows (λ s. HasOneHistory plan {S = S} s) slots id me word (λ n. n) (hears (step slots word 0 0 none) me)
+may_hear plan {S} slots id me word s kept homes at small =
+    let same : record { words = set s.words word (slice_index s.words word); homes = s.homes; views = set s.views id me.0 }
+    ≡ s
+    = λ i. record {
+      words = set-get_or s.words word 0 i;
+      homes = s.homes;
+      views = set_again s.views id me.0 at i;
+    } in (
+      me.0,
+      keeps,
+      tt,
+      subst (λ (t : State S View). HasOneHistory plan {S = S} t) (sym same) kept,
+      (refl, (kept.each id me.0 at).heard),
+    )

@@ -12,7 +12,8 @@ use Rattle.lane_clock.specs.declared.step.ClockStep.TheVariants.{Draw, Load, Pla
 use Rattle.lane_clock.specs.ClockWord.{amount, change_of}
 use Rattle.lane_clock.specs.NoteWord.{note_word}
 use Rattle.lane_clock.specs.Layout.{Layout, total, slot, slot_lane, slot_place, place_word, cell_word}
-use Rattle.lane_clock.specs.History.{ClockEvent, AreWords, places_after, cell_after}
+use Rattle.lane_clock.specs.Chronicle.{AreWords}
+use Rattle.lane_clock.specs.History.{ClockEvent, places_after, cell_after}
 use Rattle.lane_clock.proofs.KnownLemmas.{event}
 
 pub change_of-amount : (c : Change) → change_of (amount c) ≡ c

@@ -60,3 +60,18 @@ pub record AddsUp (guards : ℕ) (changes : ℕ → Change) (n : ℕ) (found : F
   pub clock : found.clock ≡ n
   pub work : found.work ≡ guards + ups_below changes n - downs_below changes n
   pub stops : found.stops ≡ stops_below changes n
+
+-- the parts after a draw
+abbrev pub parts_with : Change → Found → Found
+parts_with change f = record {
+  clock = f.clock + 1;
+  work = f.work + up_of change - down_of change;
+  stops = f.stops + stop_of change;
+}
+
+-- After a draw each part stays within its bounds
+pub record StayParted (change : Change) (f : Found) : Type 0 where
+  pub clock : f.clock + 1 < 2 ^ 32
+  pub down : down_of change ≤ f.work + up_of change
+  pub work : f.work + up_of change - down_of change < 2 ^ 16
+  pub stops : f.stops + stop_of change < 2 ^ 16

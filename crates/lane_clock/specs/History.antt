@@ -1,17 +1,14 @@
--- What the table keeps, this project's own: one history of all steps, the newest first, of which
--- the words and all that seats know are parts. The rule of the clock follows from it.
-use Rattle.std.specs.Prelude.{◌≡◌, ℕ, ◌+◌, ◌*◌, ◌%◌, ◌^◌, ◌<◌, ◌≤◌, List, [], ◌∷◌, ◌++◌, length, slice_index, slice_set, true, ◌==◌, ◌&&◌, if◌then◌else◌, Option, Some, None, replicate}
+-- The one history of a clock, this project's own: all steps of all seats, the newest first. The list
+-- of each number and the words are parts of it, and each step finds what the older steps left. The
+-- rule of the clock follows from it.
+use Rattle.std.specs.Prelude.{◌≡◌, ℕ, ◌+◌, ◌*◌, ◌%◌, ◌^◌, ◌<◌, ◌≤◌, List, [], ◌∷◌, ◌++◌, length, slice_index, ◌==◌, ◌&&◌, if◌then◌else◌, Option, Some, None}
 use lib.ListN.{get_elem?}
 use mathlib.Core.Option.{some}
-use Rattle.atomic_table.specs.Table.{State}
 use Rattle.lane_clock.specs.declared.note.Note.{Note}
 use Rattle.lane_clock.specs.declared.step.ClockStep.{ClockStep}
 use Rattle.lane_clock.specs.declared.step.ClockStep.TheVariants.{Draw, Load, Place, Put, Look, Join}
-use Rattle.lane_clock.specs.declared.step.View.{View}
 use Rattle.lane_clock.specs.ClockWord.{amount, found_of}
-use Rattle.lane_clock.specs.NoteWord.{IsNote, note_word}
-use Rattle.lane_clock.specs.Layout.{Layout, most_seats, total, place_word, cell_word}
-use Rattle.lane_clock.specs.Knowledge.{known_at, steps_at, owns_below}
+use Rattle.lane_clock.specs.NoteWord.{IsNote}
 use Rattle.lane_clock.specs.Steps.{draw_count, MayDraw, MayPlace}
 use Rattle.lane_clock.specs.Rule.{ClockWords}
 
@@ -94,48 +91,12 @@ words_after guards es = record {
   cells = λ lane place. cell_after lane place es;
 }
 
--- these words lie in the table
-pub record AreHeld (plan : Layout) (words : ClockWords) (ws : List ℕ) : Type 0 where
-  pub count : length ws ≡ 1 + length plan.cells + total plan.cells
-  pub clock : slice_index ws 0 ≡ words.clock_word
-  pub places : (lane : ℕ) → lane < length plan.cells →
-      slice_index ws (place_word lane) ≡ words.places lane
-  pub cells : (lane place : ℕ) → place < slice_index plan.cells lane →
-      slice_index ws (cell_word plan.cells lane place) ≡ note_word (words.cells lane place)
-
--- the table's words are those of the history
-abbrev pub AreWords : Layout → List ClockEvent → List ℕ → Type 0
-AreWords plan es ws = AreHeld plan (words_after plan.guards es) ws
-
--- the first steps of all
-abbrev pub StartOf : List ClockStep → List ClockStep → Type 0
-StartOf front all = (rest : List ClockStep) × (all ≡ front ++ rest)
-
--- What a view knows of a history: the first steps under each number, and all of those that are its
--- own
-pub record KnowsHistory (plan : Layout) (es : List ClockEvent) (v : View) : Type 0 where
-  pub short : length v.known ≤ plan.seats
-  pub told : (n : ℕ) → StartOf (steps_at v.known n) (steps_under n es)
-  pub whole : (n : ℕ) → (known_at v.known n).mine ≡ true → steps_at v.known n ≡ steps_under n es
-  pub width : (n : ℕ) → (known_at v.known n).mine ≡ true →
-      (n < plan.seats) × (length v.known ≡ plan.seats) × (v.plan ≡ plan)
-
--- The fact that each step keeps
-pub record HasOneHistory (plan : Layout) {S : Type 0} (s : State S View) : Type 0 where
-  pub history : List ClockEvent
-  pub few : (plan.seats ≤ most_seats) × (plan.guards < most_seats)
-  pub sound : IsSoundHistory plan.guards plan.seats history
-  pub words : AreWords plan history s.words
-  pub each : (i : ℕ) (v : View) → get_elem? s.views i ≡ some v → KnowsHistory plan history v
-  pub apart : (i j n : ℕ) (v w : View) → get_elem? s.views i ≡ some v →
-      get_elem? s.views j ≡ some w → (known_at v.known n).mine ≡ true →
-      (known_at w.known n).mine ≡ true → i ≡ j
-
--- the view of the seat that has all numbers below the seats' count to give
-abbrev pub giver : Layout → View
-giver plan = record { plan = plan; number = plan.seats; known = owns_below plan.seats plan.seats }
-
--- the words at the start: the guards as work, and nothing else
-abbrev pub first_words : Layout → List ℕ
-first_words plan =
-    slice_set (replicate (1 + length plan.cells + total plan.cells) 0) 0 (plan.guards * 2 ^ 32)
+-- When the i-th step under a number was made. What is older was a history, and the step fitted it
+pub record IsMadeIn (guards seats : ℕ) (history : List ClockEvent) (n i : ℕ) (step : ClockStep)
+    : Type 0 where
+  pub newer : List ClockEvent
+  pub older : List ClockEvent
+  pub parts : history ≡ newer ++ record { by = n; step = step } ∷ older
+  pub index : i ≡ length (steps_under n older)
+  pub sound : IsSoundHistory guards seats older
+  pub fits : Fits guards older n step

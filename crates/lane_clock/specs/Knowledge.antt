@@ -1,6 +1,6 @@
 -- What seats know, this project's own: of each number the steps that were made under it, or the
 -- first of them.
-use Rattle.std.specs.Prelude.{ℕ, ◌-◌, List, [], ◌∷◌, ◌++◌, map, length, replicate, slice_index_or, slice_set, Bool, true, false, if◌then◌else◌, nat_lt, ◌||◌}
+use Rattle.std.specs.Prelude.{◌≡◌, ◌⊎◌, ℕ, ◌-◌, List, [], ◌∷◌, ◌++◌, map, length, replicate, slice_index_or, slice_set, Bool, true, false, if◌then◌else◌, nat_lt, ◌||◌}
 use Rattle.lane_clock.specs.declared.step.ClockStep.{ClockStep}
 use Rattle.lane_clock.specs.declared.step.Known.{Known}
 
@@ -17,6 +17,20 @@ known_at ks n = slice_index_or ks n unknown
 
 abbrev pub steps_at : List Known → ℕ → List ClockStep
 steps_at ks n = (known_at ks n).steps
+
+-- the first steps of all
+abbrev pub StartOf : List ClockStep → List ClockStep → Type 0
+StartOf front all = (rest : List ClockStep) × (all ≡ front ++ rest)
+
+-- of two lists one is a start of the other
+abbrev pub Agree : List ClockStep → List ClockStep → Type 0
+Agree xs ys = StartOf xs ys ⊎ StartOf ys xs
+
+-- What two know of each number agrees; of a number that one goes on with the other knows no more
+pub record AreTogether (as_ bs : List Known) : Type 0 where
+  pub agree : (n : ℕ) → Agree (steps_at as_ n) (steps_at bs n)
+  pub first : (n : ℕ) → (known_at as_ n).mine ≡ true → StartOf (steps_at bs n) (steps_at as_ n)
+  pub second : (n : ℕ) → (known_at bs n).mine ≡ true → StartOf (steps_at as_ n) (steps_at bs n)
 
 -- one step more under a number
 abbrev pub longer_by : Known → ClockStep → Known

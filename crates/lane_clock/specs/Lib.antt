@@ -7,6 +7,8 @@ pub mod Seats
 pub mod Steps
 pub mod Rule
 pub mod History
+pub mod Chronicle
+pub mod Closing
 pub mod Plays
 pub mod Changes
 pub mod Laws

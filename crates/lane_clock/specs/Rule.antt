@@ -8,7 +8,6 @@ use Rattle.lane_clock.specs.declared.found.Change.{Change}
 use Rattle.lane_clock.specs.declared.note.Note.{Note}
 use Rattle.lane_clock.specs.declared.step.ClockStep.{ClockStep}
 use Rattle.lane_clock.specs.declared.step.ClockStep.TheVariants.{Draw, Load, Place, Put, Look, Join}
-use Rattle.lane_clock.specs.Layout.{most_seats}
 use Rattle.lane_clock.specs.ClockWord.{amount, word_of, IsParted}
 
 -- What the words of a clock hold
@@ -150,11 +149,3 @@ module _ (lists : ℕ → List ClockStep) where
       pub loads_agree : LoadsAgree
       pub joins_before : JoinsBefore
       pub empty_looks : EmptyLooks
-
--- A clock that is closed: its lists meet the rule, and in the end its word has these parts
-pub record Closed (lists : ℕ → List ClockStep) (guards : ℕ) (last : Found) : Type 0 where
-  pub few : guards < most_seats
-  pub words : ClockWords
-  pub word : words.clock_word ≡ word_of last
-  pub parts : IsParted last
-  pub rule : ClockRule lists words guards

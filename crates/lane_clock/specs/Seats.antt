@@ -6,7 +6,7 @@ use Rattle.lane_clock.specs.declared.step.ClockStep.TheVariants.{Place, Join}
 use Rattle.lane_clock.specs.declared.step.Known.{Known}
 use Rattle.lane_clock.specs.declared.step.View.{View}
 use Rattle.lane_clock.specs.Layout.{Layout}
-use Rattle.lane_clock.specs.Knowledge.{known_at, steps_at, stepped_at, copy_of, joined, counts, owns_only}
+use Rattle.lane_clock.specs.Knowledge.{known_at, steps_at, StartOf, Agree, stepped_at, copy_of, joined, counts, owns_only}
 
 -- Which clock it is
 pub record ClockId : Type 0 where
@@ -68,6 +68,18 @@ Owns seat n = (known_at seat.known n).mine ≡ true
 -- what one seat owns another does
 abbrev pub Keeps : SeatView → SeatView → Type 0
 Keeps a b = (n : ℕ) → Owns a n → Owns b n
+
+-- of each number what two seats know agrees: one knows the first steps of what the other knows
+abbrev pub SeatsAgree : SeatView → SeatView → Type 0
+SeatsAgree a b = (n : ℕ) → Agree (steps_at a.known n) (steps_at b.known n)
+
+-- of a number that the first owns the second knows the first steps alone
+abbrev pub IsSourceOf : SeatView → SeatView → Type 0
+IsSourceOf a b = (n : ℕ) → Owns a n → StartOf (steps_at b.known n) (steps_at a.known n)
+
+-- all that one knew of each number the other knows
+abbrev pub Remembers : SeatView → SeatView → Type 0
+Remembers a b = (n : ℕ) → StartOf (steps_at a.known n) (steps_at b.known n)
 
 -- with the steps under all numbers
 abbrev pub OwnsAll : SeatView → Type 0

@@ -1,17 +1,20 @@
-ghost use Rattle.std.specs.Prelude.{◌≡◌, ◌+◌, ◌<◌, [], ◌∷◌, ◌++◌, length, slice_index, IfOk, IfSome, IfNone, IsTrue, IsFalse};
+ghost use Rattle.std.specs.Prelude.{◌≡◌, true, ◌+◌, ◌<◌, [], ◌∷◌, ◌++◌, length, slice_index, IfOk, IfSome, IfNone, IsTrue, IsFalse};
 ghost use Rattle.lane_clock.specs.declared.step.ClockStep.TheVariants.{Draw, Load, Place, Put, Look, Join};
 ghost use Rattle.lane_clock.specs.Layout.{layout, most_seats};
-ghost use Rattle.lane_clock.specs.Knowledge.{counts, steps_at};
-ghost use Rattle.lane_clock.specs.Seats.{DrawsBeyond, all_left, Keeps, OwnsAll, own, after_step, after_join, copy_seat};
+ghost use Rattle.lane_clock.specs.Knowledge.{AreTogether, counts, known_at, steps_at};
+ghost use Rattle.lane_clock.specs.Seats.{DrawsBeyond, all_left, Keeps, SeatsAgree, IsSourceOf, Remembers, OwnsAll, own, after_step, after_join, copy_seat};
+ghost use Rattle.lane_clock.specs.Plays.{join_view};
 ghost use Rattle.lane_clock.specs.Steps.{MayDraw, MayPlace, has_drawn, has_put};
 ghost use Rattle.lane_clock.specs.ClockWord.{IsParted};
-ghost use Rattle.lane_clock.specs.Rule.{Closed};
-ghost use Rattle.lane_clock.specs.History.{first_words};
+ghost use Rattle.lane_clock.specs.Closing.{Closed};
+ghost use Rattle.lane_clock.specs.Chronicle.{first_words};
 
 use crate::found::{Change, Found, amount_of};
 use crate::note::Note;
 use crate::plan::ClockPlan;
-use crate::rule::{Copies, Draws, DrawsPlaces, Loads, Looks, Puts, TakesIn, WordTable};
+use crate::rule::{
+    Copies, Draws, DrawsPlaces, Hears, Loads, Looks, Puts, TableSeat, TakesIn, WordTable,
+};
 use crate::seat::{LaneCopy, LaneSeat, SeatList};
 use asio_types::NoMemory;
 use std::alloc::Global;
@@ -165,21 +168,39 @@ impl LaneClock {
         }
     }
 
+    // Takes in what another seat knows. A join tells nothing, so the load of a word that hardly
+    // changes follows it.
+    fn take_in(&self, seat: &mut TableSeat, other: TableSeat)
+        requires same { seat.old.table_id ≡ self.now.table }
+        requires there { other.table_id ≡ self.now.table }
+        requires empty { other.me.1 ≡ [] }
+        requires mine { (known_at seat.old.me.0.known seat.old.me.0.number).mine ≡ true }
+        ensures table { seat.new.table_id ≡ seat.old.table_id }
+        ensures view { seat.new.me ≡ (join_view seat.old.me.0 other.me.0.known, seat.old.me.1) }
+        ensures together { AreTogether seat.old.me.0.known other.me.0.known }
+    {
+        self.table.shared.join_seat::<TakesIn>(seat, other);
+        self.table.shared.load::<Hears>(seat, self.plan.words() - 1);
+    }
+
     /// Takes in what a seat knew when it was copied. What it had drawn then is below what this seat
-    /// finds from now on.
+    /// finds from now on. What the two knew of a number agrees, and of this seat's own numbers the
+    /// copy knew no more than this seat.
     pub fn meet(&self, seat: &mut LaneSeat, copy: LaneCopy)
         requires clock { seat.old.clock ≡ self.now }
         requires same { copy.clock ≡ self.now }
         ensures step { seat.new ≡ after_join seat.old copy.known }
         ensures own { own seat.new ≡ own seat.old ++ Join (counts copy.known) ∷ [] }
         ensures keeps { Keeps seat.old seat.new }
+        ensures agree { SeatsAgree seat.old copy }
+        ensures whole { IsSourceOf seat.old copy }
+        ensures remembers { Remembers seat.old seat.new × Remembers copy seat.new }
     {
-        self.table
-            .shared
-            .join_seat::<TakesIn>(&mut seat.seat, copy.seat);
+        self.take_in(&mut seat.seat, copy.seat);
     }
 
-    /// Takes in another seat, whose numbers are this one's from now on.
+    /// Takes in another seat, whose numbers are this one's from now on. What the two knew of a
+    /// number agrees, and of each one's own numbers the other knew no more.
     pub fn join(&self, seat: &mut LaneSeat, other: LaneSeat)
         requires clock { seat.old.clock ≡ self.now }
         requires same { other.clock ≡ self.now }
@@ -187,18 +208,21 @@ impl LaneClock {
         ensures own { own seat.new ≡ own seat.old ++ Join (counts other.known) ∷ [] }
         ensures keeps { Keeps seat.old seat.new }
         ensures takes { Keeps other seat.new }
+        ensures agree { SeatsAgree seat.old other }
+        ensures whole { IsSourceOf seat.old other }
+        ensures theirs { IsSourceOf other seat.old }
+        ensures remembers { Remembers seat.old seat.new × Remembers other seat.new }
     {
-        self.table
-            .shared
-            .join_seat::<TakesIn>(&mut seat.seat, other.seat);
+        self.take_in(&mut seat.seat, other.seat);
     }
 
-    /// What the clock word holds at the end, when all other seats were joined in. The steps under
-    /// all numbers meet the rule of the clock.
+    /// What the clock word holds at the end, when all other seats were joined in. There is one
+    /// history of all steps, in which each finds what the older ones left, and the steps under all
+    /// numbers are its parts and meet the rule of the clock.
     pub fn close(self, seat: LaneSeat) -> Found
         requires clock { seat.clock ≡ self }
         requires all { OwnsAll seat }
-        ensures closed { Closed (λ number. steps_at seat.known number) self.plan.guards result }
+        ensures closed { Closed (λ number. steps_at seat.known number) self.plan result }
     {
         let LaneClock { table, plan: _ } = self;
         let closed = table.close_with(seat.seat);

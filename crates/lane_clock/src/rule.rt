@@ -8,7 +8,7 @@ use std::alloc::Global;
 pub(crate) struct Chronicle;
 
 impl TableRule<(), View, ClockPlan> for Chronicle {
-    ghost use Rattle.lane_clock.specs.History.{HasOneHistory, giver};
+    ghost use Rattle.lane_clock.specs.Chronicle.{HasOneHistory, giver};
 
     ghost holds = { λ plan s. HasOneHistory plan s };
 
@@ -57,6 +57,14 @@ impl Play<(), View> for Looks {
     ghost use Rattle.lane_clock.specs.Plays.{looks};
 
     ghost then = { looks };
+}
+
+pub(crate) struct Hears;
+
+impl Play<(), View> for Hears {
+    ghost use Rattle.lane_clock.specs.Plays.{hears};
+
+    ghost then = { hears };
 }
 
 // A number of the giver's goes to a new seat.

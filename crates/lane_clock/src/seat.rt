@@ -1,6 +1,6 @@
 ghost use Rattle.std.specs.Prelude.{◌≡◌, ◌<◌, ◌≤◌, ◌↔◌, [], IfOk, IfSome, OnSome, IfNone, IsNone};
 ghost use Rattle.lane_clock.specs.Seats.{Owns, all_left, clock_id, new_clock_seat, one_given};
-ghost use Rattle.lane_clock.specs.History.{giver as giver_of};
+ghost use Rattle.lane_clock.specs.Chronicle.{giver as giver_of};
 
 use crate::rule::{GivesNumber, TableSeat, WordTable};
 use asio_types::NoMemory;

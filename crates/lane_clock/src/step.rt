@@ -34,4 +34,7 @@ pub struct View {
     pub number: u64,
     /// What is known of each number.
     pub known: LinkedList<Known>,
+    /// What was known before another seat was last taken in, and what that seat knew.
+    pub knew: LinkedList<Known>,
+    pub heard: LinkedList<Known>,
 }

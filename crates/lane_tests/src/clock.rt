@@ -1,14 +1,35 @@
-ghost use Rattle.std.specs.Prelude.{◌≡◌, ◌<◌, [], length};
-ghost use Rattle.lane_clock.specs.Seats.{Keeps, Owns, own};
+ghost use Rattle.std.specs.Prelude.{◌≡◌, ◌<◌, List, [], length};
+ghost use Rattle.lane_clock.specs.History.{ClockEvent, drawn};
+ghost use Rattle.lane_clock.specs.Seats.{Keeps, Owns, OwnsAll, Remembers, own};
 
 use asio_types::Code;
-use lane_clock::{Change, Found, LaneClock, LaneSeat, Note};
+use lane_clock::{Change, Found, LaneClock, LaneCopy, LaneSeat, Note};
 use std::process::Abort;
 use std::test::Fail;
 use std::thread::{Threads, join};
 
 fn found(clock: u64, work: u64, stops: u64) -> Found {
     Found { clock, work, stops }
+}
+
+// Closes a clock. It shows how many positions its one history drew.
+fn closed(clock: LaneClock, seat: LaneSeat) -> Found
+    requires clock { seat.clock ≡ clock }
+    requires all { OwnsAll seat }
+    ensures { (es : List ClockEvent) × (drawn es ≡ result.clock) }
+{
+    clock.close(seat)
+}
+
+// Meets two copies, and still knows what the first told.
+fn meet_two(clock: &LaneClock, seat: &mut LaneSeat, first: LaneCopy, second: LaneCopy)
+    requires seat { seat.old.clock ≡ clock.now }
+    requires copies { (first.clock ≡ clock.now) × (second.clock ≡ clock.now) }
+    ensures clock { seat.new.clock ≡ clock.now }
+    ensures remembers { Remembers first seat.new }
+{
+    clock.meet(seat, first);
+    clock.meet(seat, second);
 }
 
 // Joins all seats into the first, and closes.
@@ -28,7 +49,7 @@ fn gathered(
     clock.join(&mut first, second);
     clock.join(&mut first, third);
     clock.join(&mut first, fourth);
-    clock.close(first)
+    closed(clock, first)
 }
 
 #[test]
@@ -85,8 +106,9 @@ fn copy_tells_another_seat(rt: HostRuntime) -> Result<(), Fail> {
     let mut lane = seats.next().expect(&rt, "the lane's seat");
     let mut worker = seats.next().expect(&rt, "the worker's seat");
     let drawn = clock.draw(&mut lane, Change::Down);
-    let copy = clock.split(&mut lane);
-    clock.meet(&mut worker, copy);
+    let early = clock.split(&mut lane);
+    let late = clock.split(&mut lane);
+    meet_two(&clock, &mut worker, late, early);
     let seen = clock.load(&mut worker);
     assert!(rt; drawn == found(0, 3, 0) && seen == found(1, 2, 0));
     Ok(())

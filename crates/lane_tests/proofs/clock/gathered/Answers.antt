@@ -3,8 +3,8 @@ use Rattle.lane_clock.specs.Seats.{SeatView, Owns}
 use Rattle.lane_tests.proofs.NumberLemmas.{below_four}
 use Rattle.lane_tests.proofs.clock.gathered.Goals as goal
 
-pub close-requires-clause-all : goal.close-requires-clause-all
-close-requires-clause-all c n lt =
+pub closed-requires-clause-all : goal.closed-requires-clause-all
+closed-requires-clause-all c n lt =
     let clock =
     ap (λ (s : SeatView). s.clock) c.join-3.ensures.step
     ∙ (ap (λ (s : SeatView). s.clock) c.join-2.ensures.step

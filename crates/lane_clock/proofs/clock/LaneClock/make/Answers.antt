@@ -1,6 +1,6 @@
 use Rattle.std.proofs.Common.{◌≡◌, ap, ◌∙◌, sym, arith, subst, [], ◌+◌, ◌^◌, ◌<◌, ◌≤◌, length}
 use Rattle.atomic_table.specs.Table.{opening}
-use Rattle.lane_clock.specs.History.{HasOneHistory, giver}
+use Rattle.lane_clock.specs.Chronicle.{HasOneHistory, giver}
 use Rattle.lane_clock.proofs.EndLemmas.{starts}
 use Rattle.lane_clock.proofs.clock.LaneClock.make.Goals as goal
 
