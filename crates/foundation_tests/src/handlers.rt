@@ -146,11 +146,11 @@ fn a_rack_executes_none_that_it_discards(rt: HostRuntime) -> Result<(), Fail> {
     let mut rack = rack_of(rt.alloc(), counted)?;
     assert!(rt; !rack.is_whole());
     have_run_marks(&rt, &mut rack, TAKEN);
-    rack.discard_rest();
-    assert_eq!(rt; (executions.get(), discards.get()), (1, 2));
+    let left = rack.discard_rest();
+    assert_eq!(rt; (left, executions.get(), discards.get()), (140, 1, 2));
     assert_eq!(rt; rack.count(), 4);
     rack.put(3, counted);
-    rack.discard_all();
-    assert_eq!(rt; (executions.get(), discards.get()), (1, 3));
+    let last = rack.discard_all();
+    assert_eq!(rt; (last, executions.get(), discards.get()), (70, 1, 3));
     Ok(())
 }

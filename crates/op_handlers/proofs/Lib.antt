@@ -1,3 +1,4 @@
 pub mod SpentLemmas
 pub mod BoxedLemmas
 pub mod RackedLemmas
+pub mod DiscardLemmas

@@ -1,7 +1,8 @@
 -- What a rack is seen as.
 use Rattle.std.specs.Prelude.{◌≡◌, ℕ, ◌<◌, List, length, map, slice_get, All, IsSome, Option, None, Some}
+use Rattle.std.specs.List.{sum_by}
 use Rattle.std.specs.Option.{option_flatten, option_map}
-use Rattle.op_handlers.specs.Marks.{Marks}
+use Rattle.op_handlers.specs.Marks.{Marks, drop_mark_of}
 use Rattle.op_handlers.specs.declared.rack.Rack.{Rack}
 
 -- for each number the handler, or nothing where it was taken
@@ -15,6 +16,10 @@ marks_in marks rack = map (option_map marks) (handlers_in rack)
 -- the handler at a number, if it is below the count and was not taken
 abbrev pub handler_at : {H : Type 0} → Rack H → ℕ → Option H
 handler_at rack a = option_flatten (slice_get (handlers_in rack) a)
+
+-- the sum of the drop marks of the handlers that are there
+abbrev pub drop_marks : {H : Type 0} → (H → Marks) → List (Option H) → ℕ
+drop_marks marks handlers = sum_by (drop_mark_of marks) handlers
 
 -- no handler is left, and the numbers stay
 pub record AllTaken {H : Type 0} (old new : Rack H) : Type 0 where

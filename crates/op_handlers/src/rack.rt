@@ -1,5 +1,5 @@
 ghost use Rattle.std.specs.Prelude.{◌≡◌, ◌<◌, ◌^◌, length};
-ghost use Rattle.std.specs.Option.{option_map};
+ghost use Rattle.op_handlers.specs.Marks.{drop_mark_of};
 
 use crate::completion::CompletionHandler;
 use crate::handler::Handler;
@@ -68,35 +68,44 @@ impl<H> Rack<H> {
 }
 
 impl<H: CompletionHandler> Rack<H> {
-    ghost use Rattle.op_handlers.specs.Rack.{AllTaken};
+    ghost use Rattle.op_handlers.specs.Rack.{AllTaken, drop_marks, handlers_in};
 
     /// Discards the handlers that are left, in rising number, and executes none. The numbers stay,
-    /// with nothing at any.
-    pub fn discard_rest(&mut self)
-        ensures { AllTaken self.old self.new }
+    /// with nothing at any. Answers the sum of the drop marks, which discarding alone tells.
+    pub fn discard_rest(&mut self) -> u128
+        ensures taken { AllTaken self.old self.new }
+        ensures marks { result ≡ drop_marks H.marks (handlers_in self.old) }
     {
+        let mut marks = 0;
         for n in 0..self.count() {
-            discarded(self.take(n));
+            marks += discarded(self.take(n)) as u128;
         }
+        marks
     }
 
-    /// Discards the handlers that are left, in rising number, and executes none.
-    pub fn discard_all(self) {
+    /// Discards the handlers that are left, in rising number, and executes none. Answers the sum of
+    /// the drop marks, which discarding alone tells.
+    pub fn discard_all(self) -> u128
+        ensures { result ≡ drop_marks H.marks (handlers_in self) }
+    {
         let Rack { slots } = self;
         let mut rest = slots.into_iter();
+        let mut marks = 0;
         while let Some(slot) = rest.next() {
-            discarded(slot);
+            marks += discarded(slot) as u128;
         }
         rest.destroy_empty();
+        marks
     }
 }
 
-/// Destroys the handler of a number, if there is one, without a call, and answers its drop mark.
-fn discarded<H: CompletionHandler>(slot: Option<H>) -> Option<u64>
-    ensures { result ≡ option_map (λ handler. (H.marks handler).drop) slot }
+/// Destroys the handler of a number, if there is one, without a call, and answers its drop mark, 0
+/// for none.
+fn discarded<H: CompletionHandler>(slot: Option<H>) -> u64
+    ensures { result ≡ drop_mark_of H.marks slot }
 {
     match slot {
-        Some(handler) => Some(handler.discard()),
-        None => None,
+        Some(handler) => handler.discard(),
+        None => 0,
     }
 }

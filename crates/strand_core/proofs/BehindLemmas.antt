@@ -1,7 +1,10 @@
 -- Handlers from a number on.
-use Rattle.std.proofs.Common.{◌≡◌, ℕ, zero, suc, ◌+◌, ◌<◌, ◌≤◌, List, [], ◌∷◌, Option, Some, None, length, replicate, refl, sym, ap, ◌∙◌, arith, length-append}
+use Rattle.std.proofs.Common.{◌≡◌, ℕ, zero, suc, ◌+◌, ◌<◌, ◌≤◌, List, [], ◌∷◌, Option, Some, None, length, replicate, refl, sym, ap, ◌∙◌, arith, length-append, zero-add}
 use Rattle.std.specs.Prelude.{slice_get, slice_set}
 use Rattle.std.proofs.lemmas.List.{length-replicate}
+use Rattle.std.proofs.lemmas.List.Sums.{sum_by-cons}
+use Rattle.op_handlers.specs.Marks.{Marks, drop_mark_of}
+use Rattle.op_handlers.specs.Rack.{drop_marks}
 use Rattle.strand_core.specs.Hands.{behind, in_list}
 
 module _ {H : Type 0} where
@@ -43,3 +46,10 @@ module _ {H : Type 0} where
       in_list (behind first hs) n ≡ None → slice_get hs k ≡ Some None
   free-behind first hs n k is less none =
       free_at hs k (omega (arith, is, less)) (sym (in_behind first hs n k is) ∙ none)
+
+  -- those before the first have no drop marks
+  pub marks-behind : (marks : H → Marks) (first : ℕ) (hs : List (Option H)) →
+      drop_marks marks (behind first hs) ≡ drop_marks marks hs
+  marks-behind marks zero hs = refl
+  marks-behind marks (suc first) hs =
+      sum_by-cons (drop_mark_of marks) None (behind first hs) ∙ zero-add _ ∙ marks-behind marks first hs

@@ -1,22 +1,10 @@
 -- Lists of handlers of which one is taken.
 use Rattle.std.proofs.Common.{◌≡◌, ◌≢◌, ℕ, zero, suc, ◌<◌, List, [], ◌∷◌, ◌⊎◌, inl, inr, Option, Some, None, IsSome, length, refl, sym, ap, subst, ◌∙◌, arith}
 use Rattle.std.specs.Prelude.{slice_set}
+pub use Rattle.op_handlers.proofs.DiscardLemmas.{taken_other, taken_same}
 use Rattle.session_script.specs.Script.{ScriptModel, parent_of}
 use Rattle.session_script.specs.WellFormed.{HasParent}
 use Rattle.strand_core.specs.Hands.{Held, IsInlineOf, HasInlineOf, KeepsInline, CallerIsGone, in_list}
-
-pub taken_same : {H : Type 0} (hs : List (Option H)) (op : ℕ) → in_list (slice_set hs op None) op ≡ None
-taken_same [] op = refl
-taken_same (h ∷ hs) zero = refl
-taken_same (h ∷ hs) (suc op) = taken_same hs op
-
-pub taken_other : {H : Type 0} (hs : List (Option H)) (op n : ℕ) → op ≢ n →
-    in_list (slice_set hs op None) n ≡ in_list hs n
-taken_other [] op n differ = refl
-taken_other (h ∷ hs) zero zero differ = absurd (differ refl)
-taken_other (h ∷ hs) zero (suc n) differ = refl
-taken_other (h ∷ hs) (suc op) zero differ = refl
-taken_other (h ∷ hs) (suc op) (suc n) differ = taken_other hs op n (λ same. differ (ap suc same))
 
 pub is_within : {H : Type 0} (hs : List (Option H)) (op : ℕ) → IsSome (in_list hs op) → op < length hs
 is_within [] op some = absurd (cc)

@@ -8,3 +8,6 @@ pub mod ReadyLemmas
 pub mod BodyLemmas
 pub mod SomeLemmas
 pub mod RunLemmas
+pub mod FitLemmas
+pub mod BegunLemmas
+pub mod RoomLemmas

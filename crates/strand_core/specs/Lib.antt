@@ -2,3 +2,4 @@ pub mod Execution
 pub mod Hands
 pub mod Answer
 pub mod Ready
+pub mod Room

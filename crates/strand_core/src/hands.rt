@@ -1,6 +1,6 @@
 ghost use Rattle.std.specs.Prelude.{◌≡◌, ◌<◌, ℕ, length, true, None, Some, IsSome, IfOk, IfErr, replicate, slice_get, slice_set};
 ghost use Rattle.std.specs.Option.{option_map};
-ghost use Rattle.op_handlers.specs.Rack.{handler_at, handlers_in};
+ghost use Rattle.op_handlers.specs.Rack.{drop_marks, handler_at, handlers_in};
 ghost use Rattle.session_script.specs.Script.{is_op};
 ghost use Rattle.strand_core.specs.Hands.{CallerIsGone, HasInlineOf, held_at, is_op_of, is_of_lane, left_at, or_other, taken_at};
 
@@ -199,13 +199,16 @@ impl<'a, H: CompletionHandler> Hands<'a, H> {
         (self, mark)
     }
 
-    /// Discards the handlers that are left, in rising number, and executes none.
-    pub fn discard_all(self) {
+    /// Discards the handlers that are left, in rising number, and executes none. Answers the sum of
+    /// the drop marks, which discarding alone tells.
+    pub fn discard_all(self) -> u128
+        ensures { result ≡ drop_marks H.marks self.entry.handlers }
+    {
         let Hands {
             script: _,
             first: _,
-            held,
+            held: rest,
         } = self;
-        held.discard_all();
+        rest.discard_all()
     }
 }

@@ -7,12 +7,14 @@
 mod execution;
 mod hands;
 mod lane;
+mod law;
 mod plain_lanes;
 mod posted;
 mod poster;
 
 pub use execution::{Execution, execute};
 pub use hands::Hands;
+pub use law::executions_keep_room;
 pub use plain_lanes::PlainLanes;
 pub use posted::Posted;
 pub use poster::Poster;

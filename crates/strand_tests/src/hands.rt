@@ -15,7 +15,7 @@ use std::cell::Cell;
 use std::process::Abort;
 use strand_core::{Execution, Hands, execute};
 
-const MARKS: Marks = [(7, 70), (8, 80), (9, 90), (0, 0), (0, 0)];
+const MARKS: Marks = [(7, 70), (8, 80), (9, 90), (0, 0), (0, 100)];
 
 /// An operation that completed, with its code and its size, and what its execution comes to.
 type Row = (OpNo, Code, u32, Execution);
@@ -190,5 +190,18 @@ fn a_discarded_handler_is_gone(rt: HostRuntime) {
     none.discard_all();
     rack.discard_all();
     discard_twice(&rt, &script, hands, 70);
+    is_last(&rt, &last, None);
+}
+
+#[test]
+fn what_is_left_is_discarded_without_a_call(rt: HostRuntime) {
+    let text = "session 1 strands 1 open { post 0 { post - { } } } run 1";
+    let script = script_of(&rt, rt.alloc(), text);
+    let last = Cell::new(None);
+    let mut rack = rack_of(&rt, rt.alloc(), MARKS, &last);
+    let hands = all_hands(&rt, rt.alloc(), &script, &mut rack);
+    // no act has the numbers that are left in the rack, and no operation was accepted
+    assert_eq!(rt; rack.discard_all(), 190);
+    assert_eq!(rt; hands.discard_all(), 150);
     is_last(&rt, &last, None);
 }
