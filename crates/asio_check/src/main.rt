@@ -1,18 +1,19 @@
 //! The program: it checks the trace that standard input has behind its script.
 #![tactic(auto)]
 
-use asio_types::{NoMemory, StdSink, StdSource, write_all};
-use std::env;
+use asio_types::{Sink, StdSink, StdSource, write_all};
 use std::process::ExitCode;
-use std::rt::Env;
+use text_io::{NoWords, words_of};
 use trace_check::{CheckStatus, check_session};
 
-/// The words behind the program's name; none where the command line can't be read.
-fn words_of<R: Env + AllocGlobal>(rt: &R) -> Result<Vec<String>, NoMemory> {
-    match env::args(rt) {
-        Ok(args) => Ok(args.skip(1).collect(rt.alloc())?),
-        Err(_) => Ok(Vec::new(rt.alloc())),
-    }
+/// Says why there is no command line: one that can't be read as a whole is faulty.
+fn without_words<N: Sink>(notes: &mut N, why: NoWords) -> CheckStatus {
+    let status = match why {
+        NoWords::Unreadable => CheckStatus::Usage,
+        NoWords::NoMemory => CheckStatus::NoMemory,
+    };
+    let _ = write_all(notes, status.note());
+    status
 }
 
 fn main(rt: HostRuntime) -> ExitCode {
@@ -27,10 +28,7 @@ fn main(rt: HostRuntime) -> ExitCode {
             &mut out,
             &mut notes,
         ),
-        Err(NoMemory) => {
-            let _ = write_all(&mut notes, CheckStatus::NoMemory.note());
-            CheckStatus::NoMemory
-        }
+        Err(why) => without_words(&mut notes, why),
     };
     ExitCode::from(status.number())
 }

@@ -52,6 +52,7 @@ not_cut_off marks given calm worked = wrote worked.form worked.work
     wrote : (form : Form) → Does form marks worked.script given.reactor given.rack_before given.rack_after (λ events. ⊤)
         (WritesPart given.out) → ⊥
     wrote forms.Run work = stood given.out.faults_before given.out.faults_after calm.write work.3.1
+    wrote forms.Net work = stood given.out.faults_before given.out.faults_after calm.write work.3.1
     wrote (forms.Gen start size) work = stood given.out.faults_before given.out.faults_after calm.write work.3.1
     wrote forms.Upgrade work = stood given.out.faults_before given.out.faults_after calm.write work.1.1
 
@@ -65,6 +66,8 @@ not_broken marks given calm worked running = failed worked.form running worked.w
         → ⊥
     failed forms.Run running work = stood given.reactor.sent.faults_before given.reactor.sent.faults_after calm.reactor
         (work.1.faults work.2)
+    failed forms.Net running work = stood given.reactor.sent.faults_before given.reactor.sent.faults_after calm.reactor
+        (work.1.faults work.2)
     failed (forms.Gen start size) running work = stood given.reactor.sent.faults_before given.reactor.sent.faults_after
         calm.reactor (work.1.faults work.2)
     failed forms.Upgrade running work = running
@@ -75,6 +78,7 @@ gen_reads_nothing words start size gen (form, named, reading) = apart form named
   where
     apart : (form : Form) → IsForm words form → IsReadingForm form → ⊥
     apart forms.Run named reading = cc (gen.0, named.0)
+    apart forms.Net named reading = cc (gen.0, named.0)
     apart forms.Upgrade named reading = cc (gen.0, named.0)
     apart (forms.Gen first second) named reading = reading
 

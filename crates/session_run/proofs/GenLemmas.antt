@@ -11,8 +11,8 @@ use Rattle.generated_session.specs.PlainSummary.{SummariesArePlain, plain_summar
 use Rattle.generated_session.specs.Summary.{summary_of}
 use Rattle.session_run.specs.Answer.{Does, Says}
 use Rattle.session_run.specs.Form.{IsForm, IsGen}
-use Rattle.history_book.specs.FromOutside.{is_fault, is_outside_stop}
-use Rattle.history_book.specs.Legal.{IsLegal}
+use Rattle.history_rules.specs.FromOutside.{is_fault, is_outside_stop}
+use Rattle.history_rules.specs.Legal.{IsLegal}
 use Rattle.session_run.specs.Given.{Given, tells_bytes}
 use Rattle.session_run.specs.Origin.{HasOrigin}
 use Rattle.session_run.specs.RackMarks.{drop_mark, rack_run_mark}
@@ -92,6 +92,7 @@ plain_done marks given note said law start size words = by_form said.0.form said
         → Does form marks said.0.script given.reactor given.rack_before given.rack_after ShowsNoFault (Writes given.out)
         → Writes given.out (plain_summary start size (rack_run_mark marks given.rack_before))
     by_form forms.Run named origin work = absurd (cc (named.0, words.0))
+    by_form forms.Net named origin work = absurd (cc (named.0, words.0))
     by_form forms.Upgrade named origin work = absurd (cc (named.0, words.0))
     by_form (forms.Gen first second) named origin (events, run, quiet, wrote) =
         let same = same_numbers first second start size given.words named words in

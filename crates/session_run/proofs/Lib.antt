@@ -1,6 +1,7 @@
 pub mod CompleteLemmas
 pub mod FormLemmas
 pub mod GenLemmas
+pub mod LastLemmas
 pub mod NumberLemmas
 pub mod RackLemmas
 pub mod RunLemmas

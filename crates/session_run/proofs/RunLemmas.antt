@@ -7,9 +7,10 @@ use Rattle.asio_types.specs.declared.event.Event.{Event}
 use Rattle.asio_types.specs.declared.event.Event.TheVariants as event
 use Rattle.session_script.specs.Script.{ScriptModel}
 use Rattle.reactor_trait.specs.Reactor.{Outside, ReactorState}
-use Rattle.history_book.specs.Legal.{IsLegal, state_of}
-use Rattle.history_book.specs.Marks.{HasMarks}
-use Rattle.history_book.specs.State.{State}
+use Rattle.history_book.specs.Trace.{AreEvents}
+use Rattle.history_rules.specs.Legal.{IsLegal, state_of}
+use Rattle.history_rules.specs.Marks.{HasMarks}
+use Rattle.history_rules.specs.State.{State}
 use Rattle.op_handlers.specs.Marks.{Marks}
 use Rattle.op_handlers.specs.Rack.{AllTaken}
 use Rattle.op_handlers.specs.declared.rack.Rack.{Rack}
@@ -33,6 +34,7 @@ seen_sent (Some outside) s same = same
 pub record Finished (script : ScriptModel) (told : Bool) (run drop : ℕ → ℕ) (before after : ℕ) (events : List Event)
     (state : ReactorState) (outside : Option Outside) : Type 0 where
   pub legal : IsLegal script told events
+  pub numbers : AreEvents events
   pub marked : HasMarks run drop events
   pub unstopped : Contains events (event.Stop None) → ⊥
   pub rose : ShowsFault events → Rose before after
@@ -68,6 +70,7 @@ run_by_names : {H : Type 0} (marks : H → Marks) (script : ScriptModel) (told :
 run_by_names marks script told run drop before after events state first outside old new run_is drop_is spent told_is f =
     record {
       legal = subst (λ told. IsLegal script told events) told_is f.legal;
+      numbers = f.numbers;
       marked = subst (λ run. HasMarks run (drop_mark marks old) events) run_is
           (subst (λ drop. HasMarks run drop events) drop_is f.marked);
       spent = spent;

@@ -5,9 +5,9 @@ use Rattle.std.proofs.lemmas.List.Elements.{All-replicate}
 use Rattle.asio_types.specs.Faults.{Rose}
 use Rattle.asio_types.specs.declared.event.Event.TheVariants as event
 use Rattle.session_script.specs.Script.{ScriptModel}
-use Rattle.history_book.specs.Legal.{IsLegal}
-use Rattle.history_book.specs.Rounds.{is_unspent}
-use Rattle.history_book.specs.State.{fresh}
+use Rattle.history_rules.specs.Legal.{IsLegal}
+use Rattle.history_rules.specs.Rounds.{is_unspent}
+use Rattle.history_rules.specs.State.{fresh}
 use Rattle.op_handlers.specs.Marks.{Marks}
 use Rattle.op_handlers.specs.Rack.{AllTaken}
 use Rattle.op_handlers.specs.declared.rack.Rack.{Rack}
@@ -37,6 +37,7 @@ pub broken_run : {H : Type 0} (marks : H → Marks) (script : ScriptModel) (reac
 broken_run marks script reactor old new spent down rose =
     record {
       legal = fault_is_legal script (tells_bytes reactor);
+      numbers = (tt, tt);
       marked = (tt, tt);
       spent = spent;
       unstopped = not_stopped;

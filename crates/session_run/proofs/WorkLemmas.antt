@@ -39,6 +39,7 @@ does : {H : Type 0} (form : Form) (marks : H → Marks) (script : ScriptModel) (
     (Q : List Event → Type 0) (P : List ℕ → Type 0) → IsRunning form
     → RunsScript form marks script reactor old new Q P → Does form marks script reactor old new Q P
 does forms.Run marks script reactor old new Q P running runs = runs
+does forms.Net marks script reactor old new Q P running runs = runs
 does (forms.Gen start size) marks script reactor old new Q P running runs = runs
 does forms.Upgrade marks script reactor old new Q P running runs = absurd running
 

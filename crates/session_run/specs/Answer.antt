@@ -46,6 +46,8 @@ Does forms.Upgrade marks script reactor old new Q P =
     (handlers_in new ≡ handlers_in old) × P (upgraded_text script)
 Does forms.Run marks script reactor old new Q P =
     RunsScript forms.Run marks script reactor old new Q P
+Does forms.Net marks script reactor old new Q P =
+    RunsScript forms.Net marks script reactor old new Q P
 Does (forms.Gen start size) marks script reactor old new Q P =
     RunsScript (forms.Gen start size) marks script reactor old new Q P
 

@@ -8,6 +8,7 @@ use Rattle.session_run.specs.declared.form.Form.TheVariants as forms
 -- the words of a form
 abbrev pub form_words : Form → List (List ℕ)
 form_words forms.Run = codes "run" ∷ []
+form_words forms.Net = codes "run" ∷ codes "--net" ∷ []
 form_words forms.Upgrade = codes "upgrade" ∷ []
 form_words (forms.Gen start size) = codes "gen" ∷ decimal start ∷ decimal size ∷ []
 
@@ -23,6 +24,10 @@ IsForm words form = (words ≡ form_words form) × HasNumbersWithin form
 -- a script is to be run
 abbrev pub IsRun : List (List ℕ) → Type 0
 IsRun words = IsForm words forms.Run
+
+-- a script is to be run over sockets
+abbrev pub IsNet : List (List ℕ) → Type 0
+IsNet words = IsForm words forms.Net
 
 -- a script is to be upgraded
 abbrev pub IsUpgrade : List (List ℕ) → Type 0

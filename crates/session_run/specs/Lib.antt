@@ -2,6 +2,7 @@ pub mod Answer
 pub mod Ending
 pub mod Form
 pub mod Given
+pub mod Last
 pub mod Origin
 pub mod Outcome
 pub mod RackMarks

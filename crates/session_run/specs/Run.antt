@@ -4,9 +4,10 @@ use Rattle.asio_types.specs.Faults.{Rose}
 use Rattle.asio_types.specs.declared.event.Event.{Event}
 use Rattle.asio_types.specs.declared.event.Event.TheVariants as event
 use Rattle.session_script.specs.Script.{ScriptModel}
-use Rattle.history_book.specs.Legal.{IsLegal, state_of}
-use Rattle.history_book.specs.Marks.{HasMarks}
-use Rattle.history_book.specs.State.{State}
+use Rattle.history_book.specs.Trace.{AreEvents}
+use Rattle.history_rules.specs.Legal.{IsLegal, state_of}
+use Rattle.history_rules.specs.Marks.{HasMarks}
+use Rattle.history_rules.specs.State.{State}
 use Rattle.op_handlers.specs.Marks.{Marks}
 use Rattle.op_handlers.specs.Rack.{AllTaken}
 use Rattle.op_handlers.specs.declared.rack.Rack.{Rack}
@@ -33,6 +34,8 @@ pub record IsRunOf {H : Type 0} (marks : H → Marks) (script : ScriptModel) (re
     (old new : Rack H) (events : List Event) : Type 0 where
   -- each event may come where it comes, and none is missing
   pub legal : IsLegal script (tells_bytes reactor) events
+  -- their numbers fit their types, so that a trace of them fixes them
+  pub numbers : AreEvents events
   -- the events show the marks that the handlers had
   pub marked : HasMarks (rack_run_mark marks old) (drop_mark marks old) events
   -- every handler was spent

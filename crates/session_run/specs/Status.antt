@@ -21,7 +21,7 @@ note_line text = codes "asio_run: " ++ text ++ 10 ∷ []
 abbrev pub note_of : Status → List ℕ
 note_of status.Done = []
 note_of status.Usage =
-    note_line (codes "usage: asio_run run | asio_run upgrade | asio_run gen START SIZE")
+    note_line (codes "usage: asio_run run [--net] | asio_run gen START SIZE | asio_run upgrade")
 note_of status.Refused = []
 note_of status.ReadFault = note_line (codes "read fault")
 note_of status.WriteFault = note_line (codes "write fault")

@@ -1,6 +1,6 @@
-ghost use Rattle.std.specs.Prelude.{◌≡◌, ◌↔◌, ◌<◌, ◌^◌, ℕ, [], ◌∷◌, map, Some, None, string_bytes};
+ghost use Rattle.std.specs.Prelude.{◌≡◌, ◌↔◌, ◌<◌, ◌^◌, ℕ, [], ◌∷◌, map, Some, None, IsTrue, string_bytes};
 ghost use Rattle.std.specs.Fmt.{decimal};
-ghost use Rattle.session_run.specs.Form.{HasForm, IsForm};
+ghost use Rattle.session_run.specs.Form.{HasForm, IsForm, IsNet};
 
 use generated_session::{MOST_SIZE, MOST_START};
 use itoa::Buffer;
@@ -10,6 +10,8 @@ use itoa::Buffer;
 pub enum Form {
     /// A script is read and run, and its trace is written.
     Run,
+    /// The same; the caller asks for a reactor over sockets.
+    Net,
     /// A script is read and upgraded, and the text of its upgrade is written.
     Upgrade,
     /// The script that these numbers make is run, and the summary of its history is written.
@@ -49,6 +51,18 @@ fn form_of_word(word: &String) -> Option<Form>
     }
 }
 
+/// The form with these two words.
+fn form_of_two(word: &String, option: &String) -> Option<Form>
+    ensures some { (form : Form) → (result ≡ Some form) ↔
+        IsForm (string_bytes word.now ∷ string_bytes option.now ∷ []) form }
+{
+    if word.as_bytes() == b"run".as_slice() && option.as_bytes() == b"--net".as_slice() {
+        Some(Form::Net)
+    } else {
+        None
+    }
+}
+
 /// The form with these three words.
 fn form_of_three(word: &String, start: &String, size: &String) -> Option<Form>
     ensures some { (form : Form) → (result ≡ Some form) ↔
@@ -73,7 +87,18 @@ pub(crate) fn form_of(words: &[String]) -> Option<Form>
 {
     match words {
         [word] => form_of_word(word),
+        [word, option] => form_of_two(word, option),
         [word, start, size] => form_of_three(word, start, size),
         _ => None,
+    }
+}
+
+/// Whether the words ask for a session over sockets, whose reactor the caller makes.
+pub fn asks_for_sockets(words: &[String]) -> bool
+    ensures { IsTrue result ↔ IsNet (map string_bytes words.now) }
+{
+    match form_of(words) {
+        Some(Form::Net) => true,
+        _ => false,
     }
 }

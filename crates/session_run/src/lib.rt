@@ -8,6 +8,7 @@
 mod broken;
 mod ending;
 mod form;
+mod last;
 mod noting;
 mod origin;
 mod outcome;
@@ -18,6 +19,8 @@ mod status;
 mod upgrading;
 mod writing;
 
-pub use form::Form;
+pub use form::{Form, asks_for_sockets};
+pub use last::end_buffered;
+pub use rounds::run_rounds;
 pub use session::asio_session;
 pub use status::Status;

@@ -77,6 +77,6 @@ pub(crate) fn script_of<S: Source>(
             Ok(script) => Ok(script),
             Err(_) => Err(NoScript::NoMemory),
         },
-        Form::Run | Form::Upgrade => read_origin(alloc, source),
+        Form::Run | Form::Net | Form::Upgrade => read_origin(alloc, source),
     }
 }

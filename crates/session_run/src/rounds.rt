@@ -49,8 +49,11 @@ fn run_round<
     context.close_round(rt);
 }
 
-/// The rounds of a script, in their order. Takes no memory; the threads are the system's.
-pub(crate) fn run_rounds<
+/// Runs the rounds of a script on its context, in their order, each by as many threads as it names,
+/// as far as the system has them. No clause can say that a handler was executed or by which thread:
+/// what isn't done here, the end of the context does. Takes no memory; the threads are the
+/// system's. May wait, as a guard that is never released does.
+pub fn run_rounds<
     'a,
     R: Threads + Wait + Sync,
     X: Reactor + Send,

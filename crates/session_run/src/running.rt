@@ -63,6 +63,7 @@ fn run_named<
     };
     run_rounds(rt, script, &mut context);
     let ran = context.finish(rt);
+    ran.0.holds_events();
     rack.discard_rest();
     Ok(ran)
 }

@@ -58,7 +58,9 @@ fn work<R: Threads + Wait + Sync, K: Sink, X: Reactor + Send, H: CompletionHandl
 {
     match form {
         Form::Upgrade => (upgrade_and_write(alloc, script, out), reactor),
-        Form::Run | Form::Gen { .. } => run_and_write(rt, alloc, form, script, out, reactor, rack),
+        Form::Run | Form::Net | Form::Gen { .. } => run_and_write(
+            rt, alloc, form, script, out, reactor, rack,
+        ),
     }
 }
 
@@ -118,12 +120,13 @@ fn end<
 /// Does what the words say, which are those behind the program's name. `run` reads a script from
 /// the source and runs it on one io_context over the reactor, with the handlers of the rack: each
 /// round by as many threads as it names, as far as the system has them; and it writes its trace to
-/// out. `gen START SIZE` makes a script from two numbers, START to 65,536 and SIZE from 1 to 1,024,
-/// both without leading zeros; it reads nothing, runs the script so, and writes the summary of its
-/// history. `upgrade` reads a script and writes its text in version 2 to out, its words with one
-/// space between two, and one line feed; it runs nothing, and leaves rack and reactor as they were.
-/// The status says how far this went, with its cause; the notes get the status's note, and change
-/// no status. The reactor comes back.
+/// out. `run --net` does the same; whoever makes the reactor sees by it what is asked for
+/// (`asks_for_sockets`). `gen START SIZE` makes a script from two numbers, START to 65,536 and SIZE
+/// from 1 to 1,024, both without leading zeros; it reads nothing, runs the script so, and writes
+/// the summary of its history. `upgrade` reads a script and writes its text in version 2 to out,
+/// its words with one space between two, and one line feed; it runs nothing, and leaves rack and
+/// reactor as they were. The status says how far this went, with its cause; the notes get the
+/// status's note, and change no status. The reactor comes back.
 ///
 /// Reads at most `MOST_READ` bytes. With the statuses 1, 2, 3 and 6 nothing was run and nothing
 /// written; with 0, 4 and 5 every handler was spent by `run` and `gen`, and none by `upgrade`. A

@@ -1,5 +1,8 @@
 ghost use Rattle.std.specs.Prelude.{◌≡◌};
+ghost use Rattle.session_run.specs.Last.{status_at_last};
 ghost use Rattle.session_run.specs.Status.{number_of, note_of};
+
+use asio_types::Failed;
 
 /// How a session ended: the program's exit status.
 #[derive(Clone, Copy, Debug, PartialEq, Eq)]
@@ -38,11 +41,22 @@ impl Status {
         match self {
             Status::Done | Status::Refused => b"",
             Status::Usage =>
-                b"asio_run: usage: asio_run run | asio_run upgrade | asio_run gen START SIZE\n",
+                b"asio_run: usage: asio_run run [--net] | asio_run gen START SIZE | asio_run upgrade\n",
             Status::ReadFault => b"asio_run: read fault\n",
             Status::WriteFault => b"asio_run: write fault\n",
             Status::ReactorFault => b"asio_run: reactor fault\n",
             Status::NoMemory => b"asio_run: no memory\n",
+        }
+    }
+
+    /// The status at the end of a program whose out was buffered, by what the last flush answered:
+    /// nothing is written whole before that is done.
+    pub fn at_last(self, flushed: Result<(), Failed>) -> Status
+        ensures { result ≡ status_at_last self flushed }
+    {
+        match (self, flushed) {
+            (Status::Done | Status::ReactorFault, Err(Failed)) => Status::WriteFault,
+            _ => self,
         }
     }
 }

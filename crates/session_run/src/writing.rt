@@ -29,7 +29,7 @@ fn write_text<K: Sink>(form: Form, history: &History, out: &mut K) -> Result<(),
 {
     match form {
         Form::Gen { start, size } => write_summary(history, start, size, out),
-        Form::Run | Form::Upgrade => write_trace(history, out),
+        Form::Run | Form::Net | Form::Upgrade => write_trace(history, out),
     }
 }
 

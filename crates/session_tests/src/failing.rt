@@ -22,21 +22,14 @@ const CUT_OFF: &str =
 
 const LATE: &str = "session 1 strands 4 timers 4 open { expires 3 74 wait 3 3 - { } } run 4";
 
-/// What the first call of a method of the reactor leaves where it fails.
+/// What a session leaves where this call of a method of the reactor fails.
 fn left_where_fails<R: Abort + Threads + Wait + Sync>(
     rt: &R,
     alloc: Global,
     script: &str,
-    method: Method,
+    fails: FailAt,
 ) -> Left {
-    left_by(
-        rt,
-        alloc,
-        "run",
-        script,
-        &[FailAt { method, nth: 1 }],
-        PLAIN,
-    )
+    left_by(rt, alloc, "run", script, &[fails], PLAIN)
 }
 
 const REACTOR_FAULT: &str = "asio_run: reactor fault\n";
@@ -45,7 +38,7 @@ const REACTOR_FAULT: &str = "asio_run: reactor fault\n";
 fn a_failing_reactor_ends_in_a_fault(rt: HostRuntime) {
     let alloc = rt.alloc();
     for &(script, method, trace) in FAULTS {
-        let left = left_where_fails(&rt, alloc, script, method);
+        let left = left_where_fails(&rt, alloc, script, FailAt { method, nth: 1 });
         is_ended(
             &rt,
             &left.ended,
@@ -74,22 +67,94 @@ const FAULTS: &[(&str, Method, &str)] = &[
     (LATE, Method::SetUp, "fault"),
 ];
 
-/// Where a method fails, the trace of the realistic session has a fault, and no tick to 10.
+/// Where the first call of a method fails, the trace of the realistic session has a fault, and no
+/// tick to 10.
 fn is_cut_off<R: Abort + Threads + Wait + Sync>(rt: &R, alloc: Global, method: Method) {
-    let left = left_where_fails(rt, alloc, REALISTIC, method);
-    let trace = left.trace.as_str();
-    assert_eq!(rt; left.ended.status, Status::ReactorFault, "{method:?}");
-    has(rt, trace, "fault\n", REALISTIC);
-    lacks(rt, trace, "tick 10", REALISTIC);
-    is_legal(rt, alloc, REALISTIC, trace);
+    let left = left_where_fails(rt, alloc, REALISTIC, FailAt { method, nth: 1 });
+    lacks(rt, left.trace.as_str(), "tick 10", REALISTIC);
 }
 
 #[test]
-fn each_method_of_the_reactor_may_fail(rt: HostRuntime) {
+fn a_first_call_that_fails_cuts_the_session_off(rt: HostRuntime) {
     for &method in METHODS {
         is_cut_off(&rt, rt.alloc(), method);
     }
 }
+
+/// A session whose reactor failed shows it in a legal trace.
+fn shows_its_fault<R: Abort>(rt: &R, alloc: Global, left: &Left, script: &str) {
+    is_ended(rt, &left.ended, Status::ReactorFault, REACTOR_FAULT, script);
+    has(rt, left.trace.as_str(), "fault\n", script);
+    is_legal(rt, alloc, script, left.trace.as_str());
+}
+
+/// How many calls of a method a session of this script makes, each of which fails in a run of its
+/// own; more than there are numbers to try, where they don't end.
+fn calls_that_fail<R: Abort + Threads + Wait + Sync>(
+    rt: &R,
+    alloc: Global,
+    script: &str,
+    method: Method,
+) -> u32 {
+    for nth in 1..MOST_CALLS {
+        let left = left_where_fails(rt, alloc, script, FailAt { method, nth });
+        if left.ended.status == Status::Done {
+            return nth - 1;
+        }
+        shows_its_fault(rt, alloc, &left, script);
+    }
+    MOST_CALLS
+}
+
+/// More calls of a method than any of these sessions makes.
+const MOST_CALLS: u32 = 200;
+
+/// A session makes so many calls of a method at the least, and fewer than are tried.
+fn fails_each_time<R: Abort>(rt: &R, calls: u32, least: u32, script: &str) {
+    assert!(rt;
+        least <= calls && calls < MOST_CALLS,
+        "{calls} calls: {script}"
+    );
+}
+
+#[test]
+fn each_call_of_the_reactor_may_fail(rt: HostRuntime) {
+    for &(script, method, least) in CALLED {
+        let calls = calls_that_fail(&rt, rt.alloc(), script, method);
+        fails_each_time(&rt, calls, least, script);
+    }
+}
+
+/// Scripts with the least number of calls of a method: time is asked for at each time point, a
+/// stream that bytes are wanted of is read, and one that takes a part is written again.
+const CALLED: &[(&str, Method, u32)] = &[
+    (REALISTIC, Method::SetUp, 1),
+    (REALISTIC, Method::Advance, 1),
+    (REALISTIC, Method::ReadSome, 1),
+    (REALISTIC, Method::WriteSome, 1),
+    (TWO_ROUNDS, Method::SetUp, 1),
+    (TWO_ROUNDS, Method::Advance, 2),
+    (GUARDED, Method::Advance, 1),
+    (POLLED, Method::Advance, 2),
+    (POLLED, Method::ReadSome, 1),
+    (BUSY, Method::SetUp, 1),
+    (BUSY, Method::Advance, 3),
+    (BUSY, Method::ReadSome, 1),
+    (BUSY, Method::WriteSome, 2),
+];
+
+const TWO_ROUNDS: &str =
+    "session 1 timers 2 open { expires 0 5 wait 0 - - { stop } expires 1 9 wait 1 - - { } } run 1 restart run 1";
+
+const GUARDED: &str =
+    "session 1 timers 1 guards 1 open { expires 0 5 wait 0 - - { release 0 } post - { } } run 2";
+
+const POLLED: &str =
+    "session 1 timers 1 streams 1 at 1 feed 0 x61626364 open { read 0 4 - - { } expires 0 5 wait 0 - - { } } poll 1 run 1";
+
+/// Sixteen workers.
+const BUSY: &str =
+    "session 1 strands 2 timers 2 streams 2 at 0 room 0 3 at 1 feed 1 x616263 at 3 room 0 4 open { write 0 x61626364656667 0 - { } read 1 3 1 - { } expires 0 5 wait 0 0 - { } expires 1 5 wait 1 1 - { } } run 16";
 
 const METHODS: &[Method] = &[
     Method::SetUp,

@@ -3,6 +3,10 @@
 #![tactic(auto)]
 
 #[cfg(test)]
+mod contexts;
+#[cfg(test)]
+mod counting;
+#[cfg(test)]
 mod failing;
 #[cfg(test)]
 mod generated;

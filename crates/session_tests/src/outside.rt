@@ -5,7 +5,7 @@ ghost use Rattle.std.specs.Prelude.{◌<◌};
 
 use crate::sessions::is_status;
 use crate::silent::{silent_session, silent_text};
-use crate::wanted::{MEMORY, is_bytes, is_text, lines};
+use crate::wanted::{MEMORY, is_bytes, is_lines, is_text, lines, text_of};
 use asio_types::{SlowSink, SlowSource, Source, SureSink, SureSource, TextSink, TextSource};
 use session_run::Status;
 use std::alloc::Global;
@@ -46,16 +46,58 @@ const FIRST_PARTS: &[(&str, u32, u32, &str)] = &[
     ("upgrade", 9, 2, "session 2"),
 ];
 
-#[test]
-fn a_failing_read_writes_nothing(rt: HostRuntime) {
-    let alloc = rt.alloc();
-    let mut source = TextSource::make(alloc, ONE, &[1]).expect(&rt, MEMORY);
-    let mut out = SureSink::make(alloc, 256).expect(&rt, MEMORY);
-    let left = silent_session(&rt, alloc, "run", &mut source, &mut out);
-    is_status(&rt, left.status, Status::ReadFault, "");
-    is_text(&rt, left.note.as_str(), "asio_run: read fault\n", "");
-    is_bytes(&rt, out.bytes(), b"", "");
+/// Where this read fails, a session of these words has this status, note and text.
+fn reads<R: Abort + Threads + Wait + Sync>(
+    rt: &R,
+    alloc: Global,
+    row: (&str, u32, Status, &str, &str),
+) {
+    let (words, fails, status, note, want) = row;
+    let mut source = TextSource::make(alloc, ONE, &[fails]).expect(rt, MEMORY);
+    let mut out = SureSink::make(alloc, 256).expect(rt, MEMORY);
+    let left = silent_session(rt, alloc, words, &mut source, &mut out);
+    is_status(rt, left.status, status, words);
+    is_text(rt, left.note.as_str(), note, words);
+    is_lines(
+        rt,
+        alloc,
+        text_of(rt, alloc, out.bytes()).as_str(),
+        want,
+        words,
+    );
 }
+
+#[test]
+fn a_failing_read_writes_nothing_and_none_follows_the_end(rt: HostRuntime) {
+    for &row in READS {
+        reads(&rt, rt.alloc(), row);
+    }
+}
+
+const READ_FAULT: &str = "asio_run: read fault\n";
+
+/// Words, the read that fails, the status, the note, and what is written: the first read gives all
+/// bytes, the second one none, and nothing is read behind that.
+const READS: &[(&str, u32, Status, &str, &str)] = &[
+    ("run", 1, Status::ReadFault, READ_FAULT, ""),
+    ("run", 2, Status::ReadFault, READ_FAULT, ""),
+    (
+        "run",
+        3,
+        Status::Done,
+        "",
+        "call 0 / back 0 / begin 0 ok 0 / end 0 1000 / ended",
+    ),
+    ("upgrade", 1, Status::ReadFault, READ_FAULT, ""),
+    ("upgrade", 2, Status::ReadFault, READ_FAULT, ""),
+    (
+        "upgrade",
+        3,
+        Status::Done,
+        "",
+        "session 2 open { post - { } } run 1",
+    ),
+];
 
 #[test]
 fn other_words_leave_the_source_unread(rt: HostRuntime) {

@@ -121,7 +121,8 @@ const REFUSED: &[Row] = &[
     ),
 ];
 
-const USAGE: &str = "asio_run: usage: asio_run run | asio_run upgrade | asio_run gen START SIZE\n";
+const USAGE: &str =
+    "asio_run: usage: asio_run run [--net] | asio_run gen START SIZE | asio_run upgrade\n";
 
 const ONE: &str = "session 1 open { post - { } } run 1";
 

@@ -1,3 +1,4 @@
+pub mod Buffering
 pub mod Counts
 pub mod Note
 pub mod Seen

@@ -19,7 +19,7 @@ returns-in-Err-Failed-default-clause-ran g c =
     (λ fault. CountsRefusal fault g.N.Session.faults (g.X.Reactor.faults back.reactor)) back.field-0-0-is back.ensures.counts in
     rw c.in-Ok.ensures
     (broken_run g.H.CompletionHandler.marks c.args.script.now _ c.args.rack.now c.discard_rest.new.self
-    (all_taken_kept c.args.rack.now c.make.new.rack c.discard_rest.new.self back.ensures.kept c.discard_rest.ensures)
+    (all_taken_kept c.args.rack.now c.make.new.rack c.discard_rest.new.self back.ensures.kept c.discard_rest.ensures.taken)
     (back.ensures.refused back.field-0-0-is)
     (subst (λ before. Rose before (g.X.Reactor.faults back.reactor)) c.requires.faults counted))
 
@@ -32,9 +32,10 @@ returns-clause-ran g c =
     (g.X.Reactor.state reactor) (g.X.Reactor.told c.args.reactor) (g.X.Reactor.told reactor) c.args.rack.now
     c.discard_rest-2.new.self
     c.requires.named c.requires.faults c.requires.run_marks c.requires.drop_marks
-    (all_taken c.args.rack.now c.make.new.rack c.discard_rest-2.new.self c.in-Ok-make.ensures.count c.discard_rest-2.ensures)
+    (all_taken c.args.rack.now c.make.new.rack c.discard_rest-2.new.self c.in-Ok-make.ensures.count c.discard_rest-2.ensures.taken)
     (record {
       legal = c.finish-ran.ensures.legal;
+      numbers = c.holds_events.ensures;
       marked = c.finish-ran.ensures.marked;
       unstopped = c.finish-ran.ensures.unstopped c.requires.inside;
       rose = c.finish-ran.ensures.rose;

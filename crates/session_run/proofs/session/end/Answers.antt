@@ -1,5 +1,6 @@
 use Rattle.std.proofs.Common.{Err, ap, refl}
 use Rattle.session_run.proofs.WorkLemmas.{said}
+use Rattle.session_run.specs.declared.form.Form.TheVariants as forms
 use Rattle.session_run.proofs.session.end.Goals as goal
 
 pub returns-in-Err-Refused-clause-says : goal.returns-in-Err-Refused-clause-says
@@ -19,3 +20,7 @@ returns-clause-says g c =
     rw c.ending.ensures
     (said g.H.CompletionHandler.marks _ c.in-Some.form _ c.work-outcome.result.0
     ((c.in-Some.ensures.some c.in-Some.form).0 refl) c.in-Ok.ensures.origin c.work-outcome.ensures.works)
+
+pub returns-clause-upgrade : goal.returns-clause-upgrade
+returns-clause-upgrade g c named =
+    let same = (c.in-Some.ensures.some forms.Upgrade).1 named in c.work-outcome.ensures.upgrade (cc same)

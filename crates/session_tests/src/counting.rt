@@ -1,0 +1,77 @@
+//! Handlers that count their executions.
+
+ghost use Rattle.std.specs.Prelude.{◌≡◌, length};
+ghost use Rattle.op_handlers.specs.Rack.{IsWholeRack, handlers_in};
+ghost use Rattle.session_script.specs.Limits.{most_acts};
+
+use crate::wanted::MEMORY;
+use asio_types::class_of;
+use op_handlers::{Call, CompletionHandler, Rack, Ran};
+use session_script::MOST_ACTS;
+use std::alloc::Global;
+use std::process::Abort;
+use std::sync::atomic::{AtomicU64, Ordering};
+
+/// How many handlers were executed.
+#[derive(Drop)]
+pub(crate) struct Executions {
+    count: AtomicU64,
+}
+
+impl Executions {
+    /// Where none was.
+    pub(crate) fn none() -> Executions {
+        Executions {
+            count: AtomicU64::new(0),
+        }
+    }
+
+    /// How many were so far.
+    pub(crate) fn count(&self) -> u64 {
+        self.count.load(Ordering::SeqCst)
+    }
+}
+
+/// A handler that counts its execution.
+pub(crate) struct Counting<'a> {
+    number: u64,
+    executions: &'a Executions,
+}
+
+impl<'a> CompletionHandler for Counting<'a> {
+    ghost marks = { λ h. record { run = h.number; drop = h.number } };
+
+    fn call(self, call: Call) -> Ran {
+        let Counting { number, executions } = self;
+        executions.count.fetch_add(1, Ordering::SeqCst);
+        Ran {
+            mark: number,
+            class: class_of(call.code),
+            begun: call.begun,
+        }
+    }
+
+    fn discard(self) -> u64 {
+        let Counting {
+            number,
+            executions: _,
+        } = self;
+        number
+    }
+}
+
+/// A whole rack, number n with the marks n.
+pub(crate) fn counting_rack<'a, R: Abort>(
+    rt: &R,
+    alloc: Global,
+    executions: &'a Executions,
+) -> Rack<Counting<'a>>
+    ensures whole { IsWholeRack result }
+    ensures count { length (handlers_in result) ≡ most_acts }
+{
+    let mut handlers = Vec::with_capacity(alloc, MOST_ACTS as usize).expect(rt, MEMORY);
+    for number in 0..MOST_ACTS as u64 {
+        handlers.push_reserved(Some(Counting { number, executions }));
+    }
+    Rack::of(handlers)
+}
