@@ -1,0 +1,3 @@
+pub mod Sockets
+pub mod Transfer
+pub mod Wires
