@@ -1,0 +1,12 @@
+pub mod EachActLemmas
+pub mod FrameLemmas
+pub mod BodyLaneLemmas
+pub mod AlikeLemmas
+pub mod SeesLemmas
+pub mod SoloLemmas
+pub mod AmongLemmas
+pub mod OrderlyLemmas
+pub mod NextCallLemmas
+pub mod EventOrderLemmas
+pub mod KindLemmas
+pub mod DrawnLemmas

@@ -1,0 +1,13 @@
+use Rattle.std.proofs.Common.{sym}
+use Rattle.lane_context.proofs.ExecutingLemmas.{posting_begins}
+use Rattle.lane_context.proofs.executing.execute_from.Goals as goal
+
+pub invariant_of-poster : goal.invariant_of-poster
+invariant_of-poster g c =
+    record {
+      script = sym c.requires.names;
+      map = c.requires.map;
+      posting =
+          posting_begins c.args.clock.now _ c.args.script.now c.args.pen c.args.made.items _ c.requires.start
+          c.requires.none c.requires.clock c.requires.fits;
+    }

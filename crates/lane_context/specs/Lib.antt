@@ -1,0 +1,17 @@
+pub mod Cuts
+pub mod Drops
+pub mod Executing
+pub mod Half
+pub mod Knowing
+pub mod Labels
+pub mod LaneLog
+pub mod Logs
+pub mod Names
+pub mod OpenerLog
+pub mod Parts
+pub mod Pens
+pub mod Posting
+pub mod ReactorTurns
+pub mod SeatNumbers
+pub mod Stand
+pub mod WorkerLog

@@ -1,0 +1,108 @@
+//! One execution of a lane.
+ghost use Rattle.std.specs.Prelude.{◌≡◌, ◌-◌, [], vec_capacity, vec_len};
+ghost use Rattle.strand_core.specs.Answer.{CanExecute, IfMissing, IfWhole, TakesWhole};
+ghost use Rattle.lane_context.specs.Executing.{HasExecutedNoted};
+ghost use Rattle.lane_context.specs.Posting.{FitsClock, TakesNext};
+
+use crate::lane_poster::{LanePoster, PenStart};
+use crate::pen::Pen;
+use lane_clock::{LaneClock, Note};
+use lane_map::LaneMap;
+use op_handlers::CompletionHandler;
+use session_script::Script;
+use std::marker::{Brand, PhantomData};
+use strand_core::{Execution, Hands, Posted, execute};
+
+/// What an execution leaves: the pen, the calls that it made, and what it came to.
+#[derive(Drop)]
+pub(crate) struct Drawn {
+    pub(crate) pen: Pen,
+    pub(crate) made: Vec<Posted>,
+    pub(crate) execution: Execution,
+}
+
+/// Executes the operation of a note, from a pen that is named.
+fn execute_from<'a, H: CompletionHandler, S: PenStart>(
+    clock: &LaneClock,
+    script: &'a Script,
+    map: &LaneMap<'a>,
+    pen: Pen,
+    made: Vec<Posted>,
+    hands: &mut Hands<'a, H>,
+    note: Note,
+) -> Drawn
+    requires names { S.script ≡ script.now }
+    requires start { S.start ≡ pen }
+    requires none { made.items ≡ [] }
+    requires clock { pen.seat.clock ≡ clock.now }
+    requires map { map.now ≡ script.now }
+    requires fits { FitsClock script.now clock.now }
+    requires script { hands.old.script ≡ script.now }
+    requires room { TakesWhole (TakesNext (record {
+      script = script.now;
+      pen = pen;
+      made = made.items;
+      spare = vec_capacity made - vec_len made;
+    })) script.now note.op note.code note.size }
+    ensures script { hands.new.script ≡ hands.old.script }
+    ensures executed { IfWhole result.execution (λ mark.
+        HasExecutedNoted H.marks note S.start result.pen hands.old hands.new) }
+    ensures cannot { IfMissing result.execution (λ missed. ¬ CanExecute hands.old note.op) }
+    ensures same_pen { IfMissing result.execution (λ missed. result.pen ≡ S.start) }
+    ensures same_hands { IfMissing result.execution (λ missed. hands.new ≡ hands.old) }
+{
+    let mut poster = LanePoster {
+        clock,
+        script,
+        map,
+        pen,
+        made,
+        start: PhantomData::<S>,
+    };
+    let execution = execute(&mut poster, script, hands, note.op, note.code, note.size);
+    let LanePoster {
+        clock: _,
+        script: _,
+        map: _,
+        pen,
+        made,
+        start: _,
+    } = poster;
+    Drawn {
+        pen,
+        made,
+        execution,
+    }
+}
+
+/// Executes the operation of a note with a lane's pen, and inside it the dispatches that execute
+/// inside their call. `made` is the room for its calls. `Missing` comes before any draw.
+pub(crate) fn execute_noted<'a, H: CompletionHandler>(
+    clock: &LaneClock,
+    script: &'a Script,
+    map: &LaneMap<'a>,
+    pen: Pen,
+    made: Vec<Posted>,
+    hands: &mut Hands<'a, H>,
+    note: Note,
+) -> Drawn
+    requires none { made.items ≡ [] }
+    requires clock { pen.seat.clock ≡ clock.now }
+    requires map { map.now ≡ script.now }
+    requires fits { FitsClock script.now clock.now }
+    requires script { hands.old.script ≡ script.now }
+    requires room { TakesWhole (TakesNext (record {
+      script = script.now;
+      pen = pen;
+      made = made.items;
+      spare = vec_capacity made - vec_len made;
+    })) script.now note.op note.code note.size }
+    ensures script { hands.new.script ≡ hands.old.script }
+    ensures executed { IfWhole result.execution (λ mark.
+        HasExecutedNoted H.marks note pen result.pen hands.old hands.new) }
+    ensures cannot { IfMissing result.execution (λ missed. ¬ CanExecute hands.old note.op) }
+    ensures same_pen { IfMissing result.execution (λ missed. result.pen ≡ pen) }
+    ensures same_hands { IfMissing result.execution (λ missed. hands.new ≡ hands.old) }
+{
+    execute_from::<H, Brand>(clock, script, map, pen, made, hands, note)
+}
