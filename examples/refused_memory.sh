@@ -110,7 +110,7 @@ row() {
 }
 no_run="asio_run: no memory"
 no_check="asio_check: no memory"
-for name in echo three_postings strand_order timers cancelled_read; do
+for name in echo three_postings strand_order timers cancelled_read read_line; do
   # (one worker, so that there is one output)
   sed -E 's/\b(run|poll) [0-9]+/\1 1/g' "examples/$name.session" > "$room/$name.input"
 done
@@ -119,6 +119,7 @@ row strands "$room/strand_order.input" "$no_run" "$room/asio_run" run
 row timers "$room/timers.input" "$no_run" "$room/asio_run" run
 row slots "$room/cancelled_read.input" "$no_run" "$room/asio_run" run
 row streams "$room/echo.input" "$no_run" "$room/asio_run" run
+row net "$room/read_line.input" "$no_run" "$room/asio_run" run --net
 row gen /dev/null "$no_run" "$room/asio_run" gen 7 64
 row upgrade "$room/echo.input" "$no_run" "$room/asio_run" upgrade
 { cat examples/read_line.session; echo "--"; cat examples/read_line.trace; } > "$room/check.input"
