@@ -1,11 +1,11 @@
 -- Counts of numbers that pass a test, and tables of a function.
-use Rattle.std.proofs.Common.{◌≡◌, ℕ, zero, suc, ◌+◌, ◌<◌, ◌≤◌, ◌==◌, List, [], ◌∷◌, Bool, true, false, cond, length, get_or, map, refl, sym, ap, subst, subst₂, ◌∙◌, arith}
+use Rattle.std.proofs.Common.{◌≡◌, ℕ, zero, suc, ◌+◌, ◌<◌, ◌≤◌, ◌==◌, List, [], ◌∷◌, Bool, true, false, inl, inr, cond, length, get_or, map, refl, sym, ap, subst, subst₂, ◌∙◌, arith}
 use Rattle.std.specs.Prelude.{◌&&◌, slice_set}
 use Rattle.std.specs.List.{count_by, range_with_len}
 use Rattle.std.proofs.lemmas.List.{get_or-set_other, get_or-set_same}
 use Rattle.std.proofs.lemmas.List.FromFn.{fill_by_all, get_or-map-range_with_len, length-map-range_with_len, length-range_with_len}
 use Rattle.std.proofs.lemmas.List.Sums.{count_by-le-length, sum_by-cons}
-use Rattle.std.proofs.lemmas.Bool.{eq-eqb, eqb-true}
+use Rattle.std.proofs.lemmas.Bool.{cases_lt, eq-eqb, eqb-true}
 use Rattle.lane_map.specs.LaneNumbers.{passing_before}
 
 -- a table of a function
@@ -58,6 +58,29 @@ passing_by test n is = passing_more test n ∙ rw is (omega arith)
 pub passing_fits : (test : ℕ → Bool) (n : ℕ) → passing_before test n ≤ n
 passing_fits test n =
     omega (arith, count_by-le-length test (range_with_len 0 n), length-range_with_len 0 n)
+
+-- before a later number as many pass or more
+pub passing_le : (test : ℕ → Bool) (m n : ℕ) → m ≤ n → passing_before test m ≤ passing_before test n
+passing_le test m zero le =
+    let e : m ≡ 0 = omega (arith, le) in
+    omega (arith, ap (passing_before test) e)
+passing_le test m (suc n) le = elim (cases_lt m (suc n)) [
+  | inl less ↦ omega (arith, passing_le test m n (omega (arith, less)), count_longer test 0 n)
+  | inr more ↦
+      let e : m ≡ suc n = omega (arith, le, more) in omega (arith, ap (passing_before test) e)
+]
+
+-- and more where a number between them passes
+pub passing_less : (test : ℕ → Bool) (m n : ℕ) → m < n → test m ≡ true → passing_before test m < passing_before test n
+passing_less test m n less is =
+    omega (arith, passing_here test m is, passing_le test (m + 1) n (omega (arith, less)))
+
+-- where all pass
+pub passing_all : (n : ℕ) → passing_before (λ k. true) n ≡ n
+passing_all zero = refl
+passing_all (suc n) =
+    let more : passing_before (λ k. true) (suc n) ≡ passing_before (λ k. true) n + 1 = count_longer (λ k. true) 0 n in
+    omega (arith, more, passing_all n)
 
 -- of each of so many lanes how many of the first acts pass a test and have it as their home
 abbrev pub AreCounted : (ℕ → Bool) → (ℕ → ℕ) → ℕ → ℕ → List ℕ → Type 0

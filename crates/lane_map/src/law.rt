@@ -1,6 +1,7 @@
-ghost use Rattle.std.specs.Prelude.{◌≡◌, ℕ, ◌<◌, ◌+◌, length, slice_get, Some};
+ghost use Rattle.std.specs.Prelude.{◌≡◌, ℕ, ◌<◌, ◌+◌, true, length, slice_get, Some};
 ghost use Rattle.session_script.specs.Lanes.{lane_of};
-ghost use Rattle.lane_map.specs.LaneNumbers.{asked_lane, cells_of, home_lane, lane_list, reactor_lane};
+ghost use Rattle.session_script.specs.Script.{ScriptModel};
+ghost use Rattle.lane_map.specs.LaneNumbers.{asked_lane, cells_of, home_lane, is_op_on, lane_list, operations_on, rank_of, reactor_lane};
 
 use session_script::{Script, acts_fit, parents_come_first};
 
@@ -36,3 +37,13 @@ pub fn lanes_have_cells(script: &Script)
 {
     lanes_are_numbered(script);
 }
+
+/// Within a lane the ranks of operations rise with their numbers, and are below their count. So
+/// what a lane keeps for each of its operations stands in a list of that length, in the order of
+/// their numbers.
+pub fn ranks_rise()
+    ensures rise { (script : ScriptModel) (at m n : ℕ) → m < n → is_op_on script at m ≡ true →
+        is_op_on script at n ≡ true → rank_of script m < rank_of script n }
+    ensures fit { (script : ScriptModel) (at n : ℕ) → is_op_on script at n ≡ true →
+        rank_of script n < operations_on script at }
+{}

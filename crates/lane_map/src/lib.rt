@@ -8,5 +8,5 @@ mod homes;
 mod law;
 mod map;
 
-pub use law::{lanes_have_cells, lanes_have_their_numbers};
+pub use law::{lanes_have_cells, lanes_have_their_numbers, ranks_rise};
 pub use map::LaneMap;

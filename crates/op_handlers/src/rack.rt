@@ -16,7 +16,7 @@ pub struct Rack<H = Handler> {
 }
 
 impl<H> Rack<H> {
-    ghost use Rattle.std.specs.Prelude.{◌↔◌, IsTrue, slice_get, slice_set, vec_len};
+    ghost use Rattle.std.specs.Prelude.{◌↔◌, IsSome, IsTrue, slice_get, slice_set, vec_len};
     ghost use Rattle.op_handlers.specs.Rack.{handlers_in, handler_at, IsWholeRack};
 
     /// The rack of these handlers, where a `None` counts as taken. It takes no memory.
@@ -39,6 +39,14 @@ impl<H> Rack<H> {
         ensures { IsTrue result ↔ IsWholeRack self.now }
     {
         self.slots.iter().all(|slot| slot.is_some())
+    }
+
+    /// Whether the handler of an act is there.
+    pub fn holds(&self, a: ActNo) -> bool
+        ensures { IsTrue result ↔ IsSome (handler_at self.now a) }
+    {
+        let number = a as usize;
+        number < self.slots.len() && self.slots[number].is_some()
     }
 
     /// Takes the handler of an act: `None` exactly where the number is not below the count or was

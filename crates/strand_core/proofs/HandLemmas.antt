@@ -1,6 +1,6 @@
 -- Lists of handlers of which one is taken.
-use Rattle.std.proofs.Common.{◌≡◌, ◌≢◌, ℕ, zero, suc, ◌<◌, List, [], ◌∷◌, ◌⊎◌, inl, inr, Option, Some, None, IsSome, length, refl, sym, ap, subst, ◌∙◌, arith}
-use Rattle.std.specs.Prelude.{slice_set}
+use Rattle.std.proofs.Common.{◌≡◌, ◌≢◌, ℕ, zero, suc, ◌<◌, ◌≤◌, false, List, [], ◌∷◌, ◌⊎◌, inl, inr, Option, Some, None, IsSome, length, get_or, refl, sym, ap, subst, ◌∙◌, arith}
+use Rattle.std.specs.Prelude.{◌↔◌, IsTrue, slice_get, slice_set}
 pub use Rattle.op_handlers.proofs.DiscardLemmas.{taken_other, taken_same}
 use Rattle.session_script.specs.Script.{ScriptModel, parent_of}
 use Rattle.session_script.specs.WellFormed.{HasParent}
@@ -10,6 +10,24 @@ pub is_within : {H : Type 0} (hs : List (Option H)) (op : ℕ) → IsSome (in_li
 is_within [] op some = absurd (cc)
 is_within (h ∷ hs) zero some = omega arith
 is_within (h ∷ hs) (suc op) some = omega (arith, is_within hs op some)
+
+pub in_list-get_or : {H : Type 0} (hs : List (Option H)) (n : ℕ) → in_list hs n ≡ get_or hs n None
+in_list-get_or [] n = refl
+in_list-get_or (h ∷ hs) zero = refl
+in_list-get_or (h ∷ hs) (suc n) = in_list-get_or hs n
+
+pub none_past : {H : Type 0} (hs : List (Option H)) (n : ℕ) → length hs ≤ n → in_list hs n ≡ None
+none_past [] n past = refl
+none_past (h ∷ hs) zero past = absurd (omega arith)
+none_past (h ∷ hs) (suc n) past = none_past hs n (omega arith)
+
+-- a number with nothing
+pub free_at : {H : Type 0} (hs : List (Option H)) (k : ℕ) → k < length hs → in_list hs k ≡ None →
+    slice_get hs k ≡ Some None
+free_at [] k less none = absurd (omega arith)
+free_at (None ∷ hs) zero less none = refl
+free_at (Some h ∷ hs) zero less none = absurd (cc none)
+free_at (h ∷ hs) (suc k) less none = free_at hs k (omega arith) none
 
 -- nothing is taken where nothing is
 pub taken_none : {H : Type 0} (hs : List (Option H)) (op : ℕ) → in_list hs op ≡ None → slice_set hs op None ≡ hs
@@ -64,3 +82,7 @@ module _ {H : Type 0} (script : ScriptModel) (ordered : (n : ℕ) → HasParent 
 
 pub script_length : {H : Type 0} {a b : Held H} → a ≡ b → length a.script.acts ≡ length b.script.acts
 script_length same = ap (λ v. length v.script.acts) same
+
+pub neither : {H : Type 0} (h : Option H) → h ≡ None → IsTrue false ↔ IsSome h
+neither None none = (λ is. absurd (cc is), λ some. absurd (cc some))
+neither (Some h) none = absurd (cc none)

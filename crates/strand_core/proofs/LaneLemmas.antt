@@ -1,6 +1,6 @@
 -- What executes inside a call executes on the lane of its caller.
 use Rattle.std.proofs.Common.{◌≡◌, ℕ, zero, suc, ◌+◌, ◌<◌, ◌≤◌, List, [], ◌∷◌, ◌++◌, Bool, true, false, Option, Some, None, length, refl, sym, ap, subst, ◌∙◌, arith, length-append}
-use Rattle.std.specs.Prelude.{◌&&◌, slice_get}
+use Rattle.std.specs.Prelude.{◌&&◌, ◌==◌, slice_get}
 use Rattle.std.specs.Option.{unwrap_or}
 use Rattle.std.proofs.lemmas.Option.{get_or_from_slice_get, unwrap_or-slice_get}
 use Rattle.asio_types.specs.declared.number.Lane.{Lane}
@@ -10,7 +10,8 @@ use Rattle.session_script.specs.declared.act.Act.TheVariants as act
 use Rattle.session_script.specs.Script.{Place, Entry, ScriptModel, is_op, is_operation, parent_of}
 use Rattle.session_script.specs.Lanes.{caller_lane, is_inline, is_inside, lane_in, lane_of, lane_or_reactor, lanes_after, lanes_of}
 use Rattle.session_script.specs.WellFormed.{HasParent}
-use Rattle.strand_core.specs.Hands.{IsInlineOf, is_op_of, is_of_lane, same_lane}
+use Rattle.lane_map.specs.LaneNumbers.{home_lane, is_op_on, lane_number}
+use Rattle.strand_core.specs.Hands.{IsInlineOf, is_of_lane, is_op_of, same_lane}
 
 get_front : {X : Type 0} (xs ys : List X) (k : ℕ) → k < length xs → slice_get (xs ++ ys) k ≡ slice_get xs k
 get_front [] ys k less = absurd (omega arith)
@@ -108,6 +109,12 @@ module _ (script : ScriptModel) (ordered : (n : ℕ) → HasParent script.acts n
   both false b c d is_a is_both same = absurd (cc is_a)
 
   -- with an operation of a lane what executes inside it is of the lane
+  pub callee_on : (at : ℕ) → is_op_on script at caller ≡ true → is_op_on script at n ≡ true
+  callee_on at on_lane =
+      let found : OnLane = on_lane_by (slice_get script.acts n) refl in
+      both (is_op script n) (is_op script caller) (home_lane script caller == at) (home_lane script n == at) found.op
+      on_lane (ap (λ l. lane_number script l == at) found.lane)
+
   callee_of_lane : (of : Lane) → is_of_lane script of caller ≡ true → is_of_lane script of n ≡ true
   callee_of_lane of of_lane =
       let found : OnLane = on_lane_by (slice_get script.acts n) refl in

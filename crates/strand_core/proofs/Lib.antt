@@ -2,8 +2,9 @@ pub mod CallLemmas
 pub mod TreeLemmas
 pub mod HandLemmas
 pub mod LaneLemmas
-pub mod BehindLemmas
+pub mod SpreadLemmas
 pub mod MovingLemmas
+pub mod FillingLemmas
 pub mod ReadyLemmas
 pub mod BodyLemmas
 pub mod SomeLemmas

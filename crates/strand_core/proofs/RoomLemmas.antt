@@ -38,6 +38,11 @@ passing_less weight one two a (suc n) more =
       sum_by-cons (λ m. if two m then weight m else 0) a (range_with_len (a + 1) n),
     )
 
+-- where fewer are held, less room is wanted
+pub room_for-less : (script : ScriptModel) (one two : ℕ → Bool) → ((m : ℕ) → one m ≡ true → two m ≡ true) →
+    room_for script one ≤ room_for script two
+room_for-less script one two more = passing_less (shown_by_handler script) one two 0 (length script.acts) more
+
 -- one number that passes no more
 passing_without : (weight : ℕ → ℕ) (one two : ℕ → Bool) (x a n : ℕ) → a ≤ x → x < a + n → two x ≡ true →
     one x ≡ false → ((m : ℕ) → one m ≡ true → two m ≡ true) →

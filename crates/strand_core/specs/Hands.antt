@@ -1,5 +1,5 @@
 -- The handlers of one lane or of all, by the number of their operation.
-use Rattle.std.specs.Prelude.{◌≡◌, ℕ, Bool, true, false, ◌&&◌, ◌==◌, List, [], ◌∷◌, ◌++◌, Option, Some, None, IsSome, replicate, slice_get, if◌then◌else◌}
+use Rattle.std.specs.Prelude.{◌≡◌, ℕ, Bool, true, false, ◌&&◌, ◌==◌, List, [], ◌∷◌, Option, Some, None, IsSome, slice_get, if◌then◌else◌}
 use Rattle.std.specs.Option.{option_map, option_flatten}
 use Rattle.asio_types.specs.declared.code.Class.{Class}
 use Rattle.asio_types.specs.declared.number.Lane.{Lane}
@@ -14,10 +14,6 @@ use Rattle.strand_core.specs.declared.posted.Posted.TheVariants as posted
 pub record Held (H : Type 0) : Type 0 where
   pub script : ScriptModel
   pub handlers : List (Option H)
-
--- handlers from a number on, with none at those before it
-abbrev pub behind : {H : Type 0} → ℕ → List (Option H) → List (Option H)
-behind first handlers = replicate first None ++ handlers
 
 -- the handler at a number, if one is there
 abbrev pub in_list : {H : Type 0} → List (Option H) → ℕ → Option H

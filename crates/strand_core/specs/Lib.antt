@@ -3,3 +3,4 @@ pub mod Hands
 pub mod Answer
 pub mod Ready
 pub mod Room
+pub mod Placing

@@ -1,11 +1,17 @@
-ghost use Rattle.std.specs.Prelude.{◌≡◌, ◌<◌, ℕ, length, true, None, Some, IsSome, IfOk, IfErr, replicate, slice_get, slice_set};
+ghost use Rattle.std.specs.Prelude.{◌≡◌, ◌↔◌, ◌<◌, ℕ, ◌≤◌, ◌^◌, [], get_or, length, map, true, None, Some, IsSome, IsTrue, IfOk, IfErr, IfSome, slice_get, slice_set, vec_capacity};
+ghost use Rattle.std.specs.List.{range_with_len};
 ghost use Rattle.std.specs.Option.{option_map};
 ghost use Rattle.op_handlers.specs.Rack.{drop_marks, handler_at, handlers_in};
 ghost use Rattle.session_script.specs.Script.{is_op};
-ghost use Rattle.strand_core.specs.Hands.{CallerIsGone, HasInlineOf, held_at, is_op_of, is_of_lane, left_at, or_other, taken_at};
+ghost use Rattle.lane_map.specs.LaneNumbers.{is_op_on, lane_list, operations_on};
+ghost use Rattle.strand_core.specs.Hands.{CallerIsGone, HasInlineOf, KeepsInline, held_at, is_of_lane, is_op_of, left_at, or_other, taken_at};
+ghost use Rattle.strand_core.specs.Placing.{spread};
 
-use crate::lane::{is_of, span_of};
-use asio_types::{ActNo, Lane, NoMemory, OpNo};
+use crate::lane::is_of;
+use crate::placing::{Placing, place_of};
+use crate::racks::{discard_racks, empty_rack, empty_racks, filled_racks, move_handler};
+use asio_types::{Lane, NoMemory, OpNo};
+use lane_map::LaneMap;
 use op_handlers::{CompletionHandler, Handler, Rack};
 use session_script::{Script, parents_come_first};
 use std::alloc::Global;
@@ -19,58 +25,79 @@ use std::marker::Model;
 /// Contracts see the script, and at each number a handler or nothing.
 pub struct Hands<'a, H = Handler> {
     script: &'a Script,
-    // the number of the first operation that may be held
-    first: OpNo,
-    // from that number to its last operation at each number the handler, where it is held
+    placing: Placing<'a>,
+    // at each place the handler, where it is held
     held: Rack<H>,
 }
 
 impl<'a, H> Model for Hands<'a, H> {
-    ghost use Rattle.std.specs.Prelude.{◌≡◌, ◌+◌, ◌^◌, ◌<◌, ◌≤◌, length};
+    ghost use Rattle.std.specs.Prelude.{◌≡◌, length};
     ghost use Rattle.op_handlers.specs.Rack.{handlers_in};
-    ghost use Rattle.strand_core.specs.Hands.{Held, KeepsInline, behind};
+    ghost use Rattle.lane_map.specs.LaneNumbers.{passing_before};
+    ghost use Rattle.strand_core.specs.Hands.{Held, KeepsInline};
+    ghost use Rattle.strand_core.specs.Placing.{IsPlacingOf, has_place, spread};
 
     ghost Value = { Held H };
 
-    ghost view = { λ h.
-        record { script = h.script.now; handlers = behind h.first (handlers_in h.held) } };
+    ghost view = { λ h. record {
+      script = h.script.now;
+      handlers = spread (has_place h.script.now h.placing) (length h.script.now.acts)
+          (handlers_in h.held);
+    } };
 
     ghost invariant = { λ h. record {
-      keeps : KeepsInline h.script.now (behind h.first (handlers_in h.held));
-      within : h.first + length (handlers_in h.held) ≤ length h.script.now.acts;
-      few : h.first + length (handlers_in h.held) < 2 ^ 32;
+      placed : IsPlacingOf h.script.now h.placing;
+      size : length (handlers_in h.held)
+          ≡ passing_before (has_place h.script.now h.placing) (length h.script.now.acts);
+      keeps : KeepsInline h.script.now
+          (spread (has_place h.script.now h.placing) (length h.script.now.acts)
+          (handlers_in h.held));
     } };
 }
 
-/// A rack of so many numbers with nothing at any.
-fn empty_rack<H>(alloc: Global, count: u32) -> Result<Rack<H>, NoMemory>
-    ensures { IfOk result (λ rack. handlers_in rack ≡ replicate count None) }
+/// The hands of each lane, by these racks of their handlers. `hands` has room for them.
+fn hands_of_racks<'a, H>(
+    script: &'a Script,
+    lanes: &'a LaneMap<'a>,
+    racks: Vec<Rack<H>>,
+    hands: Vec<Hands<'a, H>>,
+) -> Vec<Hands<'a, H>>
+    requires lanes { lanes.now ≡ script.now }
+    requires none { hands.items ≡ [] }
+    requires room { length racks.items ≤ vec_capacity hands }
+    requires few { length racks.items < 2 ^ 32 }
+    requires sizes { (lane : ℕ) → lane < length racks.items →
+        length (get_or (map handlers_in racks.items) lane []) ≡ operations_on script.now lane }
+    requires keeps { (lane : ℕ) → lane < length racks.items →
+        KeepsInline script.now
+        (spread (is_op_on script.now lane) (length script.now.acts)
+        (get_or (map handlers_in racks.items) lane [])) }
+    ensures { result.items ≡ map (λ lane. record {
+      script = script.now;
+      handlers = spread (is_op_on script.now lane) (length script.now.acts)
+          (get_or (map handlers_in racks.items) lane []);
+    }) (range_with_len 0 (length racks.items)) }
 {
-    let mut slots = Vec::with_capacity(alloc, count as usize)?;
-    for _ in 0..count {
-        slots.push_reserved(None);
+    let mut hands = hands;
+    let mut rest = racks.into_iter();
+    let mut lane = 0;
+    while let Some(held) = rest.next() {
+        let placing = Placing::ByRank { lanes, lane };
+        hands.push_reserved(Hands {
+            script,
+            placing,
+            held,
+        });
+        lane += 1;
     }
-    Ok(Rack::of(slots))
-}
-
-/// Moves a handler from its number in one rack to a place in another, where nothing is.
-fn move_handler<H>(from: &mut Rack<H>, a: ActNo, to: &mut Rack<H>, place: u32)
-    requires there { IsSome (handler_at from.old a) }
-    requires free { slice_get (handlers_in to.old) place ≡ Some None }
-    ensures taken { handlers_in from.new ≡ slice_set (handlers_in from.old) a None }
-    ensures put { handlers_in to.new
-        ≡ slice_set (handlers_in to.old) place (handler_at from.old a) }
-{
-    match from.take(a) {
-        Some(handler) => to.put(place, handler),
-        None => unreachable!(),
-    }
+    rest.destroy_empty();
+    hands
 }
 
 impl<'a, H> Hands<'a, H> {
     /// Takes the handlers of the operations of a lane out of the rack, and leaves the others. Takes
-    /// memory in proportion to the numbers from its first operation to its last, and looks at each
-    /// act; where the memory is refused, the rack is as before.
+    /// memory in proportion to the acts, and looks at each once; where the memory is refused, the
+    /// rack is as before. Those of all lanes are taken by `of_lanes`.
     pub fn of_lane(
         alloc: Global,
         script: &'a Script,
@@ -130,18 +157,34 @@ impl<'a, H> Hands<'a, H> {
         ensures refused { IfErr result (λ fault. rack.new ≡ rack.old) }
     {
         parents_come_first(script);
-        let (first, end) = span_of(script, lane);
-        let mut held = empty_rack(alloc, end - first)?;
-        for a in first..end {
+        let mut held = empty_rack(alloc, script.acts())?;
+        for a in 0..script.acts() {
             if is_of(script, lane, a) {
-                move_handler(rack, a, &mut held, a - first);
+                move_handler(rack, a, &mut held, a);
             }
         }
         Ok(Hands {
             script,
-            first,
+            placing: Placing::ByNumber,
             held,
         })
+    }
+
+    /// Whether the handler of an operation is held.
+    pub fn holds(&self, op: OpNo) -> bool
+        ensures { IsTrue result ↔ IsSome (held_at self.now op) }
+    {
+        match place_of(self.script, self.placing, op) {
+            Some(place) => self.held.holds(place),
+            None => false,
+        }
+    }
+
+    /// With the handler of an operation those of all that execute inside it are held.
+    pub fn keeps_inline(&self)
+        ensures { KeepsInline self.now.script self.now.handlers }
+    {
+        let _script = self.script;
     }
 
     /// Takes the handler of an operation: `None` exactly where it isn't held.
@@ -154,15 +197,53 @@ impl<'a, H> Hands<'a, H> {
         ensures inside { IsSome result → HasInlineOf self.new.script self.new.handlers op }
     {
         parents_come_first(self.script);
-        if op < self.first {
-            return None;
+        match place_of(self.script, self.placing, op) {
+            Some(place) => self.held.take(place),
+            None => None,
         }
-        self.held.take(op - self.first)
     }
 }
 
 impl<'a, H: CompletionHandler> Hands<'a, H> {
-    /// Puts the handlers back into the rack, which has nothing at their numbers. Takes no memory.
+    /// Takes the handlers of all operations of a script out of the rack, and gives the hands of
+    /// each lane, by its number. Takes memory in proportion to the operations and the
+    /// lanes, and looks at each act once; where the memory is refused, the rack is as before.
+    pub fn of_lanes(
+        alloc: Global,
+        script: &'a Script,
+        lanes: &'a LaneMap<'a>,
+        rack: &mut Rack<H>,
+    ) -> Result<Vec<Hands<'a, H>>, NoMemory>
+        requires lanes { lanes.now ≡ script.now }
+        requires there { (n : ℕ) → is_op script.now n ≡ true → IsSome (handler_at rack.old n) }
+        ensures number { IfOk result
+            (λ hands. length hands.items ≡ length (lane_list script.now)) }
+        ensures script { IfOk result (λ hands. (lane : ℕ) →
+            IfSome (slice_get hands.items lane) (λ own. own.script ≡ script.now)) }
+        ensures held { IfOk result (λ hands. (lane n : ℕ) →
+            IfSome (slice_get hands.items lane) (λ own. held_at own n
+            ≡ taken_at (is_op_on script.now lane n) (handler_at rack.old n))) }
+        ensures left { IfOk result (λ hands. (n : ℕ) →
+            handler_at rack.new n ≡ left_at (is_op script.now n) (handler_at rack.old n)) }
+        ensures count { IfOk result
+            (λ hands. length (handlers_in rack.new) ≡ length (handlers_in rack.old)) }
+        ensures refused { IfErr result (λ fault. rack.new ≡ rack.old) }
+    {
+        parents_come_first(script);
+        let racks = empty_racks(alloc, lanes)?;
+        let hands = match Vec::with_capacity(alloc, lanes.lanes() as usize) {
+            Ok(hands) => hands,
+            Err(_) => {
+                discard_racks(racks);
+                return Err(NoMemory);
+            }
+        };
+        let racks = filled_racks(script, lanes, rack, racks);
+        Ok(hands_of_racks(script, lanes, racks, hands))
+    }
+
+    /// Puts the handlers back into the rack, which has nothing at their numbers. Takes no memory,
+    /// and looks at each act.
     pub fn give_back(self, rack: &mut Rack<H>)
         requires { (n : ℕ) → IsSome (held_at self n) →
             slice_get (handlers_in rack.old) n ≡ Some None }
@@ -170,17 +251,15 @@ impl<'a, H: CompletionHandler> Hands<'a, H> {
             handler_at rack.new n ≡ or_other (held_at self.entry n) (handler_at rack.old n) }
         ensures count { length (handlers_in rack.new) ≡ length (handlers_in rack.old) }
     {
-        let Hands {
-            script: _,
-            first,
-            mut held,
-        } = self;
-        for n in first..first + held.count() {
-            if let Some(handler) = held.take(n - first) {
+        let script = self.script;
+        let mut hands = self;
+        parents_come_first(script);
+        for n in 0..script.acts() {
+            if let Some(handler) = hands.take(n) {
                 rack.put(n, handler);
             }
         }
-        held.discard_all();
+        hands.discard_all();
     }
 
     /// Discards the handler of an operation, and answers its drop mark: `None` exactly where it
@@ -206,7 +285,7 @@ impl<'a, H: CompletionHandler> Hands<'a, H> {
     {
         let Hands {
             script: _,
-            first: _,
+            placing: _,
             held: rest,
         } = self;
         rest.discard_all()

@@ -1,7 +1,7 @@
-ghost use Rattle.std.specs.Prelude.{◌≡◌, ℕ, ◌<◌, ◌≤◌, true, length};
+ghost use Rattle.std.specs.Prelude.{◌≡◌, ◌<◌, length};
 ghost use Rattle.strand_core.specs.Hands.{is_op_of, is_of_lane, same_lane};
 
-use asio_types::{ActNo, Lane, OpNo};
+use asio_types::{ActNo, Lane};
 use session_script::Script;
 
 /// Whether two lanes are the same.
@@ -33,35 +33,4 @@ pub(crate) fn is_of(script: &Script, lane: Option<Lane>, a: ActNo) -> bool
         Some(lane) => is_of_lane(script, lane, a),
         None => script.is_op(a),
     }
-}
-
-/// The number of the first operation of a lane, and that behind its last; both are 0 where it has
-/// none. Where no lane is named it is the number of each act.
-pub(crate) fn span_of(script: &Script, lane: Option<Lane>) -> (OpNo, OpNo)
-    ensures ordered { result.0 ≤ result.1 }
-    ensures within { result.1 ≤ length script.now.acts }
-    ensures spans { (n : ℕ) → is_op_of script.now lane n ≡ true → (result.0 ≤ n) × (n < result.1) }
-{
-    match lane {
-        Some(lane) => lane_span(script, lane),
-        None => (0, script.acts()),
-    }
-}
-
-fn lane_span(script: &Script, lane: Lane) -> (OpNo, OpNo)
-    ensures ordered { result.0 ≤ result.1 }
-    ensures within { result.1 ≤ length script.now.acts }
-    ensures spans { (n : ℕ) → is_of_lane script.now lane n ≡ true →
-        (result.0 ≤ n) × (n < result.1) }
-{
-    let (mut first, mut end) = (0, 0);
-    for a in 0..script.acts() {
-        if is_of_lane(script, lane, a) {
-            if end == 0 {
-                first = a;
-            }
-            end = a + 1;
-        }
-    }
-    (first, end)
 }

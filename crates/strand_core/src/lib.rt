@@ -8,9 +8,11 @@ mod execution;
 mod hands;
 mod lane;
 mod law;
+mod placing;
 mod plain_lanes;
 mod posted;
 mod poster;
+mod racks;
 
 pub use execution::{Execution, execute};
 pub use hands::Hands;

@@ -1,27 +1,17 @@
 -- What the hands of a whole rack hold, and what they leave in it.
-use Rattle.std.proofs.Common.{◌≡◌, ℕ, ◌<◌, ◌≤◌, ◌==◌, List, Bool, true, false, Option, Some, None, IsSome, inl, inr, length, refl, sym, ap, subst, ◌∙◌, arith}
+use Rattle.std.proofs.Common.{◌≡◌, ℕ, ◌<◌, ◌≤◌, ◌==◌, List, Bool, true, false, Option, Some, None, IsSome, length, refl, sym, ap, subst, ◌∙◌, arith}
 use Rattle.std.specs.Prelude.{All, slice_get}
 use Rattle.std.specs.Option.{option_flatten}
-use Rattle.std.proofs.lemmas.Bool.{and_parts, cases_lt, eq-eqb, eqb-true}
-use Rattle.std.proofs.lemmas.Option.{slice_get-get_or, slice_get_past}
+use Rattle.std.proofs.lemmas.Bool.{and_parts, eq-eqb, eqb-true}
+use Rattle.std.proofs.lemmas.Option.{slice_get-get_or}
 use Rattle.asio_types.specs.declared.number.Lane.{Lane}
 use Rattle.asio_types.specs.declared.number.Lane.TheVariants as lane
 use Rattle.session_script.specs.Script.{ScriptModel, is_op, parent_of}
 use Rattle.session_script.specs.Lanes.{lane_of}
 use Rattle.session_script.specs.WellFormed.{HasParent}
 use Rattle.strand_core.specs.Hands.{CallerIsGone, Held, IsInlineOf, in_list, is_op_of, is_of_lane, left_at, same_lane, taken_at}
-use Rattle.strand_core.proofs.BehindLemmas.{free_at}
-use Rattle.strand_core.proofs.HandLemmas.{is_within}
-
--- an operation is an act
-pub op_within : (script : ScriptModel) (n : ℕ) → is_op script n ≡ true → n < length script.acts
-op_within script n is = elim (cases_lt n (length script.acts)) [
-  | inl less ↦ less
-  | inr past ↦
-      let gone : slice_get script.acts n ≡ None = slice_get_past script.acts n past in
-      let none : is_op script n ≡ false = rw gone refl in
-      absurd (cc (none, is))
-]
+use Rattle.lane_map.proofs.RankLemmas.{op_within}
+use Rattle.strand_core.proofs.HandLemmas.{free_at, is_within}
 
 pub of_within : (script : ScriptModel) (of : Option Lane) (n : ℕ) → is_op_of script of n ≡ true → n < length script.acts
 of_within script (Some lane) n is =

@@ -5,6 +5,8 @@
 #[cfg(test)]
 mod hands;
 #[cfg(test)]
+mod lane_hands;
+#[cfg(test)]
 mod lanes;
 #[cfg(test)]
 mod listing;

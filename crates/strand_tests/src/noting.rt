@@ -6,6 +6,7 @@ ghost use Rattle.strand_core.specs.Hands.{same_lane};
 
 use crate::wanted::MEMORY;
 use asio_types::{Lane, class_of};
+use lane_map::LaneMap;
 use op_handlers::{Call, CompletionHandler, Rack, Ran};
 use session_script::{Script, read_script};
 use std::alloc::Global;
@@ -80,6 +81,21 @@ pub(crate) fn script_of<R: Abort>(rt: &R, alloc: Global, text: &str) -> Script
     let acts = script.acts();
     assert!(rt; acts <= 5);
     script
+}
+
+/// The hands of all lanes, by their numbers.
+pub(crate) fn hands_of_lanes<'a, 'b, R: Abort>(
+    rt: &R,
+    alloc: Global,
+    script: &'a Script,
+    lanes: &'a LaneMap<'a>,
+    rack: &mut Rack<Noting<'b>>,
+) -> Vec<Hands<'a, Noting<'b>>>
+    requires whole { IsWholeRack rack.old }
+    requires enough { length script.now.acts ≤ length (handlers_in rack.old) }
+    requires lanes { lanes.now ≡ script.now }
+{
+    Hands::of_lanes(alloc, script, lanes, rack).expect(rt, MEMORY)
 }
 
 /// The hands of two lanes.

@@ -1,6 +1,6 @@
 use Rattle.std.proofs.Common.{◌≡◌, ◌≤◌, replicate, None}
 use Rattle.std.specs.Prelude.{vec_capacity}
-use Rattle.strand_core.proofs.hands.empty_rack.Given as goal
+use Rattle.strand_core.proofs.racks.empty_rack.Given as goal
 
 abbrev pub invariant-loop : goal.invariant-loop
 invariant-loop g l =
