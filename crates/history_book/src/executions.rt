@@ -11,7 +11,7 @@ use session_script::Script;
 
 impl ContextReplay {
     /// Whether nothing of the lane of this operation runs. Looks at each act.
-    fn lane_is_free(&self, script: &Script, o: OpNo) -> bool
+    pub(crate) fn lane_is_free(&self, script: &Script, o: OpNo) -> bool
         requires { length self.now.acts ≡ length script.now.acts }
         ensures { IsTrue result ↔ LaneIsFree script.now self.now o }
     {
@@ -25,7 +25,7 @@ impl ContextReplay {
     }
 
     /// Whether no ready handler of its lane goes before it. Looks at each act.
-    fn is_first_of_lane(&self, script: &Script, o: OpNo) -> bool
+    pub(crate) fn is_first_of_lane(&self, script: &Script, o: OpNo) -> bool
         requires { length self.now.acts ≡ length script.now.acts }
         ensures { IsTrue result ↔ IsFirstOfLane script.now self.now o }
     {
@@ -50,7 +50,7 @@ impl ContextReplay {
             && self.allowances.may_start(lane_at(script, o))
     }
 
-    fn may_begin_inside(&self, o: OpNo, code: Code, size: u32) -> bool
+    pub(crate) fn may_begin_inside(&self, o: OpNo, code: Code, size: u32) -> bool
         ensures { IsTrue result ↔ MayBeginInside self.now o code size }
     {
         let act = self.act(o);
@@ -104,7 +104,7 @@ impl ContextReplay {
 }
 
 /// Whether a handler is ready with this code and size.
-fn is_ready_with(phase: ActPhase, code: Code, size: u32) -> bool
+pub(crate) fn is_ready_with(phase: ActPhase, code: Code, size: u32) -> bool
     ensures { IsTrue result ↔ IsReadyWith phase code size }
 {
     match phase {

@@ -19,6 +19,7 @@ mod replay;
 mod requests;
 mod rounds;
 mod settling;
+mod shown;
 mod stopping;
 mod time;
 mod time_points;

@@ -64,14 +64,14 @@ impl<'a> Replay<'a> {
     }
 
     /// Whether an act is a request that wasn't taken.
-    fn is_untaken(&self, n: ActNo) -> bool
+    pub fn is_untaken(&self, n: ActNo) -> bool
         ensures { result ≡ is_untaken self.now.state n }
     {
         is_request(self.context.act(n).phase) && !self.reactor.works().was_taken(n)
     }
 
     /// Whether no other request returned before this one was made. Looks at each act.
-    fn is_first_request(&self, a: ActNo) -> bool
+    pub fn is_first_request(&self, a: ActNo) -> bool
         ensures { IsTrue result ↔ IsFirstRequest self.now.state a }
     {
         let called = called_at(self.context.act(a).call);

@@ -206,7 +206,7 @@ impl<'a> Replay<'a> {
     }
 
     /// Whether no handler is ready or runs, and no request waits. Looks at each act.
-    pub(crate) fn all_quiet(&self) -> bool
+    pub fn all_quiet(&self) -> bool
         ensures { IsTrue result ↔ AllQuiet self.now.state }
     {
         for n in 0..self.reactor.works().script().acts() {
@@ -264,7 +264,7 @@ impl<'a> Replay<'a> {
             && !self.reactor.works().has_failed()
     }
 
-    fn is_over(&self) -> bool
+    pub fn is_over(&self) -> bool
         ensures { IsTrue result ↔ IsOver self.now.script self.now.state }
     {
         self.context.all_closed(self.reactor.works().script())

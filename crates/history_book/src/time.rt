@@ -43,7 +43,7 @@ impl<'a> Replay<'a> {
     }
 
     /// Whether a turn of the reactor breaks off before any of it was told, or there is none.
-    fn may_break_off(&self) -> bool
+    pub fn may_break_off(&self) -> bool
         ensures { IsTrue result ↔ MayBreakOff self.now.script self.now.state }
     {
         self.context.round_is_open(self.reactor.works().script())

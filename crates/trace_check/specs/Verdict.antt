@@ -1,5 +1,5 @@
 -- What is to be said of the events of a trace.
-use Rattle.std.specs.Prelude.{◌≡◌, ◌+◌, ℕ, Bool, List, ◌∷◌, ◌++◌, length}
+use Rattle.std.specs.Prelude.{◌≡◌, ◌+◌, ℕ, Bool, List, ◌∷◌, ◌++◌, ◌-◌, length, take}
 use Rattle.asio_types.specs.declared.event.Event.{Event}
 use Rattle.history_rules.specs.Legal.{IsLegal, IsLegalSoFar, IsWhole, MayHappen, state_of}
 use Rattle.session_script.specs.Script.{ScriptModel}
@@ -28,6 +28,11 @@ abbrev pub IsVerdict : ScriptModel → Bool → List Event → Verdict → Type 
 IsVerdict script told events verdict.Legal = IsLegal script told events
 IsVerdict script told events (verdict.Illegal number) = IsIllegalAt script told events number
 IsVerdict script told events verdict.Incomplete = IsIncomplete script told events
+
+-- the events that are legal so far by this verdict
+abbrev pub legal_part : Verdict → List Event → List Event
+legal_part (verdict.Illegal number) events = take (number - 1) events
+legal_part _ events = events
 
 -- no events have two verdicts
 abbrev pub VerdictsAreUnique : Type 0

@@ -17,8 +17,10 @@ mod verdict;
 
 pub use form::CheckForm;
 pub use law::{legal_traces_are_found_legal, verdicts_are_unique};
-pub use parting::{MOST_INPUT, MOST_INPUT_READ};
+pub use line::write_verdict;
+pub use parting::{MOST_INPUT, MOST_INPUT_READ, Parted, part};
+pub use question::{NoQuestion, Question, question_of};
 pub use reading::{MOST_TRACE, TraceFault, read_trace};
 pub use session::check_session;
 pub use status::CheckStatus;
-pub use verdict::{Verdict, check};
+pub use verdict::{Verdict, check, judge};

@@ -20,11 +20,7 @@ pub(crate) fn write_numbered<K: Sink>(sink: &mut K, words: &[u8], number: u32) -
 }
 
 /// Writes the line of a verdict on a trace with so many lines. Takes no memory.
-pub(crate) fn write_verdict<K: Sink>(
-    sink: &mut K,
-    verdict: Verdict,
-    lines: u32,
-) -> Result<(), Failed>
+pub fn write_verdict<K: Sink>(sink: &mut K, verdict: Verdict, lines: u32) -> Result<(), Failed>
     ensures whole { OnOk result
         (Extends (K.written sink.old) (verdict_line verdict lines) (K.written sink.new)) }
     ensures part { OnErr result

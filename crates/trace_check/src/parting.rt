@@ -15,9 +15,11 @@ pub const MOST_INPUT_READ: usize = MOST_INPUT + 1;
 
 /// The two parts of an input.
 #[derive(Clone, Copy)]
-pub(crate) struct Parted<'a> {
-    pub(crate) script: &'a [u8],
-    pub(crate) trace: &'a [u8],
+pub struct Parted<'a> {
+    /// The script's text.
+    pub script: &'a [u8],
+    /// The trace's text.
+    pub trace: &'a [u8],
 }
 
 /// Whether the line stands at the front.
@@ -45,7 +47,7 @@ fn stands_at(input: &[u8], at: usize) -> bool
 }
 
 /// The parts of an input round the first line that parts it. Looks at each byte once.
-pub(crate) fn part<'a>(input: &'a [u8]) -> Option<Parted<'a>>
+pub fn part<'a>(input: &'a [u8]) -> Option<Parted<'a>>
     ensures some { IfSome result
         (λ parted. InputParts input.now parted.script.now parted.trace.now) }
     ensures none { IfNone result (HasNoParting input.now) }

@@ -10,14 +10,16 @@ use std::alloc::Global;
 
 /// What an input asks: whether these events are a legal history of this script.
 #[derive(Drop)]
-pub(crate) struct Question {
-    pub(crate) script: Script,
-    pub(crate) history: History,
+pub struct Question {
+    /// The script.
+    pub script: Script,
+    /// The events.
+    pub history: History,
 }
 
 /// Why an input asks nothing.
 #[derive(Clone, Copy, Debug, PartialEq, Eq)]
-pub(crate) enum NoQuestion {
+pub enum NoQuestion {
     /// Its script has this fault.
     Refused(Refusal),
     /// It has no trace, or this line of its trace is bad.
@@ -27,7 +29,7 @@ pub(crate) enum NoQuestion {
 }
 
 /// Reads the script and the trace of an input, in this order.
-pub(crate) fn question_of(alloc: Global, input: &[u8]) -> Result<Question, NoQuestion>
+pub fn question_of(alloc: Global, input: &[u8]) -> Result<Question, NoQuestion>
     ensures asks { IfOk result
         (λ question. IsQuestionOf input.now question.script question.history.events) }
     ensures few { IfOk result (λ question. length question.history.events < 2 ^ 32) }

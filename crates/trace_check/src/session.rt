@@ -28,7 +28,7 @@ use std::alloc::Global;
 use text_io::{Unfinished, read_text};
 
 /// Judges the events of a question, and writes the verdict's line.
-fn judge<K: Sink>(
+fn write_judged<K: Sink>(
     alloc: Global,
     form: CheckForm,
     question: &Question,
@@ -93,7 +93,7 @@ fn end<S: Source, K: Sink>(
         Err(NoQuestion::BadTrace(line)) => return CheckEnding::BadTrace(line),
         Err(NoQuestion::NoMemory) => return CheckEnding::NoMemory,
     };
-    match judge(alloc, form, &question, out) {
+    match write_judged(alloc, form, &question, out) {
         Ok(verdict) => CheckEnding::Judged(verdict),
         Err(Unfinished::Failed) => CheckEnding::WriteFault,
         Err(Unfinished::NoMemory) => CheckEnding::NoMemory,

@@ -1,5 +1,7 @@
-ghost use Rattle.std.specs.Prelude.{◌<◌, ◌^◌, length, IfOk};
-ghost use Rattle.trace_check.specs.Verdict.{IsVerdict};
+ghost use Rattle.std.specs.Prelude.{◌≡◌, ◌<◌, ◌^◌, length, IfOk};
+ghost use Rattle.history_rules.specs.Legal.{state_of};
+ghost use Rattle.history_rules.specs.State.{first_state};
+ghost use Rattle.trace_check.specs.Verdict.{IsVerdict, legal_part};
 
 use asio_types::{Event, NoMemory};
 use history_book::Replay;
@@ -18,6 +20,30 @@ pub enum Verdict {
     Incomplete,
 }
 
+/// The verdict on these events as a history of the replay's script, from its first event on. The
+/// replay comes as far as they are legal. Takes no memory, and looks at each event once, and for it
+/// at each act and stream at most a few times.
+pub fn judge(replay: &mut Replay, events: &[Event]) -> Verdict
+    requires few { length events.now < 2 ^ 32 }
+    requires fresh { replay.old.state ≡ first_state replay.old.script replay.old.told }
+    ensures verdict { IsVerdict replay.old.script replay.old.told events.now result }
+    ensures state { replay.new.state
+        ≡ state_of replay.old.script replay.old.told (legal_part result events.now) }
+    ensures script { replay.new.script ≡ replay.old.script }
+    ensures told { replay.new.told ≡ replay.old.told }
+{
+    for (i, event) in events.iter().enumerate() {
+        if !replay.step(*event) {
+            return Verdict::Illegal(i as u32 + 1);
+        }
+    }
+    if replay.whole() {
+        Verdict::Legal
+    } else {
+        Verdict::Incomplete
+    }
+}
+
 /// The verdict on these events as a history of the script; `bytes_told` says whether the reactor
 /// tells its bytes. Marks don't matter. Takes memory in proportion to the script, and looks at each
 /// event once, and for it at each act and stream at most a few times.
@@ -31,14 +57,5 @@ pub fn check(
     ensures { IfOk result (IsVerdict script.now bytes_told events.now) }
 {
     let mut replay = Replay::make(alloc, script, bytes_told)?;
-    for (i, event) in events.iter().enumerate() {
-        if !replay.step(*event) {
-            return Ok(Verdict::Illegal(i as u32 + 1));
-        }
-    }
-    if replay.whole() {
-        Ok(Verdict::Legal)
-    } else {
-        Ok(Verdict::Incomplete)
-    }
+    Ok(judge(&mut replay, events))
 }

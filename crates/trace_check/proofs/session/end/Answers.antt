@@ -28,17 +28,17 @@ returns-in-Err-BadTrace-clause-says g c =
       rw c.in-Err-BadTrace.field-0-is refl,
     )
 
-pub returns-in-Ok-judge-clause-says : goal.returns-in-Ok-judge-clause-says
-returns-in-Ok-judge-clause-says g c =
+pub returns-in-Ok-write_judged-clause-says : goal.returns-in-Ok-write_judged-clause-says
+returns-in-Ok-write_judged-clause-says g c =
     let script = c.in-Ok-question_of.question.script in
     let events = c.in-Ok-question_of.question.history.events in
     said_of
     (record {
       words = map string_bytes c.args.words.now;
       source = seen_by g.S.Source.left g.S.Source.faults c.args.source.now c.read_text.new.source;
-      out = seen_by g.K.Sink.written g.K.Sink.faults c.args.out.now c.judge.new.out;
+      out = seen_by g.K.Sink.written g.K.Sink.faults c.args.out.now c.write_judged.new.out;
     })
-    c.in-Ok-judge.verdict
+    c.in-Ok-write_judged.verdict
     (record {
       form = c.in-Some.form;
       words = (c.in-Some.ensures.some c.in-Some.form).0 refl;
@@ -49,8 +49,8 @@ returns-in-Ok-judge-clause-says g c =
         c.in-Ok.ensures.text,
         subst (λ text. IsQuestionOf text script events) c.as_slice.ensures.value c.in-Ok-question_of.ensures.asks,
       );
-      verdict = c.in-Ok-judge.verdict;
-      is = c.in-Ok-judge.ensures.verdict;
+      verdict = c.in-Ok-write_judged.verdict;
+      is = c.in-Ok-write_judged.ensures.verdict;
       kind = refl;
-      written = c.in-Ok-judge.ensures.written;
+      written = c.in-Ok-write_judged.ensures.written;
     })
