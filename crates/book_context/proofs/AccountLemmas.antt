@@ -20,15 +20,16 @@ use Rattle.history_rules.specs.declared.phase.ActPhase.TheVariants as phase
 use Rattle.history_rules.specs.declared.phase.ActState.{ActState}
 use Rattle.history_rules.specs.declared.phase.Cause.TheVariants as cause
 use Rattle.book_context.specs.Rest.{IsAtRest}
-use Rattle.book_context.specs.Accounted.{IsAccounted, is_awaited}
+use Rattle.reactor_turns.specs.Standing.{is_awaited}
+use Rattle.book_context.specs.Accounted.{IsAccounted}
 use Rattle.book_context.specs.Work.{is_pending, is_requested, pending_acts}
 use Rattle.book_context.proofs.CountingLemmas.{counted, counted-more, counted-range, counted-same}
-use Rattle.book_context.proofs.PendingLemmas.{pending-done, pending-last, pending-take, pending-tick}
+use Rattle.reactor_turns.proofs.PendingLemmas.{pending-done, pending-last, pending-take, pending-tick}
 use Rattle.book_context.proofs.RestLemmas.{is_within}
 use Rattle.book_context.proofs.SettledLemmas.{awaited}
 use Rattle.book_context.proofs.StateLemmas.{act_at-other, act_at-same, length-acts}
-use Rattle.book_context.proofs.StreamsLemmas.{done-size, last-size, take-size, tick-size}
-use Rattle.book_context.proofs.TurnLemmas.{done-taken, last-taken, take-taken, tick-taken}
+use Rattle.reactor_turns.proofs.StreamsLemmas.{done-size, last-size, take-size, tick-size}
+use Rattle.reactor_turns.proofs.TakenLemmas.{done-taken, last-taken, take-taken, tick-taken}
 
 abbrev one_if : Bool → ℕ
 one_if b = cond b 1 0

@@ -10,7 +10,8 @@ use Rattle.proactor_core.specs.Proactor.{ProactorView}
 use Rattle.strand_core.specs.Hands.{Held}
 use Rattle.book_context.specs.declared.answer.BookTurn.{BookTurn}
 use Rattle.book_context.specs.declared.answer.BookTurn.TheVariants as turn
-use Rattle.book_context.specs.Book.{BookView, HoldsUnspent, IsBook, ReactorKeepsTime, IsTurned, KeepsHistory, KeepsReactor, unless_spent}
+use Rattle.reactor_turns.specs.Turned.{ReactorKeepsTime, IsTurned}
+use Rattle.book_context.specs.Book.{BookView, HoldsUnspent, IsBook, KeepsHistory, KeepsReactor, unless_spent}
 use Rattle.book_context.specs.BookSteps.{TurnAnswers, IsGoing, IsIdleRound, is_round_open}
 use Rattle.book_context.specs.InTurn.{HasExecutedNext, HasTakenNext, SpendsNone, TurnsReactor, WaitsForOutside}
 use Rattle.book_context.specs.Recorded.{is_spent_at, recorded_state}

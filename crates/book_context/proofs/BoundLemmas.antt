@@ -1,5 +1,5 @@
 -- How many events the calls of a body have at most.
-use Rattle.std.proofs.Common.{◌≡◌, ℕ, zero, suc, ◌+◌, ◌*◌, ◌<◌, ◌≤◌, Bool, true, false, ◌||◌, cond, List, [], ◌∷◌, ◌++◌, Some, None, inl, inr, length, refl, sym, ap, subst, ◌∙◌, arith}
+use Rattle.std.proofs.Common.{◌≡◌, ℕ, zero, suc, ◌+◌, ◌*◌, ◌<◌, ◌≤◌, Bool, true, false, ◌||◌, cond, List, ◌∷◌, ◌++◌, Some, None, inl, inr, length, refl, sym, ap, subst, ◌∙◌, arith, []}
 use Rattle.std.proofs.lemmas.Bool.{false_from_ne_true}
 use Rattle.std.proofs.lemmas.List.{length-append}
 use Rattle.asio_types.specs.Code.{class_of_code}
@@ -25,7 +25,7 @@ use Rattle.book_context.proofs.InsideLemmas.{behind-more}
 use Rattle.book_context.proofs.PlaceLemmas.{behind_it, within_script}
 use Rattle.book_context.proofs.ScriptLemmas.{inline_no_stop}
 use Rattle.book_context.proofs.StateLemmas.{IsBehind, acts_in}
-use Rattle.book_context.proofs.SummingLemmas.{one_if, summed, summed-less, weigh, weigh-either, weigh-more, weigh-same}
+use Rattle.reactor_turns.proofs.SummingLemmas.{one_if, summed, summed-less, weigh, weigh-either, weigh-more, weigh-same}
 
 -- the events of a call
 call_events : {X : Type 0} (b : Bool) (first second : X) (rest : List X) →

@@ -1,5 +1,5 @@
 -- What closings, restarts and stops from outside make of what a book keeps.
-use Rattle.std.proofs.Common.{◌≡◌, ℕ, Bool, true, false, not, List, [], ◌∷◌, ◌++◌, Option, Some, None, refl, sym, ap, subst, ◌∙◌}
+use Rattle.std.proofs.Common.{◌≡◌, ℕ, Bool, true, false, not, List, ◌∷◌, ◌++◌, Option, Some, None, refl, sym, ap, subst, ◌∙◌, []}
 use Rattle.std.specs.Prelude.{◌||◌, ◌&&◌}
 use Rattle.std.proofs.lemmas.List.Folds.{list_any-append}
 use Rattle.std.proofs.lemmas.Option.{slice_get_within}
@@ -15,7 +15,8 @@ use Rattle.history_rules.specs.State.{ReactorHalf, State}
 use Rattle.reactor_trait.specs.Reactor.{Outside, ReactorState}
 use Rattle.proactor_core.specs.Proactor.{ProactorView}
 use Rattle.strand_core.specs.Hands.{Held}
-use Rattle.book_context.specs.Book.{HoldsUnspent, IsBook, ReactorKeepsTime, IsTurned, KeepsHistory, KeepsReactor, unless_spent}
+use Rattle.reactor_turns.specs.Turned.{ReactorKeepsTime, IsTurned}
+use Rattle.book_context.specs.Book.{HoldsUnspent, IsBook, KeepsHistory, KeepsReactor, unless_spent}
 use Rattle.book_context.specs.BookSteps.{IsClosing, IsGoing, is_round_open, open_round, wants_restart, wants_with}
 use Rattle.book_context.specs.InTurn.{SpendsNone}
 use Rattle.book_context.specs.Recorded.{IsRecorded, is_spent_at, recorded_half, recorded_state}

@@ -1,5 +1,5 @@
 -- An operation that completes is ready behind all others.
-use Rattle.std.proofs.Common.{◌≡◌, ◌≢◌, ℕ, ◌+◌, ◌<◌, Bool, true, false, not, ◌&&◌, List, [], ◌∷◌, ◌++◌, inl, inr, get_or, length, refl, sym, ap, subst, ◌∙◌, arith}
+use Rattle.std.proofs.Common.{◌≡◌, ◌≢◌, ℕ, ◌+◌, ◌<◌, Bool, true, false, not, ◌&&◌, List, ◌∷◌, ◌++◌, inl, inr, get_or, length, refl, sym, ap, subst, ◌∙◌, arith, []}
 use Rattle.std.specs.List.{All, Any, slice_index_or}
 use Rattle.std.specs.Option.{unwrap_or}
 use Rattle.std.proofs.lemmas.Bool.{and_parts, cases_eq}
@@ -28,7 +28,7 @@ use Rattle.book_context.proofs.MovesLemmas.{past_later}
 use Rattle.book_context.proofs.RestLemmas.{at_each, is_within}
 use Rattle.book_context.proofs.RisingLemmas.{any-left}
 use Rattle.book_context.proofs.StateLemmas.{act_at-other, act_at-same, length-acts}
-use Rattle.book_context.proofs.TurnLemmas.{done-taken}
+use Rattle.reactor_turns.proofs.TakenLemmas.{done-taken}
 
 module _ (script : ScriptModel) (told : Bool) (s : State) (op : ℕ) (given : Code) (size : ℕ)
     (ready : List (ℕ × Code × ℕ)) (requests : List ℕ) (requested : phase_at s.context op ≡ phase.Requested)

@@ -1,5 +1,5 @@
 -- What is recorded of handlers that are destroyed.
-use Rattle.std.proofs.Common.{◌≡◌, ◌≢◌, ◌⊎◌, ℕ, ◌+◌, ◌<◌, ◌≤◌, Bool, true, false, not, ◌&&◌, [], ◌∷◌, inl, inr, length, refl, sym, ap, subst, ◌∙◌, arith}
+use Rattle.std.proofs.Common.{◌≡◌, ◌≢◌, ◌⊎◌, ℕ, ◌+◌, ◌<◌, ◌≤◌, Bool, true, false, not, ◌&&◌, ◌∷◌, inl, inr, length, refl, sym, ap, subst, ◌∙◌, arith, []}
 use Rattle.std.specs.List.{slice_index_or}
 use Rattle.std.proofs.lemmas.Bool.{cases_Bool, cases_eq}
 use Rattle.std.proofs.lemmas.List.Elements.{All-from_get_or, All-set}
@@ -25,7 +25,7 @@ use Rattle.book_context.proofs.LeftLemmas.{left-parts}
 use Rattle.book_context.proofs.PartLemmas.{history_goes_on, state_goes_on}
 use Rattle.book_context.proofs.RestLemmas.{at_each, is_within}
 use Rattle.book_context.proofs.StateLemmas.{act_at-other, act_at-same, length-acts}
-use Rattle.book_context.proofs.SummingLemmas.{one_if, summed, summed-apart, summed-less, summed-range}
+use Rattle.reactor_turns.proofs.SummingLemmas.{one_if, summed, summed-apart, summed-less, summed-range}
 
 -- an accepted operation at rest is unspent or spent
 one_of : (p : ActPhase) → is_accepted p ≡ true → is_running p ≡ false → waits_inside p ≡ false →

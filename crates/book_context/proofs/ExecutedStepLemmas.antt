@@ -1,5 +1,5 @@
 -- What is recorded of an execution.
-use Rattle.std.proofs.Common.{◌≡◌, ◌≢◌, ℕ, ◌+◌, ◌-◌, ◌<◌, ◌≤◌, Bool, true, false, ◌&&◌, ◌||◌, cond, List, [], ◌∷◌, ◌++◌, Some, inl, inr, length, refl, sym, ap, subst, ◌∙◌, arith}
+use Rattle.std.proofs.Common.{◌≡◌, ◌≢◌, ℕ, ◌+◌, ◌-◌, ◌<◌, ◌≤◌, Bool, true, false, ◌&&◌, ◌||◌, cond, List, ◌∷◌, ◌++◌, Some, inl, inr, length, refl, sym, ap, subst, ◌∙◌, arith, []}
 use Rattle.std.specs.Prelude.{◌==◌}
 use Rattle.std.specs.List.{slice_index_or, slice_set}
 use Rattle.std.proofs.Math.ListN.{length-set}
@@ -27,13 +27,14 @@ use Rattle.book_context.specs.Accounted.{IsAccounted}
 use Rattle.book_context.specs.Called.{are_stopping, is_called, settled_phase}
 use Rattle.book_context.specs.Executed.{IsLegalExecution}
 use Rattle.book_context.specs.Kinds.{AreOfKind, is_accepted, is_spent, was_called}
-use Rattle.book_context.specs.Left.{act_left, act_left_at, events_left, one_unless, phase_left, rounds_left}
+use Rattle.reactor_turns.specs.Ahead.{one_unless}
+use Rattle.book_context.specs.Left.{act_left, act_left_at, events_left, phase_left, rounds_left}
 use Rattle.book_context.specs.Order.{IsKept, has_begun, postings_of, requests_of}
 use Rattle.book_context.specs.Ready.{is_ready}
 use Rattle.book_context.specs.Recorded.{IsRecorded, Knows, recorded_state}
 use Rattle.book_context.specs.Recording.{Recording, marked}
 use Rattle.book_context.specs.Steps.{ExecutionIsRecorded, IsRoundOpen, MayExecute, executed_recording}
-use Rattle.book_context.proofs.AccountedLemmas.{account_execution, did as legally, same_pending}
+use Rattle.book_context.proofs.AccountedLemmas.{account_execution, same_pending, did as legally}
 use Rattle.book_context.proofs.BoundLemmas.{bounded_body, execution_events, shown_by}
 use Rattle.book_context.proofs.CalledLemmas.{called-append, called-execution}
 use Rattle.book_context.proofs.CountingLemmas.{counted-most}
@@ -46,7 +47,7 @@ use Rattle.book_context.proofs.NextLemmas.{may_begin}
 use Rattle.book_context.proofs.PartLemmas.{history_goes_on, state_goes_on}
 use Rattle.book_context.proofs.RecordedLemmas.{round_open}
 use Rattle.book_context.proofs.RestLemmas.{is_within}
-use Rattle.book_context.proofs.SummingLemmas.{one_if, only, summed, summed-both, summed-only, weigh, weigh-same}
+use Rattle.reactor_turns.proofs.SummingLemmas.{one_if, only, summed, summed-both, summed-only, weigh, weigh-same}
 use Rattle.book_context.proofs.WorkLemmas.{ready_count, request_count}
 
 begins-append : (n : ℕ) (xs ys : List Posted) → begins_among n (xs ++ ys) ≡ (begins_among n xs || begins_among n ys)

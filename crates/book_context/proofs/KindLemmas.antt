@@ -14,7 +14,7 @@ use Rattle.book_context.specs.Kinds.{is_accepted, is_spent}
 use Rattle.book_context.specs.Left.{phase_left}
 use Rattle.book_context.proofs.BoundLemmas.{shown_by}
 use Rattle.book_context.proofs.SettledLemmas.{accepted_by}
-use Rattle.book_context.proofs.SummingLemmas.{one_if}
+use Rattle.reactor_turns.proofs.SummingLemmas.{one_if}
 
 -- the two words for an operation
 op-is : (script : ScriptModel) (n : ℕ) → is_act is_operation script n ≡ is_op script n

@@ -1,13 +1,11 @@
 -- How many events are left, step by step.
-use Rattle.std.proofs.Common.{◌≡◌, ◌≢◌, ℕ, zero, suc, ◌+◌, ◌*◌, ◌-◌, ◌<◌, ◌≤◌, nat_lt, Bool, true, false, not, cond, List, [], ◌∷◌, inl, inr, filter, length, map, replicate, refl, ap, ◌∙◌, arith}
-use Rattle.std.specs.Prelude.{◌==◌, sum_by}
+use Rattle.std.proofs.Common.{◌≡◌, ◌≢◌, ℕ, zero, suc, ◌+◌, ◌*◌, ◌-◌, ◌<◌, ◌≤◌, Bool, true, false, List, inl, inr, length, replicate, refl, ap, ◌∙◌, arith}
+use Rattle.std.specs.Prelude.{sum_by}
 use Rattle.std.specs.List.{range_with_len, slice_index_or}
 use Rattle.std.proofs.lemmas.Bool.{cases_lt}
-use Rattle.std.proofs.lemmas.List.{get_or-replicate, get_or_past, length-map, length-replicate}
-use Rattle.std.proofs.lemmas.List.Filters.{length-filter_both}
-use Rattle.asio_types.specs.declared.world.Line.{Line}
+use Rattle.std.proofs.lemmas.List.{get_or-replicate, get_or_past, length-replicate}
 use Rattle.session_script.specs.Script.{ScriptModel}
-use Rattle.stream_rules.specs.World.{insert_time, rising, times_after}
+use Rattle.stream_rules.specs.World.{times_after}
 use Rattle.history_rules.specs.Order.{is_request, was_taken}
 use Rattle.history_rules.specs.State.{State, act_at, call_at, first_state, fresh, phase_at}
 use Rattle.history_rules.specs.declared.phase.ActPhase.{ActPhase}
@@ -15,9 +13,11 @@ use Rattle.history_rules.specs.declared.phase.ActPhase.TheVariants as phase
 use Rattle.history_rules.specs.declared.phase.ActState.{ActState}
 use Rattle.history_rules.specs.declared.phase.CallPhase.{CallPhase}
 use Rattle.history_rules.specs.declared.phase.CallPhase.TheVariants as call
-use Rattle.book_context.specs.Left.{act_left, act_left_at, events_left, most_history, one_unless, phase_left, rounds_left}
+use Rattle.reactor_turns.specs.Ahead.{one_unless}
+use Rattle.reactor_turns.proofs.AheadLemmas.{times-most}
+use Rattle.book_context.specs.Left.{act_left, act_left_at, events_left, most_history, phase_left, rounds_left}
 use Rattle.book_context.specs.Work.{is_requested}
-use Rattle.book_context.proofs.SummingLemmas.{one_if, summed, summed-apart, summed-both, summed-less, summed-range, summed-same}
+use Rattle.reactor_turns.proofs.SummingLemmas.{one_if, summed, summed-apart, summed-both, summed-less, summed-range, summed-same}
 
 -- what the acts may still show
 abbrev pub acts_left : State → ℕ
@@ -94,32 +94,6 @@ left_told c p q made is two =
     let before = left_made c p true made ∙ ap (λ p. phase_left p true) is in
     let after = left_made c q true made in
     omega (arith, before, after, two)
-
--- the distinct numbers of a list are no more than its numbers
-length-insert : (x : ℕ) (xs : List ℕ) → length (insert_time x xs) ≤ length xs + 1
-length-insert x [] = omega arith
-length-insert x (first ∷ rest) = by_tests (nat_lt x first) (x == first) (length-insert x rest)
-  where
-    by_tests : (less same : Bool) → length (insert_time x rest) ≤ length rest + 1 →
-        length (cond less (x ∷ (first ∷ rest)) (cond same (first ∷ rest) (first ∷ insert_time x rest)))
-        ≤ length (first ∷ rest) + 1
-    by_tests true same more = omega arith
-    by_tests false true more = omega arith
-    by_tests false false more = omega (arith, more)
-
-length-rising : (xs : List ℕ) → length (rising xs) ≤ length xs
-length-rising [] = omega arith
-length-rising (x ∷ xs) =
-    let rest = length-rising xs in let one = length-insert x (rising xs) in omega (arith, rest, one)
-
-times-most : (now : ℕ) (lines : List Line) → length (times_after now lines) ≤ length lines
-times-most now lines =
-    let rises = length-rising (filter (λ time. nat_lt now time) (map (λ (line : Line). line.time) lines)) in
-    let both =
-    length-filter_both (λ time. nat_lt now time) (λ time. not (nat_lt now time)) (λ x. refl)
-    (map (λ (line : Line). line.time) lines) in
-    let all = length-map lines (λ (line : Line). line.time) in
-    omega (arith, rises, both, all)
 
 -- each act shows at most seven
 seven_each : (n : ℕ) → summed (λ m. 7) n ≡ 7 * n

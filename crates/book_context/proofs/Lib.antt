@@ -23,18 +23,13 @@ pub mod NextLemmas
 pub mod TurnLemmas
 pub mod CompletionLemmas
 pub mod CountingLemmas
-pub mod SummingLemmas
 pub mod BoundLemmas
 pub mod WorkLemmas
-pub mod PendingLemmas
-pub mod StreamsLemmas
 pub mod AccountLemmas
 pub mod AccountedLemmas
 pub mod FreeLemmas
 pub mod RecordRoomLemmas
 pub mod RecordLemmas
-pub mod StandingLemmas
-pub mod ClockLemmas
 pub mod LeftLemmas
 pub mod KindLemmas
 pub mod RecordedLemmas
@@ -44,7 +39,6 @@ pub mod TurnStepLemmas
 pub mod BookHistoryLemmas
 pub mod ToldLemmas
 pub mod BeginLemmas
-pub mod FollowsLemmas
 pub mod ReactorTurnLemmas
 pub mod TellStepLemmas
 pub mod TimeStepLemmas

@@ -17,7 +17,8 @@ use Rattle.proactor_core.specs.Proactor.{SetupIsRefused, ProactorView}
 use Rattle.strand_core.specs.Execution.{events_of}
 use Rattle.strand_core.specs.Hands.{Held, taken_at}
 use Rattle.book_context.specs.Begun.{HoldsAll, IsStarted}
-use Rattle.book_context.specs.Book.{HoldsUnspent, IsBook, IsTurned, KeepsHistory, KeepsReactor, unless_spent}
+use Rattle.reactor_turns.specs.Turned.{IsTurned}
+use Rattle.book_context.specs.Book.{HoldsUnspent, IsBook, KeepsHistory, KeepsReactor, unless_spent}
 use Rattle.book_context.specs.Left.{most_history}
 use Rattle.book_context.specs.Recorded.{recorded_half}
 use Rattle.book_context.specs.Recording.{HasCalledOpening, Recording, new_recording, with_calls}

@@ -22,12 +22,13 @@ use Rattle.strand_core.specs.declared.posted.Posted.{Posted}
 use Rattle.book_context.specs.Accounted.{IsAccounted}
 use Rattle.book_context.specs.Called.{is_called, settled_phase}
 use Rattle.book_context.specs.Kinds.{AreOfKind, is_accepted, is_spent, was_called}
-use Rattle.book_context.specs.Left.{act_left, act_left_at, events_left, most_history, one_unless, phase_left, rounds_left}
+use Rattle.reactor_turns.specs.Ahead.{one_unless}
+use Rattle.book_context.specs.Left.{act_left, act_left_at, events_left, most_history, phase_left, rounds_left}
 use Rattle.book_context.specs.Opened.{IsLegalOpening}
 use Rattle.book_context.specs.Order.{IsKept, has_begun, postings_of, requests_of}
 use Rattle.book_context.specs.Recorded.{IsRecorded, Knows, is_spent_at, recorded_state}
 use Rattle.book_context.specs.Recording.{Recording}
-use Rattle.book_context.specs.Standing.{queued_of, stands}
+use Rattle.reactor_turns.specs.Standing.{queued_of, stands}
 use Rattle.book_context.specs.Steps.{OpeningIsRecorded, opened_recording}
 use Rattle.book_context.specs.Work.{is_pending}
 use Rattle.book_context.proofs.AccountedLemmas.{account_opening, not_pending, opened as legally}
@@ -41,7 +42,7 @@ use Rattle.book_context.proofs.OpenedLemmas.{is_order_begun}
 use Rattle.book_context.proofs.PlaceLemmas.{parent_is}
 use Rattle.book_context.proofs.RecordedLemmas.{few_events}
 use Rattle.book_context.proofs.RestLemmas.{at_each}
-use Rattle.book_context.proofs.SummingLemmas.{one_if, weigh}
+use Rattle.reactor_turns.proofs.SummingLemmas.{one_if, weigh}
 
 -- nothing stands anywhere before the first event
 none_queued : (n k : ℕ) → sum_by (queued_of n) (replicate k no_queues) ≡ 0

@@ -1,88 +1,37 @@
 -- What a turn of the reactor makes of what a book keeps.
-use Rattle.std.proofs.Common.{◌≡◌, ◌≢◌, ℕ, ◌+◌, ◌<◌, ◌≤◌, Bool, true, false, List, [], ◌∷◌, ◌++◌, Option, Some, None, inl, inr, zero, suc, length, refl, sym, ap, subst, ◌∙◌, arith}
-use Rattle.std.specs.Prelude.{IfSome, IsTrue, ◌||◌, replicate, slice_index_or, sum_by}
-use Rattle.std.proofs.lemmas.Bool.{cases_Bool, cases_lt}
+use Rattle.std.proofs.Common.{◌≡◌, ◌≢◌, ℕ, ◌+◌, ◌≤◌, Bool, true, false, ◌∷◌, ◌++◌, Option, Some, None, inl, inr, length, refl, sym, ap, subst, ◌∙◌, arith, []}
+use Rattle.std.specs.Prelude.{IsTrue, ◌||◌, replicate, slice_index_or, sum_by}
+use Rattle.std.proofs.lemmas.Bool.{cases_Bool}
 use Rattle.std.proofs.lemmas.List.{append_assoc}
 use Rattle.std.proofs.lemmas.List.Elements.{All-cons, All-nil}
 use Rattle.std.proofs.lemmas.List.Folds.{list_any-append}
-use Rattle.std.proofs.lemmas.List.Sums.{sum_by-cons}
-use Rattle.asio_types.specs.Faults.{Rose, most_faults}
+use Rattle.asio_types.specs.Faults.{Rose}
 use Rattle.asio_types.specs.declared.event.Event.TheVariants as event
 use Rattle.asio_types.specs.declared.outside.Point.{Point}
 use Rattle.asio_types.specs.declared.outside.Point.TheVariants as point
-use Rattle.session_script.specs.declared.act.Act.{Act}
-use Rattle.session_script.specs.Script.{ScriptModel, act_of}
 use Rattle.history_rules.specs.FromOutside.{has_fault, is_fault}
 use Rattle.history_rules.specs.Legal.{state_of}
-use Rattle.history_rules.specs.Performing.{performed, performed_by}
-use Rattle.history_rules.specs.Requests.{reactor_after_take}
 use Rattle.history_rules.specs.State.{ReactorHalf, StreamQueues, no_queues}
-use Rattle.history_rules.specs.Time.{next_time, pending_count}
-use Rattle.reactor_trait.specs.Reactor.{Outside, ReactorState, state_at}
+use Rattle.history_rules.specs.Time.{pending_count}
+use Rattle.reactor_trait.specs.Reactor.{Outside, ReactorState}
 use Rattle.proactor_core.specs.Proactor.{Follows, IsSound, ProactorView, after_point, moved_state, tells}
 use Rattle.proactor_core.specs.Room.{IsUntaken}
-use Rattle.book_context.specs.Book.{ReactorKeepsTime, IsTurned, KeepsReactor}
+use Rattle.reactor_turns.specs.Turned.{ReactorKeepsTime, IsTurned}
+use Rattle.book_context.specs.Book.{KeepsReactor}
 use Rattle.book_context.specs.BookSteps.{BeginsTurn, HasFaulted}
-use Rattle.book_context.specs.InTurn.{HasBegun, HasBroken, HasBrokenOff, HasOnlyTold, HasWholeTurn, IsInTurn, moved_half}
+use Rattle.book_context.specs.InTurn.{HasBegun, HasBroken, HasBrokenOff, HasOnlyTold, HasWholeTurn, IsInTurn}
 use Rattle.book_context.specs.Oldest.{with_request}
 use Rattle.book_context.specs.Recorded.{IsRecorded, recorded_half}
 use Rattle.book_context.specs.Recording.{Recording}
 use Rattle.book_context.specs.Steps.{IsRoundOpen}
 use Rattle.book_context.specs.TurnSteps as steps
-use Rattle.book_context.proofs.ClockLemmas.{runs-last, runs-take, runs-tick, settled-clock}
-use Rattle.book_context.proofs.FollowsLemmas.{follows_taken, sound_works}
-
--- a count that rose in a step rose since the count that is named
-pub rose_since : (named old new : ℕ) → named ≤ old → old ≤ new → Rose old new → Rose named new
-rose_since named old new least later rose less = elim (cases_lt old most_faults) [
-  | inl within ↦ let more : old < new = rose within in omega (arith, least, more)
-  | inr past ↦ omega (arith, less, past, later)
-]
+use Rattle.reactor_turns.proofs.TurnedLemmas.{now-moved, rose_since}
+use Rattle.reactor_turns.proofs.AheadLemmas.{none_first}
+use Rattle.reactor_turns.proofs.FollowsLemmas.{follows_taken, sound_works}
 
 or_true : (a : Bool) → (a || true) ≡ true
 or_true true = refl
 or_true false = refl
-
--- a take leaves the time as it is
-pub now-take : (script : ScriptModel) (told : Bool) (r : ReactorHalf) (a : ℕ) →
-    (reactor_after_take script told r a).now ≡ r.now
-now-take script told r a = (settled-clock told (performed script a r)).now ∙ by_act (act_of script a) refl
-  where
-    by_act : (found : Option Act) → act_of script a ≡ found → (performed script a r).now ≡ r.now
-    by_act None is = ap (λ f. (performed_by script a f r).now) is
-    by_act (Some given) is =
-        sym (settled-clock told (performed script a r)).now ∙ (runs-take script told r a given is).now
-
--- the reactor's time is that of the history after a time point, if it was before
-pub now-point : (script : ScriptModel) (told : Bool) (point : Point) (old new : ReactorState) (half : ReactorHalf) →
-    new ≡ state_at point old → old.now ≡ half.now → new.now ≡ (after_point script told point half).now
-now-point script told (point.Time now) old new half is same =
-    ap (λ (s : ReactorState). s.now) is ∙ sym (runs-tick script told half now).now
-now-point script told point.Last old new half is same =
-    ap (λ (s : ReactorState). s.now) is ∙ same ∙ sym (runs-last told half).now
-
-now-moved : (script : ScriptModel) (told : Bool) (moved : Option Point) (old new : ReactorState) (half : ReactorHalf) →
-    new ≡ moved_state moved old → old.now ≡ half.now → new.now ≡ (moved_half script told moved half).now
-now-moved script told None old new half is same = ap (λ (s : ReactorState). s.now) is ∙ same
-now-moved script told (Some point) old new half is same = now-point script told point old new half is same
-
--- the point at which a tick failed is the next one
-pub next_moved : {X : Type 0} (told : X → Option Outside) (script : ScriptModel) (view : ProactorView X)
-    (half : ReactorHalf) (moved : Option Point) → view.script ≡ script → Follows told view half →
-    IfSome moved (λ point. (half : ReactorHalf) → Follows told view half → next_time view.script half ≡ point) →
-    IfSome moved (λ point. next_time script half ≡ point)
-next_moved told script view half None same follows to = tt
-next_moved told script view half (Some point) same follows to = ap (λ s. next_time s half) (sym same) ∙ to half follows
-
-none_first : (xs : List StreamQueues) (count : ℕ) → xs ≡ replicate count no_queues →
-    sum_by (λ queues. length queues.reads + length queues.writes) xs ≡ 0
-none_first xs zero is = ap (sum_by (λ queues. length queues.reads + length queues.writes)) is
-none_first xs (suc count) is =
-    let same = ap (sum_by (λ (queues : StreamQueues). length queues.reads + length queues.writes)) is in
-    let one =
-    sum_by-cons (λ (queues : StreamQueues). length queues.reads + length queues.writes) no_queues (replicate count no_queues) in
-    let rest = none_first (replicate count no_queues) count refl in
-    omega (arith, same, one, rest)
 
 -- something is pending only once there were events
 pub pending_some : (told : Bool) (r : Recording) → 1 ≤ pending_count (recorded_half told r) → r.events ≢ []

@@ -1,5 +1,5 @@
 -- What is recorded of rounds.
-use Rattle.std.proofs.Common.{◌≡◌, ℕ, ◌+◌, ◌-◌, ◌<◌, ◌≤◌, Bool, true, false, [], None, length, refl, ap, subst, ◌∙◌, arith}
+use Rattle.std.proofs.Common.{◌≡◌, ℕ, ◌+◌, ◌-◌, ◌<◌, ◌≤◌, Bool, true, false, None, length, refl, ap, subst, ◌∙◌, arith, []}
 use Rattle.std.specs.Prelude.{count_by, slice_get}
 use Rattle.std.specs.Option.{unwrap_or}
 use Rattle.std.proofs.lemmas.List.{length-map}
@@ -11,7 +11,8 @@ use Rattle.history_rules.specs.State.{State}
 use Rattle.history_rules.specs.Time.{pending_count}
 use Rattle.history_rules.specs.declared.phase.Allowance.TheVariants as allowance
 use Rattle.history_rules.specs.declared.phase.Progress.{Progress}
-use Rattle.book_context.specs.Left.{one_unless, rounds_left}
+use Rattle.reactor_turns.specs.Ahead.{one_unless}
+use Rattle.book_context.specs.Left.{rounds_left}
 use Rattle.book_context.specs.Order.{IsKept}
 use Rattle.book_context.specs.Recorded.{IsRecorded, recorded_half, recorded_state}
 use Rattle.book_context.specs.Recording.{Recording, with_closing, with_outside_stop, with_restart}

@@ -12,7 +12,7 @@ use Rattle.history_rules.specs.declared.phase.Cause.TheVariants as cause
 use Rattle.book_context.specs.Called.{settled_phase}
 use Rattle.book_context.specs.Order.{has_begun}
 use Rattle.book_context.specs.Rest.{waits_inside}
-use Rattle.book_context.specs.Accounted.{is_awaited}
+use Rattle.reactor_turns.specs.Standing.{is_awaited}
 use Rattle.book_context.specs.Work.{is_requested}
 use Rattle.history_rules.specs.Order.{is_request}
 use Rattle.session_script.specs.declared.act.Act.{Act}

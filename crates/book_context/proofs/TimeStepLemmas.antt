@@ -1,5 +1,5 @@
 -- What is recorded of ticks, of the last time point and of a failure.
-use Rattle.std.proofs.Common.{◌≡◌, ◌⊎◌, ℕ, ◌+◌, ◌≤◌, Bool, true, false, ◌&&◌, List, [], Some, inr, length, refl, sym, ap, subst, ◌∙◌, arith}
+use Rattle.std.proofs.Common.{◌≡◌, ◌⊎◌, ℕ, ◌+◌, ◌≤◌, Bool, true, false, ◌&&◌, List, Some, inr, length, refl, sym, ap, subst, ◌∙◌, arith, []}
 use Rattle.std.specs.Prelude.{slice_get}
 use Rattle.std.specs.List.{slice_index_or}
 use Rattle.std.specs.Option.{unwrap_or}
@@ -12,7 +12,8 @@ use Rattle.history_rules.specs.Legal.{after_event}
 use Rattle.history_rules.specs.Rounds.{runs}
 use Rattle.history_rules.specs.State.{State, phase_at}
 use Rattle.history_rules.specs.Time.{IsIdle, at_last, at_time, next_time}
-use Rattle.book_context.specs.Left.{events_left, one_unless}
+use Rattle.reactor_turns.specs.Ahead.{one_unless}
+use Rattle.book_context.specs.Left.{events_left}
 use Rattle.book_context.specs.Order.{IsKept}
 use Rattle.book_context.specs.Recorded.{IsRecorded, recorded_half, recorded_state}
 use Rattle.book_context.specs.Recording.{Recording, with_event}
@@ -21,15 +22,16 @@ use Rattle.book_context.specs.Turns.{IsSameOrder}
 use Rattle.book_context.specs.TurnSteps.{HasFailed, TurnIsBegun, IsWaiting}
 use Rattle.book_context.specs.Work.{is_requested}
 use Rattle.book_context.proofs.AccountLemmas.{account_last, account_tick}
-use Rattle.book_context.proofs.ClockLemmas.{falls-tick, last-once, last-set, runs-last, runs-tick, settled-ahead, settled-clock}
+use Rattle.reactor_turns.proofs.ClockLemmas.{falls-tick, last-once, last-set, runs-last, runs-tick, settled-ahead, settled-clock}
 use Rattle.book_context.proofs.CountLemmas.{one_more-bound, one_more-from}
 use Rattle.book_context.proofs.FreeLemmas.{free_turn}
 use Rattle.book_context.proofs.LeftLemmas.{acts-same, left-falls}
 use Rattle.book_context.proofs.NextLemmas.{all_quiet}
 use Rattle.book_context.proofs.RecordedLemmas.{Changes, goes_on, round_open}
-use Rattle.book_context.proofs.StandingLemmas.{stands-last, stands-tick}
-use Rattle.book_context.proofs.SummingLemmas.{one_if}
-use Rattle.book_context.proofs.TurnLemmas.{last-taken, others_keep, tick-taken}
+use Rattle.reactor_turns.proofs.StandingLemmas.{stands-last, stands-tick}
+use Rattle.reactor_turns.proofs.SummingLemmas.{one_if}
+use Rattle.reactor_turns.proofs.TakenLemmas.{last-taken, tick-taken}
+use Rattle.book_context.proofs.TurnLemmas.{others_keep}
 use Rattle.book_context.proofs.TurnStepLemmas.{kinds_same, may_turn, one_more-most, turned}
 
 -- nothing is left but to wait

@@ -1,5 +1,5 @@
 -- A completion is told, and a turn that is told whole.
-use Rattle.std.proofs.Common.{◌≡◌, ℕ, Bool, [], ◌∷◌, ◌++◌, Option, Some, None, refl, sym, ap, subst, ◌∙◌}
+use Rattle.std.proofs.Common.{◌≡◌, ℕ, Bool, ◌∷◌, ◌++◌, Option, refl, sym, ap, subst, ◌∙◌, []}
 use Rattle.std.specs.Prelude.{IsTrue}
 use Rattle.std.proofs.lemmas.List.{append-nil, append_assoc}
 use Rattle.std.proofs.lemmas.List.Elements.{All-append, All-cons, All-nil}
@@ -7,23 +7,17 @@ use Rattle.asio_types.specs.declared.code.Code.{Code}
 use Rattle.asio_types.specs.declared.event.Event.TheVariants as event
 use Rattle.session_script.specs.Script.{ScriptModel}
 use Rattle.history_rules.specs.Requests.{MayTell, reactor_after_done}
-use Rattle.history_rules.specs.Rounds.{IsDrained}
 use Rattle.history_rules.specs.State.{ReactorHalf, State}
 use Rattle.reactor_trait.specs.Reactor.{Outside, ReactorState}
 use Rattle.proactor_core.specs.Proactor.{Follows, IsSound, ProactorView, tells}
-use Rattle.proactor_core.specs.Tables.{TableState, slot_left}
-use Rattle.book_context.specs.Book.{IsTelling, IsTurned, KeepsHistory}
+use Rattle.book_context.specs.Book.{KeepsHistory}
 use Rattle.book_context.specs.BookSteps.{IsDone}
 use Rattle.book_context.specs.InTurn.{HasOnlyTold, IsInTurn}
 use Rattle.book_context.specs.Recorded.{recorded_half}
 use Rattle.book_context.specs.Recording.{Recording, with_done}
 use Rattle.book_context.specs.TurnSteps as steps
 use Rattle.book_context.proofs.BookHistoryLemmas.{faults-plain, history-plain}
-use Rattle.book_context.proofs.ClockLemmas.{time-done}
-
-pub still_works : (slot : Option ℕ) (op : ℕ) (s : TableState) → (slot_left slot op s).failed ≡ s.failed
-still_works None op s = refl
-still_works (Some slot) op s = refl
+use Rattle.reactor_turns.proofs.ClockLemmas.{time-done}
 
 module _ {X : Type 0} (state : X → ReactorState) (told : X → Option Outside) (telling : Bool) (script : ScriptModel)
     (run drop : ℕ → ℕ) (outside : Bool) (r : Recording) (view : ProactorView X)
@@ -93,19 +87,6 @@ module _ {X : Type 0} (state : X → ReactorState) (told : X → Option Outside)
       };
       turn = did.turn;
     }
-
--- where nothing is due the turn was told whole
-pub turned-none : {X : Type 0} (state : X → ReactorState) (told : X → Option Outside) (half : ReactorHalf)
-    (view next : ProactorView X) → IsTelling state told half view → next ≡ view → view.tables.due.coming ≡ [] →
-    ((half : ReactorHalf) → Follows told view half → half.due ≡ []) →
-    ((half : ReactorHalf) → Follows told view half → IsDrained half) → IsTurned state told half next
-turned-none state told half view next telling same coming over drained =
-    subst (IsTurned state told half) (sym same) (record {
-      telling = telling;
-      told_all = coming;
-      none_due = over half telling.follows;
-      drained = drained half telling.follows;
-    })
 
 -- of a turn so much was told
 pub record TellsOn {X : Type 0} (state : X → ReactorState) (told : X → Option Outside) (script : ScriptModel)

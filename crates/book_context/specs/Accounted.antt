@@ -1,15 +1,13 @@
 -- That as many operations are pending as the reactor has to complete.
-use Rattle.std.specs.Prelude.{◌≡◌, ℕ, Bool, true, false, not, ◌&&◌, List, length}
+use Rattle.std.specs.Prelude.{◌≡◌, ℕ, Bool, true, false, List, length}
 use Rattle.asio_types.specs.declared.code.Code.{Code}
 use Rattle.asio_types.specs.declared.event.Event.TheVariants as event
-use Rattle.session_script.specs.declared.act.Act.{Act}
-use Rattle.session_script.specs.Script.{ScriptModel, is_operation, opening_of}
+use Rattle.session_script.specs.Script.{ScriptModel, opening_of}
 use Rattle.session_script.specs.Lanes.{is_inline}
 use Rattle.session_script.specs.WellFormed.{IsWellFormed}
 use Rattle.history_rules.specs.declared.phase.ActPhase.TheVariants as phase
 use Rattle.history_rules.specs.Calls.{accepted}
 use Rattle.history_rules.specs.Executions.{MayBeginOutside}
-use Rattle.history_rules.specs.Kinds.{is_posting}
 use Rattle.history_rules.specs.Legal.{after_event, state_from, state_of}
 use Rattle.history_rules.specs.Order.{is_request, is_untaken, was_taken}
 use Rattle.history_rules.specs.Requests.{MayTell}
@@ -20,10 +18,6 @@ use Rattle.strand_core.specs.Execution.{AnyMark, AreCalls, IsWholeExecution, eve
 use Rattle.book_context.specs.Order.{IsOrderly}
 use Rattle.book_context.specs.Rest.{IsAtRest}
 use Rattle.book_context.specs.Work.{pending_acts}
-
--- an asynchronous operation: one that the reactor completes
-abbrev pub is_awaited : Act → Bool
-is_awaited act = is_operation act && not (is_posting act)
 
 -- the script's streams have their queues and its acts their marks, what asks the reactor is as its
 -- call accepted it, and as many operations are pending as the reactor has to complete

@@ -1,5 +1,5 @@
 -- A context under one lock: what it keeps between its calls.
-use Rattle.std.specs.Prelude.{◌≡◌, ◌≤◌, ℕ, Bool, true, false, IsTrue, [], ◌∷◌, Option, Some, None, not, ◌||◌}
+use Rattle.std.specs.Prelude.{◌≡◌, ◌≤◌, ℕ, Bool, true, false, [], ◌∷◌, Option, Some, None, not, ◌||◌}
 use Rattle.std.specs.Option.{option_map}
 use Rattle.asio_types.specs.Faults.{Rose}
 use Rattle.asio_types.specs.declared.event.Event.TheVariants as event
@@ -7,10 +7,9 @@ use Rattle.op_handlers.specs.Marks.{Marks}
 use Rattle.session_script.specs.Script.{ScriptModel, is_op}
 use Rattle.history_rules.specs.FromOutside.{has_fault, has_outside_stop}
 use Rattle.history_rules.specs.Marks.{HasMarks}
-use Rattle.history_rules.specs.Rounds.{IsDrained}
-use Rattle.history_rules.specs.State.{ReactorHalf}
 use Rattle.reactor_trait.specs.Reactor.{Outside, ReactorState}
-use Rattle.proactor_core.specs.Proactor.{Follows, IsSound, ProactorView, tells}
+use Rattle.proactor_core.specs.Proactor.{ProactorView}
+use Rattle.reactor_turns.specs.Turned.{ReactorKeepsTime, IsTurned}
 use Rattle.strand_core.specs.Hands.{Held, held_at}
 use Rattle.book_context.specs.Recorded.{IsRecorded, is_spent_at, recorded_half}
 use Rattle.book_context.specs.Recording.{Recording}
@@ -44,30 +43,6 @@ pub record HoldsUnspent {H : Type 0} (marks : H → Marks) (told : Bool) (run dr
       option_map marks (held_at hands n)
       ≡ unless_spent (not (is_op r.script n) || is_spent_at told r n)
       (record { run = run n; drop = drop n })
-
--- the reactor is set up, goes on telling what it told, and its time is that of the history
-pub record ReactorKeepsTime (told : Bool) (half : ReactorHalf) (state : ReactorState)
-    (outside : Option Outside) : Type 0 where
-  pub tells : tells outside ≡ told
-  pub up : IsTrue state.up
-  pub now : state.now ≡ half.now
-
--- the proactor works, and is at this half of a history's state; of its turn something may be left
--- to tell
-pub record IsTelling {X : Type 0} (state : X → ReactorState) (told : X → Option Outside)
-    (half : ReactorHalf) (view : ProactorView X) : Type 0 where
-  pub working : view.tables.failed ≡ false
-  pub works : half.failed ≡ false
-  pub sound : IsSound state told view
-  pub follows : Follows told view half
-
--- nothing is left to tell
-pub record IsTurned {X : Type 0} (state : X → ReactorState) (told : X → Option Outside)
-    (half : ReactorHalf) (view : ProactorView X) : Type 0 where
-  pub telling : IsTelling state told half view
-  pub told_all : view.tables.due.coming ≡ []
-  pub none_due : half.due ≡ []
-  pub drained : IsDrained half
 
 -- a proactor between its turns; the reactor's count of faults is the one that is named, and above
 -- it where it has failed

@@ -1,5 +1,5 @@
 -- A turn of the reactor as a context records it.
-use Rattle.std.specs.Prelude.{◌≡◌, ℕ, Bool, true, false, All, IsSome, List, [], ◌∷◌, ◌++◌, Option, Some, None}
+use Rattle.std.specs.Prelude.{◌≡◌, ℕ, Bool, true, false, All, IsSome, List, [], ◌∷◌, ◌++◌, Option}
 use Rattle.asio_types.specs.Faults.{Rose}
 use Rattle.asio_types.specs.declared.event.Event.{Event}
 use Rattle.asio_types.specs.declared.event.Event.TheVariants as event
@@ -10,11 +10,13 @@ use Rattle.history_rules.specs.FromOutside.{has_fault}
 use Rattle.history_rules.specs.Rounds.{outstanding_work}
 use Rattle.history_rules.specs.State.{ReactorHalf}
 use Rattle.reactor_trait.specs.Reactor.{Outside, ReactorState}
-use Rattle.proactor_core.specs.Proactor.{ProactorView, after_point}
+use Rattle.proactor_core.specs.Proactor.{ProactorView}
+use Rattle.reactor_turns.specs.Turned.{moved_half}
 use Rattle.strand_core.specs.Hands.{Held}
 use Rattle.book_context.specs.declared.answer.BookTurn.{BookTurn}
 use Rattle.book_context.specs.declared.answer.BookTurn.TheVariants as turn
-use Rattle.book_context.specs.Book.{HoldsUnspent, ReactorKeepsTime, IsTelling, KeepsHistory, KeepsReactor}
+use Rattle.reactor_turns.specs.Turned.{ReactorKeepsTime, IsTelling}
+use Rattle.book_context.specs.Book.{HoldsUnspent, KeepsHistory, KeepsReactor}
 use Rattle.book_context.specs.BookSteps.{BeginsTurn, HasFaulted, HasGoneOn, IsDone, IsIdleRound, IsTurnOf}
 use Rattle.book_context.specs.Recorded.{is_spent_at, recorded_half, recorded_state}
 use Rattle.book_context.specs.Recording.{Recording}
@@ -62,11 +64,6 @@ pub record HasBroken (told : Bool) (old new : Recording) : Type 0 where
   pub failed : (recorded_half told new).failed ≡ true
   pub now : (recorded_half told new).now ≡ (recorded_half told old).now
   pub spent : (n : ℕ) → is_spent_at told new n ≡ is_spent_at told old n
-
--- what a time point leaves of the reactor's half, if there was one
-abbrev pub moved_half : ScriptModel → Bool → Option Point → ReactorHalf → ReactorHalf
-moved_half script told None half = half
-moved_half script told (Some point) half = after_point script told point half
 
 -- the reactor has failed at a time point or before it
 pub record HasBrokenOff (told : Bool) (old new : Recording) (moved : Option Point) : Type 0 where

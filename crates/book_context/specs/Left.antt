@@ -10,6 +10,7 @@ use Rattle.history_rules.specs.declared.phase.CallPhase.{CallPhase}
 use Rattle.history_rules.specs.declared.phase.CallPhase.TheVariants as call
 use Rattle.history_rules.specs.Order.{was_taken}
 use Rattle.history_rules.specs.State.{State, call_at, first_state, phase_at}
+use Rattle.reactor_turns.specs.Ahead.{one_unless}
 
 -- an operation that is ready begins and ends; one that was taken is told before, and a request is
 -- taken before that. That a wait's expiry may take a tick is counted with the waits
@@ -30,9 +31,6 @@ act_left made phase taken = phase_left phase taken
 
 abbrev pub act_left_at : State → ℕ → ℕ
 act_left_at s n = act_left (call_at s.context n) (phase_at s.context n) (was_taken s.reactor n)
-
-abbrev pub one_unless : Bool → ℕ
-one_unless happened = if happened then 0 else 1
 
 -- a round is closed once, and restarted at most once; a restart lets the context be stopped from
 -- outside once more

@@ -28,5 +28,6 @@ pub mod BookSteps
 pub mod Oldest
 pub mod InTurn
 pub mod Finish
+pub mod Finished
 pub mod Shown
 pub mod Begun

@@ -1,11 +1,8 @@
-ghost use Rattle.std.specs.Prelude.{◌≡◌, ◌↔◌, ℕ, IsTrue, IfErr, OnErr, OnOk, Some, false, true, length};
-ghost use Rattle.std.specs.Option.{option_map};
-ghost use Rattle.session_script.specs.Script.{is_op};
-ghost use Rattle.op_handlers.specs.Rack.{handler_at, handlers_in};
-ghost use Rattle.strand_core.specs.Hands.{left_at};
+ghost use Rattle.std.specs.Prelude.{◌≡◌, ◌↔◌, IsTrue, IfErr, OnErr, OnOk};
+ghost use Rattle.op_handlers.specs.Rack.{handlers_in};
 ghost use Rattle.proactor_core.specs.Proactor.{tells};
 ghost use Rattle.book_context.specs.BookSteps.{IsBookOver};
-ghost use Rattle.book_context.specs.Setup.{CountsRefusal};
+ghost use Rattle.book_context.specs.Setup.{HoldsMarked, IsRefused, TakesHandlers};
 
 mod closing;
 mod execution;
@@ -68,19 +65,11 @@ impl<'a, X: Reactor, H: CompletionHandler, N: Session> Book<'a, X, H, N> {
         requires script { N.script ≡ script.now }
         requires told { N.told ≡ tells (X.told reactor) }
         requires faults { N.faults ≡ X.faults reactor }
-        requires marks { (n : ℕ) → is_op script.now n ≡ true →
-            option_map H.marks (handler_at rack.old n)
-            ≡ Some (record { run = N.run n; drop = N.drop n }) }
-        ensures left { OnOk result ((n : ℕ) →
-            handler_at rack.new n ≡ left_at (is_op script.now n) (handler_at rack.old n)) }
-        ensures count { OnOk result
-            (length (handlers_in rack.new) ≡ length (handlers_in rack.old)) }
+        requires marks { HoldsMarked H.marks script.now N.run N.drop rack.old }
+        ensures taken { OnOk result (TakesHandlers script.now rack.old rack.new) }
         ensures kept { OnErr result (handlers_in rack.new ≡ handlers_in rack.old) }
-        ensures counts { IfErr result (λ back. CountsRefusal back.0 N.faults (X.faults back.1)) }
-        ensures refused { IfErr result
-            (λ back. back.0 ≡ SetupFault.Failed → (X.state back.1).up ≡ false) }
-        ensures still_told { IfErr result
-            (λ back. back.0 ≡ SetupFault.Failed → tells (X.told back.1) ≡ N.told) }
+        ensures refused { IfErr result (λ back.
+            IsRefused N.told N.faults (X.faults back.1) (X.state back.1) (X.told back.1) back.0) }
     {
         let mut record = match Record::make(alloc, script) {
             Ok(record) => record,

@@ -1,15 +1,9 @@
-ghost use Rattle.std.specs.Prelude.{◌≡◌, ◌≤◌, ℕ, [], ◌∷◌, Contains, true, IfErr, IfSome, IsTrue, None, OnErr, OnOk, Some, false, length, map};
-ghost use Rattle.std.specs.Option.{option_map};
-ghost use Rattle.asio_types.specs.Faults.{Rose};
-ghost use Rattle.asio_types.specs.declared.event.Event.TheVariants as event;
-ghost use Rattle.session_script.specs.Script.{is_op};
-ghost use Rattle.op_handlers.specs.Rack.{handler_at, handlers_in};
-ghost use Rattle.strand_core.specs.Hands.{left_at};
-ghost use Rattle.history_rules.specs.Legal.{IsLegal, state_of};
-ghost use Rattle.history_rules.specs.Marks.{HasMarks};
+ghost use Rattle.std.specs.Prelude.{◌≡◌, IfErr, OnErr, OnOk, true};
+ghost use Rattle.op_handlers.specs.Rack.{handlers_in};
 ghost use Rattle.proactor_core.specs.Proactor.{tells};
 ghost use Rattle.book_context.specs.BookSteps.{IsBookOver};
-ghost use Rattle.book_context.specs.Setup.{CountsRefusal};
+ghost use Rattle.book_context.specs.Finished.{IsFinished};
+ghost use Rattle.book_context.specs.Setup.{HoldsMarked, IsRefused, TakesHandlers};
 
 use crate::answer::BookTurn;
 use crate::book::Book;
@@ -84,19 +78,11 @@ impl<'a, X: Reactor, H: CompletionHandler, N: Session> BookContext<'a, X, H, N> 
         requires script { N.script ≡ script.now }
         requires told { N.told ≡ tells (X.told reactor) }
         requires faults { N.faults ≡ X.faults reactor }
-        requires marks { (n : ℕ) → is_op script.now n ≡ true →
-            option_map H.marks (handler_at rack.old n)
-            ≡ Some (record { run = N.run n; drop = N.drop n }) }
-        ensures left { OnOk result ((n : ℕ) →
-            handler_at rack.new n ≡ left_at (is_op script.now n) (handler_at rack.old n)) }
-        ensures count { OnOk result
-            (length (handlers_in rack.new) ≡ length (handlers_in rack.old)) }
+        requires marks { HoldsMarked H.marks script.now N.run N.drop rack.old }
+        ensures taken { OnOk result (TakesHandlers script.now rack.old rack.new) }
         ensures kept { OnErr result (handlers_in rack.new ≡ handlers_in rack.old) }
-        ensures counts { IfErr result (λ back. CountsRefusal back.0 N.faults (X.faults back.1)) }
-        ensures refused { IfErr result
-            (λ back. back.0 ≡ SetupFault.Failed → (X.state back.1).up ≡ false) }
-        ensures still_told { IfErr result
-            (λ back. back.0 ≡ SetupFault.Failed → tells (X.told back.1) ≡ N.told) }
+        ensures refused { IfErr result (λ back.
+            IsRefused N.told N.faults (X.faults back.1) (X.state back.1) (X.told back.1) back.0) }
     {
         let book = Book::make(alloc, script, rack, reactor)?;
         Ok(BookContext {
@@ -152,22 +138,8 @@ impl<'a, X: Reactor, H: CompletionHandler, N: Session> BookContext<'a, X, H, N> 
     /// Closes the rounds that are left, destroys the handlers that never ran, and gives the history
     /// and the reactor back.
     pub fn finish<R: Wait>(self, rt: &R) -> (History, X)
-        ensures legal { IsLegal N.script N.told result.0.events }
-        ensures marked { HasMarks N.run N.drop result.0.events }
-        ensures unstopped { N.outside ≡ false → Contains result.0.events (event.Stop None) → ⊥ }
-        ensures faults { N.faults ≤ X.faults result.1 }
-        ensures rose { Contains result.0.events event.Fault → Rose N.faults (X.faults result.1) }
-        ensures stood { (Contains result.0.events event.Fault → ⊥) → X.faults result.1 ≡ N.faults }
-        ensures set_up { result.0.events ≡ event.Fault ∷ [] → ⊥ }
-        ensures up { IsTrue (X.state result.1).up }
-        ensures now { (X.state result.1).now
-            ≡ (state_of N.script N.told result.0.events).reactor.now }
-        ensures told { tells (X.told result.1) ≡ N.told }
-        ensures sent { (Contains result.0.events event.Fault → ⊥) →
-            IfSome (X.told result.1) (λ outside.
-            map (λ stream. stream.sent) outside.streams
-            ≡ map (λ stream. stream.sent)
-            (state_of N.script N.told result.0.events).reactor.streams) }
+        ensures ended { IsFinished N.script N.told N.run N.drop N.outside N.faults
+            (X.faults result.1) result.0.events (X.state result.1) (X.told result.1) }
     {
         let BookContext { book } = self;
         let mut book = book.into_inner();

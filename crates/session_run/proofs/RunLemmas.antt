@@ -1,5 +1,5 @@
 -- What a context gives back is a run of its script.
-use Rattle.std.proofs.Common.{◌≡◌, ℕ, Bool, List, [], ◌∷◌, Option, Some, None, refl, subst, sym, ◌∙◌, IsTrue}
+use Rattle.std.proofs.Common.{◌≡◌, ℕ, Bool, false, List, [], ◌∷◌, Option, Some, None, refl, subst, sym, ◌∙◌, IsTrue}
 use Rattle.std.specs.Prelude.{Contains, IfSome, MatchOption, is_some, map, ⊤}
 use Rattle.std.specs.Option.{option_map}
 use Rattle.asio_types.specs.Faults.{Rose}
@@ -8,6 +8,7 @@ use Rattle.asio_types.specs.declared.event.Event.TheVariants as event
 use Rattle.session_script.specs.Script.{ScriptModel}
 use Rattle.reactor_trait.specs.Reactor.{Outside, ReactorState}
 use Rattle.history_book.specs.Trace.{AreEvents}
+use Rattle.book_context.specs.Finished.{IsFinished}
 use Rattle.history_rules.specs.Legal.{IsLegal, state_of}
 use Rattle.history_rules.specs.Marks.{HasMarks}
 use Rattle.history_rules.specs.State.{State}
@@ -30,23 +31,6 @@ seen_sent : (outside : Option Outside) (s : State)
 seen_sent None s same = tt
 seen_sent (Some outside) s same = same
 
--- what a context that was finished gives: its history and its reactor, by the names of the session
-pub record Finished (script : ScriptModel) (told : Bool) (run drop : ℕ → ℕ) (before after : ℕ) (events : List Event)
-    (state : ReactorState) (outside : Option Outside) : Type 0 where
-  pub legal : IsLegal script told events
-  pub numbers : AreEvents events
-  pub marked : HasMarks run drop events
-  pub unstopped : Contains events (event.Stop None) → ⊥
-  pub rose : ShowsFault events → Rose before after
-  pub stood : ShowsNoFault events → after ≡ before
-  pub set_up : events ≡ event.Fault ∷ [] → ⊥
-  pub up : IsTrue state.up
-  pub now : state.now ≡ (state_of script told events).reactor.now
-  pub told_still : is_some outside ≡ told
-  pub sent : ShowsNoFault events
-      → IfSome outside (λ outside. map (λ stream. stream.sent) outside.streams ≡ map (λ stream. stream.sent)
-      (state_of script told events).reactor.streams)
-
 -- a reactor as a session sees it, of which it told these bytes at first
 abbrev pub seen_of : Option Outside → Option Outside → ℕ → ℕ → ReactorState → SeenReactor
 seen_of first outside before after state =
@@ -65,16 +49,18 @@ seen_of first outside before after state =
 run_by_names : {H : Type 0} (marks : H → Marks) (script : ScriptModel) (told : Bool) (run drop : ℕ → ℕ)
     (before after : ℕ) (events : List Event) (state : ReactorState) (first outside : Option Outside)
     (old new : Rack H) → run ≡ rack_run_mark marks old → drop ≡ drop_mark marks old → AllTaken old new →
-    told ≡ is_some (option_map sent_outside outside) → Finished script told run drop before after events state outside →
+    told ≡ is_some (option_map sent_outside outside) → AreEvents events →
+    IsFinished script told run drop false before after events state outside →
     IsRunOf marks script (seen_of first outside before after state) old new events
-run_by_names marks script told run drop before after events state first outside old new run_is drop_is spent told_is f =
+run_by_names marks script told run drop before after events state first outside old new run_is drop_is spent told_is
+    numbers f =
     record {
       legal = subst (λ told. IsLegal script told events) told_is f.legal;
-      numbers = f.numbers;
+      numbers = numbers;
       marked = subst (λ run. HasMarks run (drop_mark marks old) events) run_is
           (subst (λ drop. HasMarks run drop events) drop_is f.marked);
       spent = spent;
-      unstopped = f.unstopped;
+      unstopped = f.unstopped refl;
       faults = f.rose;
       stood = f.stood;
       set_up = (λ alone. absurd (f.set_up alone), λ down. cc (down, f.up));
@@ -87,11 +73,13 @@ run_by_names marks script told run drop before after events state first outside 
 pub run_of : {H : Type 0} (marks : H → Marks) (named script : ScriptModel) (told : Bool) (run drop : ℕ → ℕ)
     (faults before after : ℕ) (events : List Event) (state : ReactorState) (first outside : Option Outside) (old new : Rack H)
     → named ≡ script → faults ≡ before → run ≡ rack_run_mark marks old → drop ≡ drop_mark marks old → AllTaken old new
-    → Finished named told run drop faults after events state outside
+    → AreEvents events → (others : Bool) → others ≡ false
+    → IsFinished named told run drop others faults after events state outside
     → IsRunOf marks script (seen_of first outside before after state) old new events
 run_of marks named script told run drop faults before after events state first outside old new named_is faults_is run_is
-    drop_is spent f =
+    drop_is spent numbers others inside f =
     subst (λ script. IsRunOf marks script (seen_of first outside before after state) old new events) named_is
     (subst (λ before. IsRunOf marks named (seen_of first outside before after state) old new events) faults_is
     (run_by_names marks named told run drop faults after events state first outside old new run_is drop_is spent
-    (sym f.told_still ∙ sym (seen_to_tell outside)) f))
+    (sym f.still_told ∙ sym (seen_to_tell outside)) numbers
+    (subst (λ others. IsFinished named told run drop others faults after events state outside) inside f)))

@@ -1,11 +1,7 @@
-ghost use Rattle.std.specs.Prelude.{◌≡◌, ◌≤◌, ◌<◌, ◌+◌, [], ◌∷◌, Contains, IfSome, IsTrue, None, false, length, map};
-ghost use Rattle.asio_types.specs.Faults.{Rose};
-ghost use Rattle.asio_types.specs.declared.event.Event.TheVariants as event;
-ghost use Rattle.history_rules.specs.Legal.{IsLegal, state_of};
-ghost use Rattle.history_rules.specs.Marks.{HasMarks};
-ghost use Rattle.proactor_core.specs.Proactor.{tells};
+ghost use Rattle.std.specs.Prelude.{◌≡◌, ◌<◌, ◌+◌, length};
 ghost use Rattle.book_context.specs.BookSteps.{IsBookOver};
 ghost use Rattle.book_context.specs.Finish.{GoesOnByDrops, IsEnding};
+ghost use Rattle.book_context.specs.Finished.{IsFinished};
 ghost use Rattle.book_context.specs.InTurn.{KeepsFaults};
 ghost use Rattle.book_context.specs.Recorded.{recorded_half};
 
@@ -73,22 +69,8 @@ impl<'a, X: Reactor, H: CompletionHandler, N: Session> Book<'a, X, H, N> {
     pub fn finish(self) -> (History, X)
         requires over { IsBookOver N.script self.recording }
         ensures begins { GoesOnByDrops self.entry.recording.events result.0.events }
-        ensures legal { IsLegal N.script N.told result.0.events }
-        ensures marked { HasMarks N.run N.drop result.0.events }
-        ensures unstopped { N.outside ≡ false → Contains result.0.events (event.Stop None) → ⊥ }
-        ensures faults { N.faults ≤ X.faults result.1 }
-        ensures rose { Contains result.0.events event.Fault → Rose N.faults (X.faults result.1) }
-        ensures stood { (Contains result.0.events event.Fault → ⊥) → X.faults result.1 ≡ N.faults }
-        ensures set_up { result.0.events ≡ event.Fault ∷ [] → ⊥ }
-        ensures up { IsTrue (X.state result.1).up }
-        ensures now { (X.state result.1).now
-            ≡ (state_of N.script N.told result.0.events).reactor.now }
-        ensures told { tells (X.told result.1) ≡ N.told }
-        ensures sent { (Contains result.0.events event.Fault → ⊥) →
-            IfSome (X.told result.1) (λ outside.
-            map (λ stream. stream.sent) outside.streams
-            ≡ map (λ stream. stream.sent)
-            (state_of N.script N.told result.0.events).reactor.streams) }
+        ensures ended { IsFinished N.script N.told N.run N.drop N.outside N.faults
+            (X.faults result.1) result.0.events (X.state result.1) (X.told result.1) }
     {
         drops_are_recorded();
         let Book {

@@ -1,5 +1,6 @@
 ghost use Rattle.std.specs.Prelude.{◌≡◌, ◌<◌, true, false};
-ghost use Rattle.book_context.specs.Book.{IsTurned, KeepsHistory};
+ghost use Rattle.reactor_turns.specs.Turned.{IsTurned};
+ghost use Rattle.book_context.specs.Book.{KeepsHistory};
 ghost use Rattle.book_context.specs.InTurn.{HasOnlyTold, IsInTurn};
 ghost use Rattle.book_context.specs.Recorded.{recorded_half};
 

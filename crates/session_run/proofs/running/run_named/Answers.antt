@@ -1,6 +1,6 @@
 use Rattle.std.proofs.Common.{arith, subst}
 use Rattle.asio_types.specs.Faults.{Rose}
-use Rattle.book_context.specs.Setup.{CountsRefusal}
+use Rattle.proactor_core.specs.Proactor.{CountsRefusal}
 use Rattle.session_run.proofs.RackLemmas.{all_taken, all_taken_kept, named_marks}
 use Rattle.session_run.proofs.RunLemmas.{run_of}
 use Rattle.session_run.proofs.SetupLemmas.{broken_run}
@@ -16,11 +16,11 @@ pub returns-in-Err-Failed-default-clause-ran : goal.returns-in-Err-Failed-defaul
 returns-in-Err-Failed-default-clause-ran g c =
     let back = c.in-Err-Failed-default in
     let counted : Rose g.N.Session.faults (g.X.Reactor.faults back.reactor) = subst
-    (λ fault. CountsRefusal fault g.N.Session.faults (g.X.Reactor.faults back.reactor)) back.field-0-0-is back.ensures.counts in
+    (λ fault. CountsRefusal fault g.N.Session.faults (g.X.Reactor.faults back.reactor)) back.field-0-0-is back.ensures.refused.counts in
     rw c.in-Ok.ensures
     (broken_run g.H.CompletionHandler.marks c.args.script.now _ c.args.rack.now c.discard_rest.new.self
     (all_taken_kept c.args.rack.now c.make.new.rack c.discard_rest.new.self back.ensures.kept c.discard_rest.ensures.taken)
-    (back.ensures.refused back.field-0-0-is)
+    (back.ensures.refused.refused back.field-0-0-is)
     (subst (λ before. Rose before (g.X.Reactor.faults back.reactor)) c.requires.faults counted))
 
 pub returns-clause-ran : goal.returns-clause-ran
@@ -32,17 +32,5 @@ returns-clause-ran g c =
     (g.X.Reactor.state reactor) (g.X.Reactor.told c.args.reactor) (g.X.Reactor.told reactor) c.args.rack.now
     c.discard_rest-2.new.self
     c.requires.named c.requires.faults c.requires.run_marks c.requires.drop_marks
-    (all_taken c.args.rack.now c.make.new.rack c.discard_rest-2.new.self c.in-Ok-make.ensures.count c.discard_rest-2.ensures.taken)
-    (record {
-      legal = c.finish-ran.ensures.legal;
-      numbers = c.holds_events.ensures;
-      marked = c.finish-ran.ensures.marked;
-      unstopped = c.finish-ran.ensures.unstopped c.requires.inside;
-      rose = c.finish-ran.ensures.rose;
-      stood = c.finish-ran.ensures.stood;
-      set_up = c.finish-ran.ensures.set_up;
-      up = c.finish-ran.ensures.up;
-      now = c.finish-ran.ensures.now;
-      told_still = c.finish-ran.ensures.told;
-      sent = c.finish-ran.ensures.sent;
-    })
+    (all_taken c.args.rack.now c.make.new.rack c.discard_rest-2.new.self c.in-Ok-make.ensures.taken.count c.discard_rest-2.ensures.taken)
+    c.holds_events.ensures g.N.Session.outside c.requires.inside c.finish-ran.ensures.ended

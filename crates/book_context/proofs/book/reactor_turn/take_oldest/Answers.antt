@@ -4,7 +4,8 @@ use Rattle.proactor_core.specs.Proactor.{Follows, tells}
 use Rattle.book_context.specs.Recorded.{recorded_half}
 use Rattle.book_context.specs.Oldest.{with_request}
 use Rattle.book_context.proofs.BookHistoryLemmas.{some_behind}
-use Rattle.book_context.proofs.ReactorTurnLemmas.{begun_turn, broken_faulted, broken_keeps, can_turn, may_take, now-take, now_turned, whole_keeps, whole_turned}
+use Rattle.reactor_turns.proofs.TurnedLemmas.{now-take}
+use Rattle.book_context.proofs.ReactorTurnLemmas.{begun_turn, broken_faulted, broken_keeps, can_turn, may_take, now_turned, whole_keeps, whole_turned}
 use Rattle.book_context.proofs.book.reactor_turn.take_oldest.Goals as goal
 
 pub take-requires-clause-sound : goal.take-requires-clause-sound

@@ -2,7 +2,8 @@ use Rattle.std.proofs.Common.{sym, ap, subst, ◌∙◌}
 use Rattle.history_rules.specs.Time.{next_time}
 use Rattle.proactor_core.specs.Proactor.{Follows, after_point, tells}
 use Rattle.book_context.specs.Recorded.{recorded_half}
-use Rattle.book_context.proofs.ReactorTurnLemmas.{begun_turn, lost_keeps, next_moved, now-point, now_turned, whole_keeps, whole_turned}
+use Rattle.reactor_turns.proofs.TurnedLemmas.{next_moved, now-point}
+use Rattle.book_context.proofs.ReactorTurnLemmas.{begun_turn, lost_keeps, now_turned, whole_keeps, whole_turned}
 use Rattle.book_context.proofs.book.reactor_turn.tick.Goals as goal
 
 pub tick-requires-clause-sound : goal.tick-requires-clause-sound

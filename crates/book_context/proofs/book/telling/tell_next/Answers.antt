@@ -3,7 +3,8 @@ use Rattle.book_context.specs.Book.{KeepsHistory}
 use Rattle.book_context.specs.InTurn.{HasOnlyTold, IsInTurn}
 use Rattle.book_context.specs.Recorded.{recorded_half}
 use Rattle.book_context.specs.TurnSteps as steps
-use Rattle.book_context.proofs.ToldLemmas.{done_history, done_told, done_turn, step, still_works, turned-none}
+use Rattle.reactor_turns.proofs.TurnedLemmas.{still_works, turned-none}
+use Rattle.book_context.proofs.ToldLemmas.{done_history, done_told, done_turn, step}
 use Rattle.history_rules.specs.Requests.{slot_in}
 use Rattle.session_script.specs.Script.{act_of}
 use Rattle.book_context.proofs.book.telling.tell_next.Given as given

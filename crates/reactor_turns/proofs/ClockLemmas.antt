@@ -1,5 +1,5 @@
 -- What the steps of a reactor leave of its waits, its time, and whether it works.
-use Rattle.std.proofs.Common.{◌≡◌, ◌⊎◌, ℕ, zero, suc, ◌+◌, ◌<◌, ◌≤◌, nat_lt, min, Bool, true, false, not, cond, List, [], ◌∷◌, Option, Some, None, inl, inr, filter, get_or, length, map, refl, sym, ap, subst, ◌∙◌, arith}
+use Rattle.std.proofs.Common.{◌≡◌, ◌⊎◌, ℕ, zero, suc, ◌+◌, ◌<◌, ◌≤◌, nat_lt, min, Bool, true, false, not, cond, List, ◌∷◌, Option, Some, None, inl, inr, filter, get_or, length, map, refl, sym, ap, subst, ◌∙◌, arith, []}
 use Rattle.std.specs.Prelude.{find, nat_le, slice_get, sum_by}
 use Rattle.std.specs.List.{All}
 use Rattle.std.proofs.lemmas.Bool.{cases_lt}
@@ -28,7 +28,7 @@ use Rattle.history_rules.specs.Bounds.{AllAhead}
 use Rattle.history_rules.specs.Untold.{gone}
 use Rattle.history_rules.proofs.PerformingLemmas.{All-passing}
 use Rattle.history_rules.proofs.TimeLemmas.{next-above}
-use Rattle.book_context.specs.Accounted.{is_awaited}
+use Rattle.reactor_turns.specs.Standing.{is_awaited}
 
 -- nothing of its clock changed
 pub record KeepsClock (r t : ReactorHalf) : Type 0 where

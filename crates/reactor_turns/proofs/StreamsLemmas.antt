@@ -1,5 +1,5 @@
 -- Each stream keeps its queues, turn by turn of the reactor.
-use Rattle.std.proofs.Common.{◌≡◌, ℕ, zero, suc, Bool, true, false, cond, List, [], ◌∷◌, ◌++◌, Option, Some, None, get_or, length, refl, ◌∙◌}
+use Rattle.std.proofs.Common.{◌≡◌, ℕ, zero, suc, Bool, true, false, cond, List, ◌∷◌, ◌++◌, Option, Some, None, get_or, length, refl, ◌∙◌, []}
 use Rattle.std.specs.Prelude.{find}
 use Rattle.std.proofs.Math.ListN.{length-set}
 use Rattle.session_script.specs.declared.act.Act.{Act}

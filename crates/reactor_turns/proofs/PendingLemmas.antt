@@ -1,5 +1,5 @@
 -- How many operations are pending, turn by turn of the reactor.
-use Rattle.std.proofs.Common.{◌≡◌, ℕ, zero, suc, ◌+◌, ◌<◌, ◌≤◌, Bool, true, false, not, cond, List, [], ◌∷◌, ◌++◌, Option, Some, None, inl, inr, drop, filter, get_or, set, length, map, refl, sym, ap, ◌∙◌, arith}
+use Rattle.std.proofs.Common.{◌≡◌, ℕ, zero, suc, ◌+◌, ◌<◌, ◌≤◌, Bool, true, false, not, cond, List, ◌∷◌, ◌++◌, Option, Some, None, inl, inr, drop, filter, get_or, set, length, map, refl, sym, ap, ◌∙◌, arith, []}
 use Rattle.std.specs.Prelude.{find, nat_le, slice_get, sum_by}
 use Rattle.std.proofs.lemmas.Bool.{cases_lt}
 use Rattle.std.proofs.lemmas.List.{get_or_past, length-append, length-map, set_past}
@@ -15,7 +15,7 @@ use Rattle.stream_rules.specs.Queue.{Pending, Side, reading_side, served_head, s
 use Rattle.stream_rules.specs.Serving.{All_bytes, All_of, Outcome, Reading, Some_bytes, Some_of, Until, Writing}
 use Rattle.stream_rules.specs.Stream.{Stream}
 use Rattle.stream_rules.specs.World.{stream_at}
-use Rattle.book_context.specs.Accounted.{is_awaited}
+use Rattle.reactor_turns.specs.Standing.{is_awaited}
 use Rattle.history_rules.specs.Performing.{aborted, all_aborted, all_of_stream, bad, closed_at, connected, emitted, emitted_to, is_of, is_reached, is_wait_for, is_wait_of, new_pending, one_of_stream_cancelled, one_wait_cancelled, operation_cancelled, performed, performed_act, performed_by, queues_at, read_accepted, shut_at, wait_accepted, waits_cancelled, write_accepted}
 use Rattle.history_rules.specs.Requests.{MayTell, disconnected, reactor_after_done, reactor_after_take, slot_in, told_off}
 use Rattle.history_rules.specs.Settling.{due_waits, expiry_of, is_due, put_by, served_at, served_below, served_stream, settled, sorted_by, waited, with_streams_served, with_waits_served}

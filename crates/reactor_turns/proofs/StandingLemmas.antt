@@ -1,5 +1,5 @@
 -- How often an operation stands among what the reactor has to complete, turn by turn.
-use Rattle.std.proofs.Common.{◌≡◌, ℕ, zero, suc, ◌+◌, ◌<◌, ◌≤◌, Bool, true, false, not, cond, List, [], ◌∷◌, ◌++◌, Option, Some, None, inl, inr, drop, filter, get_or, set, length, map, refl, sym, ap, ◌∙◌, arith}
+use Rattle.std.proofs.Common.{◌≡◌, ℕ, zero, suc, ◌+◌, ◌<◌, ◌≤◌, Bool, true, false, not, cond, List, ◌∷◌, ◌++◌, Option, Some, None, inl, inr, drop, filter, get_or, set, length, map, refl, sym, ap, ◌∙◌, arith, []}
 use Rattle.std.specs.Prelude.{◌==◌, count_by, find, nat_le, nat_lt, slice_get, sum_by}
 use Rattle.std.proofs.lemmas.Bool.{cases_lt}
 use Rattle.std.proofs.lemmas.List.{get_or_past, set_past}
@@ -22,9 +22,9 @@ use Rattle.history_rules.specs.State.{ReactorHalf, StreamQueues, no_queues}
 use Rattle.history_rules.specs.declared.wait.Wait.{Wait}
 use Rattle.history_rules.specs.Time.{at_last, at_time, reactor_after_last, reactor_after_tick}
 use Rattle.history_rules.specs.Untold.{MayGiveUntold, gone, head_of, read_gone, write_gone}
-use Rattle.book_context.specs.Accounted.{is_awaited}
-use Rattle.book_context.specs.Standing.{is_completion_of, queued_of, stands}
-use Rattle.book_context.proofs.SummingLemmas.{one_if}
+use Rattle.reactor_turns.specs.Standing.{is_awaited}
+use Rattle.reactor_turns.specs.Standing.{is_completion_of, queued_of, stands}
+use Rattle.reactor_turns.proofs.SummingLemmas.{one_if}
 
 -- one more in a list
 count-cons : {X : Type 0} (p : X → Bool) (x : X) (xs : List X) → count_by p (x ∷ xs) ≡ one_if (p x) + count_by p xs

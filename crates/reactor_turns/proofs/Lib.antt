@@ -1,0 +1,9 @@
+pub mod AheadLemmas
+pub mod ClockLemmas
+pub mod FollowsLemmas
+pub mod PendingLemmas
+pub mod StandingLemmas
+pub mod StreamsLemmas
+pub mod SummingLemmas
+pub mod TakenLemmas
+pub mod TurnedLemmas
