@@ -69,17 +69,17 @@ takes_first script pen spare first rest taken =
     }
 
 -- what putting a note adds
-put_entries : (within : Bool) (lane place : ℕ) (note : Note) →
+pub put_entries : (within : Bool) (lane place : ℕ) (note : Note) →
     entries_in (cond within (silent (Put lane place note) ∷ []) []) ≡ []
 put_entries true lane place note = refl
 put_entries false lane place note = refl
 
-put_draws : (within : Bool) (lane place : ℕ) (note : Note) →
+pub put_draws : (within : Bool) (lane place : ℕ) (note : Note) →
     step_count draw_count (steps_in (cond within (silent (Put lane place note) ∷ []) [])) ≡ 0
 put_draws true lane place note = refl
 put_draws false lane place note = refl
 
-put_places : (within : Bool) (lane place : ℕ) (note : Note) →
+pub put_places : (within : Bool) (lane place : ℕ) (note : Note) →
     step_count place_count (steps_in (cond within (silent (Put lane place note) ∷ []) [])) ≡ 0
 put_places true lane place note = refl
 put_places false lane place note = refl

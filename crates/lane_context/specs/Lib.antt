@@ -1,3 +1,6 @@
+pub mod Attending
+pub mod Batons
+pub mod Closing
 pub mod Cuts
 pub mod Drops
 pub mod Executing
@@ -6,12 +9,20 @@ pub mod Knowing
 pub mod Labels
 pub mod LaneLog
 pub mod Logs
+pub mod Meeting
 pub mod Names
+pub mod OpenerEvents
 pub mod OpenerLog
+pub mod Openers
+pub mod Opening
 pub mod Parts
 pub mod Pens
+pub mod Polling
 pub mod Posting
 pub mod ReactorTurns
 pub mod SeatNumbers
 pub mod Stand
+pub mod Telling
+pub mod Turning
 pub mod WorkerLog
+pub mod Workers

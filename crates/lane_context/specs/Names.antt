@@ -1,5 +1,5 @@
 -- A session of the context without a lock by its names: what its contracts speak of.
-use Rattle.std.specs.Prelude.{◌≡◌, ℕ, Bool}
+use Rattle.std.specs.Prelude.{◌≡◌, ℕ, Bool, false, []}
 use Rattle.session_script.specs.Script.{ScriptModel}
 
 pub record SessionNames : Type 0 where
@@ -13,3 +13,20 @@ pub record SessionNames : Type 0 where
 -- a handler's run mark is the one that is named
 abbrev pub IsNamedMark : SessionNames → ℕ → ℕ → Type 0
 IsNamedMark names op mark = mark ≡ names.run op
+
+-- no act, no world and no round
+abbrev pub no_script : ScriptModel
+no_script = record {
+  version = 1;
+  strands = 0;
+  timers = 0;
+  slots = 0;
+  guards = 0;
+  acts = [];
+  world = record { streams = 0; lines = [] };
+  rounds = [];
+}
+
+-- the names of a session that nobody named
+abbrev pub no_names : SessionNames
+no_names = record { script = no_script; told = false; run = λ op. 0; drop = λ op. 0 }

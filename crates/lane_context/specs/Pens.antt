@@ -20,19 +20,6 @@ abbrev pub after_steps : SeatView → List ClockStep → SeatView
 after_steps seat [] = seat
 after_steps seat (step ∷ steps) = after_steps (after_step seat step) steps
 
--- no act, no world and no round
-abbrev pub no_script : ScriptModel
-no_script = record {
-  version = 1;
-  strands = 0;
-  timers = 0;
-  slots = 0;
-  guards = 0;
-  acts = [];
-  world = record { streams = 0; lines = [] };
-  rounds = [];
-}
-
 -- a pen of no clock, which stands for one that nobody named
 abbrev pub no_pen : PenView
 no_pen = record {

@@ -1,6 +1,7 @@
 //! One execution of a lane.
 ghost use Rattle.std.specs.Prelude.{◌≡◌, ◌-◌, [], vec_capacity, vec_len};
 ghost use Rattle.strand_core.specs.Answer.{CanExecute, IfMissing, IfWhole, TakesWhole};
+ghost use Rattle.strand_core.specs.Hands.{HasRunMark};
 ghost use Rattle.lane_context.specs.Executing.{HasExecutedNoted};
 ghost use Rattle.lane_context.specs.Posting.{FitsClock, TakesNext};
 
@@ -38,7 +39,7 @@ fn execute_from<'a, H: CompletionHandler, S: PenStart>(
     requires map { map.now ≡ script.now }
     requires fits { FitsClock script.now clock.now }
     requires script { hands.old.script ≡ script.now }
-    requires room { TakesWhole (TakesNext (record {
+    requires room { CanExecute hands.old note.op → TakesWhole (TakesNext (record {
       script = script.now;
       pen = pen;
       made = made.items;
@@ -47,6 +48,8 @@ fn execute_from<'a, H: CompletionHandler, S: PenStart>(
     ensures script { hands.new.script ≡ hands.old.script }
     ensures executed { IfWhole result.execution (λ mark.
         HasExecutedNoted H.marks note S.start result.pen hands.old hands.new) }
+    ensures mark { IfWhole result.execution (λ mark. HasRunMark H.marks hands.old note.op mark) }
+    ensures missing { IfMissing result.execution (λ missed. missed ≡ note.op) }
     ensures cannot { IfMissing result.execution (λ missed. ¬ CanExecute hands.old note.op) }
     ensures same_pen { IfMissing result.execution (λ missed. result.pen ≡ S.start) }
     ensures same_hands { IfMissing result.execution (λ missed. hands.new ≡ hands.old) }
@@ -91,7 +94,7 @@ pub(crate) fn execute_noted<'a, H: CompletionHandler>(
     requires map { map.now ≡ script.now }
     requires fits { FitsClock script.now clock.now }
     requires script { hands.old.script ≡ script.now }
-    requires room { TakesWhole (TakesNext (record {
+    requires room { CanExecute hands.old note.op → TakesWhole (TakesNext (record {
       script = script.now;
       pen = pen;
       made = made.items;
@@ -100,6 +103,8 @@ pub(crate) fn execute_noted<'a, H: CompletionHandler>(
     ensures script { hands.new.script ≡ hands.old.script }
     ensures executed { IfWhole result.execution (λ mark.
         HasExecutedNoted H.marks note pen result.pen hands.old hands.new) }
+    ensures mark { IfWhole result.execution (λ mark. HasRunMark H.marks hands.old note.op mark) }
+    ensures missing { IfMissing result.execution (λ missed. missed ≡ note.op) }
     ensures cannot { IfMissing result.execution (λ missed. ¬ CanExecute hands.old note.op) }
     ensures same_pen { IfMissing result.execution (λ missed. result.pen ≡ pen) }
     ensures same_hands { IfMissing result.execution (λ missed. hands.new ≡ hands.old) }

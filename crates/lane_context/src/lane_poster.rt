@@ -21,7 +21,8 @@ pub(crate) trait PenStart {
 }
 
 impl PenStart for Brand {
-    ghost use Rattle.lane_context.specs.Pens.{no_pen, no_script};
+    ghost use Rattle.lane_context.specs.Names.{no_script};
+    ghost use Rattle.lane_context.specs.Pens.{no_pen};
 
     ghost script = { no_script };
 

@@ -4,9 +4,24 @@
 #![tactic(auto)]
 
 mod calls;
+mod closing;
 mod executing;
+mod handler_baton;
+mod lane;
 mod lane_poster;
+mod law;
 mod log;
+mod one;
+mod opener;
+mod opening;
 mod pen;
+mod polling;
+mod session;
+mod standing;
+mod telling;
+mod turning;
+mod worker_seat;
 
 pub use log::LogEntry;
+pub use one::One;
+pub use session::LaneSession;

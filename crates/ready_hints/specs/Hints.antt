@@ -51,8 +51,8 @@ abbrev pub IsAsHinted : Passed → Type 0
 IsAsHinted pass = rule.AreAsHinted pass.hinted pass.taken
 
 -- no lane was taken more often than it was hinted
-abbrev pub IsHinted : Passed → Type 0
-IsHinted pass = (lane : ℕ) → rule.times_hinted lane pass.taken ≤ rule.times_hinted lane pass.hinted
+abbrev pub IsWithinHints : Passed → Type 0
+IsWithinHints pass = (lane : ℕ) → rule.times_hinted lane pass.taken ≤ rule.times_hinted lane pass.hinted
 
 -- each lane was taken as often as it was hinted
 abbrev pub IsPassSettled : Passed → Type 0
@@ -68,14 +68,14 @@ HasLeft count pass =
     ≡ rule.times_hinted lane pass.taken + rule.times lane left)
 
 -- it made one hint more, at this lane, with a later number than those that it made before
-abbrev pub Hinted : ℕ → Passed → Passed → Type 0
-Hinted lane old new =
+abbrev pub AddsHint : ℕ → Passed → Passed → Type 0
+AddsHint lane old new =
     (number : ℕ) × rule.IsAfter number old.hinted
     × (new ≡ record old { hinted = old.hinted ++ rule.hint number lane ∷ [] })
 
 -- it took one hint more, of this lane, with a later number than those that it took before
-abbrev pub Took : ℕ → Passed → Passed → Type 0
-Took lane old new =
+abbrev pub TakesHint : ℕ → Passed → Passed → Type 0
+TakesHint lane old new =
     (number : ℕ) × rule.IsAfter number old.taken
     × (new ≡ record old { taken = old.taken ++ rule.hint number lane ∷ [] })
 

@@ -1,7 +1,7 @@
 ghost use Rattle.std.specs.Prelude.{◌≡◌, IfSome, IfNone, IfOk, IfErr};
 ghost use Rattle.ready_hints.specs.Hints.{IsPassOf, IsSamePass, HasAllParts, HasLeft};
-ghost use Rattle.ready_hints.specs.Hints.{HintsApart, IsOnce, IsAsHinted, IsHinted, IsPassSettled};
-ghost use Rattle.ready_hints.specs.Hints.{Hinted, Took, with_parts_of};
+ghost use Rattle.ready_hints.specs.Hints.{HintsApart, IsOnce, IsAsHinted, IsWithinHints, IsPassSettled};
+ghost use Rattle.ready_hints.specs.Hints.{AddsHint, TakesHint, with_parts_of};
 
 use crate::pass::HintPass;
 use crate::rule::{GathersHints, HintQueue, Hints, TakesHints};
@@ -36,7 +36,7 @@ impl ReadyHints {
     /// another worker's call.
     pub fn hint<Rt: Wait>(&self, rt: &Rt, pass: &mut HintPass, lane: u32) -> Result<(), NoMemory>
         requires { IsPassOf self.now pass.old }
-        ensures hinted { IfOk result (λ _. Hinted lane pass.old pass.new) }
+        ensures hinted { IfOk result (λ _. AddsHint lane pass.old pass.new) }
         ensures apart { IfOk result (λ _. HintsApart pass.new) }
         ensures refused { IfErr result (λ _. pass.new ≡ pass.old) }
         ensures kept { IsSamePass pass.old pass.new }
@@ -53,13 +53,13 @@ impl ReadyHints {
     /// Takes no memory.
     pub fn next_hint<Rt: Wait>(&self, rt: &Rt, pass: &mut HintPass) -> Option<u32>
         requires { IsPassOf self.now pass.old }
-        ensures taken { IfSome result (λ lane. Took lane pass.old pass.new) }
+        ensures taken { IfSome result (λ lane. TakesHint lane pass.old pass.new) }
         ensures once { IsOnce pass.new }
         ensures same { IsAsHinted pass.new }
         ensures none { IfNone result (pass.new ≡ pass.old) }
         ensures kept { IsSamePass pass.old pass.new }
         // who has all parts knows that what it took was hinted, and at `None` that all was taken
-        ensures hinted { IfSome result (λ _. HasAllParts pass.old → IsHinted pass.new) }
+        ensures hinted { IfSome result (λ _. HasAllParts pass.old → IsWithinHints pass.new) }
         ensures empty { IfNone result (HasAllParts pass.old → IsPassSettled pass.old) }
     {
         self.queue.pop_as::<TakesHints, Rt>(rt, &mut pass.pass)

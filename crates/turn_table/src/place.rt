@@ -1,9 +1,9 @@
 // What lies in a slot of the table.
 
-/// A lane's slot holds its value, or nothing while its turn is held. The last slot holds the room
-/// that `close` fills.
 use std::collections::LinkedList;
 
+/// What stands in a slot of the table. A lane's slot holds its value, or nothing while its turn is
+/// held. The last slot holds the room that `close` fills.
 #[derive(Drop)]
 pub enum TablePlace<T> {
     Empty,

@@ -1,5 +1,5 @@
 use Rattle.std.proofs.Common.{IfSome, IfNone, subst}
-use Rattle.ready_hints.specs.Hints.{Passed, hint_passed, HasAllParts, IsHinted, IsPassSettled}
+use Rattle.ready_hints.specs.Hints.{Passed, hint_passed, HasAllParts, IsWithinHints, IsPassSettled}
 use Rattle.ready_hints.proofs.HintLemmas.{pops, learns}
 use Rattle.ready_hints.proofs.PassLemmas.{knows_once, some_hinted, none_settled}
 use Rattle.ready_hints.proofs.hints.ReadyHints.next_hint.Goals as goal
@@ -19,7 +19,7 @@ pub returns-clause-hinted : goal.returns-clause-hinted
 returns-clause-hinted g c =
     subst
     (λ (p : Passed).
-    IfSome c.pop_as.result (λ _. HasAllParts p → IsHinted (hint_passed record { pass = c.pop_as.new.pass })))
+    IfSome c.pop_as.result (λ _. HasAllParts p → IsWithinHints (hint_passed record { pass = c.pop_as.new.pass })))
     c.pass.view_is
     (some_hinted c.pop_as.result c.pass.inside.pass.me.view.client c.pop_as.new.pass.me.view.client _ c.pop_as.ensures.rule)
 

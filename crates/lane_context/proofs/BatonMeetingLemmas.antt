@@ -1,0 +1,31 @@
+-- A lane on which handlers execute, after it took in what the opener knew.
+use Rattle.std.proofs.Common.{◌≡◌, List, sym, subst}
+use Rattle.op_handlers.specs.Marks.{Marks}
+use Rattle.strand_core.specs.Hands.{Held}
+use Rattle.lane_clock.specs.Knowledge.{StartOf}
+use Rattle.lane_clock.specs.Seats.{ClockId, SeatView, copy_seat, own}
+use Rattle.lane_context.specs.declared.log.LogEntry.{LogEntry}
+use Rattle.lane_context.specs.Batons.{HaveHands, IsHandlerBaton, LaneView, opener_known, room_held}
+use Rattle.lane_context.specs.Meeting.{PenHasMet}
+use Rattle.lane_context.specs.Names.{SessionNames}
+use Rattle.lane_context.specs.Openers.{in_round, round_after}
+use Rattle.lane_context.specs.Pens.{PenView}
+use Rattle.lane_context.specs.SeatNumbers.{opener_seat}
+use Rattle.lane_context.proofs.LaneMeetingLemmas.{lane_meets}
+use Rattle.lane_context.proofs.MeetingLemmas.{met_room}
+
+pub baton_meets : {H : Type 0} (names : SessionNames) (marks : H → Marks) (clock : ClockId) (opener : SeatView)
+    (old : LaneView) (pen : PenView) (held : Held H) → opener.number ≡ opener_seat names.script →
+    IsHandlerBaton names marks clock (record { lane = old; hands = held }) →
+    PenHasMet (copy_seat opener) old.pen pen → StartOf (opener_known names.script old.pen.seat) (own opener) →
+    IsHandlerBaton names marks clock (record {
+      lane = in_round old pen (round_after names.script (own opener));
+      hands = held;
+    })
+baton_meets names marks clock opener old pen held number is met behind =
+    record {
+      is_lane = lane_meets names clock opener old pen number is.is_lane met behind;
+      strand = is.strand;
+      hold = subst (λ (log : List LogEntry). HaveHands names marks old.lane log held) (sym met.log) is.hold;
+      room = met_room (copy_seat opener) old.pen pen (room_held held) (room_held held) met is.room;
+    }

@@ -1,0 +1,124 @@
+-- An attempt at a lane, put together of what its steps are.
+use Rattle.std.proofs.Common.{◌≡◌, ◌≢◌, ℕ, ◌+◌, Bool, true, false, cond, List, [], ◌∷◌, Some, None, length, refl, sym, ap, subst, arith}
+use Rattle.std.specs.Option.{option_or}
+use Rattle.op_handlers.specs.Marks.{Marks}
+use Rattle.strand_core.specs.Answer.{CanExecute, IfMissing, IfWhole}
+use Rattle.strand_core.specs.Hands.{HasRunMark, Held}
+use Rattle.strand_core.specs.declared.execution.Execution.{Execution}
+use Rattle.strand_core.specs.declared.execution.Execution.TheVariants as execution
+use Rattle.lane_clock.specs.declared.found.Found.{Found}
+use Rattle.lane_clock.specs.declared.note.Note.{Note}
+use Rattle.lane_clock.specs.declared.step.ClockStep.TheVariants.{Load, Look}
+use Rattle.lane_clock.specs.Steps.{draw_count, place_count, step_count}
+use Rattle.lane_context.specs.declared.lane.LaneStanding.{LaneStanding}
+use Rattle.lane_context.specs.Batons.{HasRoom, LaneView}
+use Rattle.lane_context.specs.Executing.{HasExecutedNoted}
+use Rattle.lane_context.specs.Labels.{Labelled, silent, entries_in, steps_in}
+use Rattle.lane_context.specs.Parts.{looks_full}
+use Rattle.lane_context.specs.Pens.{HasGone, MayGo, PenView}
+use Rattle.lane_context.specs.Polling.{MissedNext, RanNext, StoppedNext, left_labels}
+use Rattle.lane_context.proofs.PenLemmas.{gone_on, may_go_on}
+
+-- steps that show nothing leave the room
+quiet_room : (labels : List Labelled) (n : ℕ) (old new : PenView) → length (entries_in labels) ≡ 0 →
+    step_count draw_count (steps_in labels) ≡ 0 → step_count place_count (steps_in labels) ≡ 0 →
+    HasGone labels old new → MayGo old n n → MayGo new n n
+quiet_room labels n old new entries draws places gone may =
+    may_go_on labels n n n n old new gone may (omega (arith, entries)) (omega (arith, draws)) (omega (arith, places))
+
+pub looked_room : (within : Bool) (lane place n : ℕ) (old new : PenView) →
+    HasGone (cond within (silent (Look lane place None) ∷ []) []) old new → MayGo old n n → MayGo new n n
+looked_room true lane place n old new gone may =
+    quiet_room (silent (Look lane place None) ∷ []) n old new refl refl refl gone may
+looked_room false lane place n old new gone may = quiet_room [] n old new refl refl refl gone may
+
+pub left_gone : (lane place : ℕ) (note : Note) (load : Found) (a b c : PenView) →
+    HasGone (looks_full lane place note) a b → HasGone (silent (Load load) ∷ []) b c →
+    HasGone (left_labels lane place note load) a c
+left_gone lane place note load a b c first second =
+    gone_on (looks_full lane place note) (silent (Load load) ∷ []) a b c first second
+
+pub left_room : (lane place : ℕ) (note : Note) (load : Found) (n : ℕ) (a c : PenView) →
+    HasGone (left_labels lane place note load) a c → MayGo a n n → MayGo c n n
+left_room lane place note load n a c gone may =
+    quiet_room (left_labels lane place note load) n a c refl refl refl gone may
+
+-- a lane that stands so, with its pen
+abbrev pub standing : LaneStanding → PenView → LaneView
+standing at pen = record {
+  lane = at.lane;
+  pen = pen;
+  place = at.place;
+  base = at.base;
+  running = at.running;
+  missed = at.missed;
+}
+
+pub stopped_seen : {H : Type 0} (at : LaneStanding) (note : Note) (load : Found) (a c : PenView) (held : Held H) →
+    load.stops ≢ at.base → HasGone (left_labels at.lane at.place note load) a c →
+    StoppedNext (standing at a) (standing at c) held held
+stopped_seen at note load a c held differ gone =
+    record {
+      note = note;
+      load = load;
+      stopped = differ;
+      gone = gone;
+      moved = refl;
+      same = refl;
+    }
+
+pub ran_seen : {H : Type 0} (marks : H → Marks) (mark : ℕ) (at to : LaneStanding) (note : Note) (load : Found)
+    (a b c d : PenView) (held left : Held H) → to ≡ record at { place = at.place + 1 } →
+    HasRunMark marks held note.op mark → load.stops ≡ at.base → HasGone (looks_full at.lane at.place note) a b →
+    HasGone (silent (Load load) ∷ []) b c → HasExecutedNoted marks note c d held left → left.script ≡ held.script →
+    RanNext marks note.op mark (standing at a) (standing to d) held left
+ran_seen marks mark at to note load a b c d held left moved marked going seen loaded did script =
+    record {
+      part = record {
+        place = at.place;
+        note = note;
+        load = load;
+        calls = did.calls;
+        labels = did.drawn.labels;
+      };
+      it = refl;
+      at = refl;
+      marked = marked;
+      going = going;
+      whole = did.whole;
+      drawn = did.drawn.drawn;
+      gone =
+          gone_on (looks_full at.lane at.place note) (silent (Load load) ∷ did.drawn.labels) a b d seen
+          (gone_on (silent (Load load) ∷ []) did.drawn.labels b c d loaded did.drawn.gone);
+      moved = ap (λ (s : LaneStanding). standing s d) moved;
+      spent = did.spent;
+      script = script;
+    }
+
+pub missed_seen : {H : Type 0} (op : ℕ) (at to : LaneStanding) (note : Note) (load : Found) (a c d : PenView)
+    (held left : Held H) → to ≡ record at { missed = option_or at.missed (Some op) } → op ≡ note.op →
+    load.stops ≡ at.base → (CanExecute held note.op → ⊥) → HasGone (left_labels at.lane at.place note load) a c →
+    d ≡ c → left ≡ held → MissedNext op (standing at a) (standing to d) held left
+missed_seen op at to note load a c d held left moved same going cannot gone pen hands =
+    record {
+      note = note;
+      load = load;
+      it = sym same;
+      going = going;
+      cannot = λ can. cannot (subst (CanExecute held) same can);
+      gone = subst (λ (p : PenView). HasGone (left_labels at.lane at.place note load) a p) (sym pen) gone;
+      moved = ap (λ (s : LaneStanding). standing s d) moved;
+      same = hands;
+    }
+
+pub missed_room : {H : Type 0} (c d : PenView) (held left : Held H) → HasRoom held c → d ≡ c → left ≡ held →
+    HasRoom left d
+missed_room {H} c d held left room pen hands =
+    subst (λ (h : Held H). HasRoom h d) (sym hands) (subst (λ (p : PenView). HasRoom held p) (sym pen) room)
+
+-- what holds of a whole execution, and of a miss
+pub whole_of : (came : Execution) (mark : ℕ) (P : ℕ → Type 0) → came ≡ execution.Whole mark → IfWhole came P → P mark
+whole_of came mark P same is = subst (λ (e : Execution). IfWhole e P) same is
+
+pub missing_of : (came : Execution) (op : ℕ) (P : ℕ → Type 0) → came ≡ execution.Missing op → IfMissing came P → P op
+missing_of came op P same is = subst (λ (e : Execution). IfMissing e P) same is
