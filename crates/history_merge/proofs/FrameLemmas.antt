@@ -44,7 +44,7 @@ acts_spent true at s = refl
 acts_spent false at s = refl
 
 -- no act comes or goes
-length-progress : (place : Place) (step : Step) (s : ContextState) →
+pub length-progress : (place : Place) (step : Step) (s : ContextState) →
     length (with_progress place step s).acts ≡ length s.acts
 length-progress None step s = refl
 length-progress (Some at) step s =

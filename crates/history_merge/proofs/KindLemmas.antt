@@ -138,13 +138,13 @@ ready_back : (step : Step) (of : ActPhase) (given : Code) (size : ℕ) (why : Ca
 ready_back step (phase.Running class progress) given size why is = absurd (cc)
 ready_back step other given size why is = is
 
-called_stopping : (of : CallPhase) → was_called (stopping of) ≡ was_called of
+pub called_stopping : (of : CallPhase) → was_called (stopping of) ≡ was_called of
 called_stopping call.Uncalled = refl
 called_stopping (call.Open called) = refl
 called_stopping (call.Stopping called) = refl
 called_stopping (call.Back called back) = refl
 
-called_returned : (now : ℕ) (of : CallPhase) → was_called (returned now of) ≡ was_called of
+pub called_returned : (now : ℕ) (of : CallPhase) → was_called (returned now of) ≡ was_called of
 called_returned now call.Uncalled = refl
 called_returned now (call.Open called) = refl
 called_returned now (call.Stopping called) = refl

@@ -20,6 +20,7 @@ use Rattle.history_rules.specs.declared.phase.CallPhase.TheVariants as call
 use Rattle.history_rules.specs.declared.phase.Progress.{Progress}
 use Rattle.history_rules.specs.declared.phase.Step.TheVariants as step
 use Rattle.book_context.proofs.ApartLemmas.{numbers_rise}
+use Rattle.book_context.proofs.PlaceLemmas.{within_script}
 use Rattle.book_context.proofs.StateLemmas.{acts_in}
 use Rattle.history_merge.proofs.FrameLemmas.{calling_act}
 use Rattle.history_merge.proofs.OrderlyLemmas.{HasMade, IsInOrder, IsMadeIn, uncalled_or}
@@ -99,6 +100,18 @@ module _ (script : ScriptModel) (well : IsWellFormed script) (s : ContextState) 
   pub fresh_next : (failed : Bool) (a : ℕ) → MayCall script failed s a → act_at s a ≡ fresh
   fresh_next failed a may =
       let uncalled = uncalled_next failed a may in is_fresh (act_at s a) uncalled ((order.acts a).absent uncalled)
+
+  -- the act is one of the script's
+  within_by : (failed : Bool) (a : ℕ) (place : Place) → IsSomeAnd (body_at script failed s place) (IsNextOf a) →
+      a < length script.acts
+  within_by failed a None may =
+      let next = in_opening script a failed s may in within_script script well None a s.opening.made next.next
+  within_by failed a (Some at) may =
+      let next : IsNextIn at.1 (branch_of script at.0 at.1) a (phase_at s at.0) =
+      in_branch script a at.0 at.1 (phase_at s at.0) may in within_script script well (Some at) a next.k next.at
+
+  pub next_within : (failed : Bool) (a : ℕ) → MayCall script failed s a → a < length script.acts
+  next_within failed a may = within_by failed a (parent_of script a) may
 
   -- and after it the call was made
   pub made_by : (failed : Bool) (a : ℕ) (place : Place) → parent_of script a ≡ place →

@@ -1,3 +1,5 @@
 pub mod Among
 pub mod Merging
+pub mod Ordering
+pub mod Placing
 pub mod Solo

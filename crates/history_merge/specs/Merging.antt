@@ -1,8 +1,6 @@
 -- The logs of a session put together: each entry at its position, and the drops behind them all; and
 -- that this is a legal history of the script on one io_context.
-use Rattle.std.specs.Prelude.{◌≡◌, ◌⊎◌, ℕ, ◌<◌, Bool, false, List, [], ◌∷◌, ◌++◌, None, length, slice_index}
-use lib.ListN.{get_elem?}
-use mathlib.Core.Option.{some}
+use Rattle.std.specs.Prelude.{◌≡◌, ◌⊎◌, ℕ, ◌<◌, Bool, false, List, [], ◌∷◌, ◌++◌, None, slice_index}
 use Rattle.asio_types.specs.declared.event.Event.{Event}
 use Rattle.asio_types.specs.declared.event.Event.TheVariants as event
 use Rattle.session_script.specs.Script.{ScriptModel}
@@ -14,28 +12,18 @@ use Rattle.history_rules.specs.Time.{IsIdle}
 use Rattle.lane_clock.specs.declared.step.ClockStep.TheVariants.{Place}
 use Rattle.lane_clock.specs.Rule.{StepAt}
 use Rattle.lane_map.specs.LaneNumbers.{cells_of, reactor_lane}
-use Rattle.lane_context.specs.declared.log.LogEntry.{LogEntry}
 use Rattle.lane_context.specs.Half.{half_of}
 use Rattle.lane_context.specs.Logs.{AreLogs, LogsView, entries_of, missed_by}
 use Rattle.lane_context.specs.Names.{SessionNames}
 use Rattle.lane_context.specs.SeatNumbers.{IsWorkerSeat, lane_count}
+use Rattle.history_merge.specs.Ordering.{IsInOrder}
 
--- an entry of one of the logs
-pub record IsEntryOf (logs : LogsView) (entry : LogEntry) : Type 0 where
-  pub seat : ℕ
-  pub at : ℕ
-  pub there : get_elem? (entries_of logs seat) at ≡ some entry
-
--- A history is the merging of logs: each entry of each log stands at its position, each event before
--- the drops is that of an entry, and the drops come last
+-- A history is the merging of logs: their entries in the order of their positions, and behind them
+-- the drops.
 pub record IsMerging (logs : LogsView) (events : List Event) : Type 0 where
   pub drawn : List Event
   pub is : events ≡ drawn ++ logs.drops
-  pub count : length drawn ≡ logs.last.clock
-  pub each : (entry : LogEntry) → IsEntryOf logs entry →
-      get_elem? drawn entry.position ≡ some entry.event
-  pub only : (position : ℕ) (shown : Event) → get_elem? drawn position ≡ some shown →
-      IsEntryOf logs (record { position = position; event = shown })
+  pub ordered : IsInOrder logs.entries logs.last.clock drawn
 
 -- what a lane saw at its next place was there to be executed or taken
 abbrev pub NoneIsMissing : ScriptModel → LogsView → Type 0

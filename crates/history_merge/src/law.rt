@@ -1,4 +1,10 @@
+//! What holds of the logs of a session and of what is made of them. These functions run nothing.
+ghost use Rattle.lane_context.specs.Logs.{AreLogs, LogsView};
+ghost use Rattle.lane_context.specs.Names.{SessionNames};
 ghost use Rattle.history_merge.specs.Among.{ExecutionsStayLegal};
+ghost use Rattle.history_merge.specs.Ordering.{ArePositioned};
+
+use lane_clock::positions_are_drawn_once;
 
 /// A whole execution that may begin on an idle lane stays legal among what other lanes do: if each
 /// event of others is legal where it comes, so is each of its own, down to its end. Then its lane
@@ -6,3 +12,12 @@ ghost use Rattle.history_merge.specs.Among.{ExecutionsStayLegal};
 pub fn executions_stay_legal()
     ensures { ExecutionsStayLegal }
 {}
+
+/// The positions of the entries of a session's logs are the numbers below the clock at its end, each
+/// of one event.
+pub fn logs_are_positioned()
+    ensures { (names : SessionNames) (logs : LogsView) → AreLogs names logs →
+        ArePositioned logs.entries logs.last.clock }
+{
+    positions_are_drawn_once();
+}

@@ -4,5 +4,9 @@
 #![tactic(auto)]
 
 mod law;
+mod merge;
+mod ordering;
+mod placing;
 
-pub use law::executions_stay_legal;
+pub use law::{executions_stay_legal, logs_are_positioned};
+pub use merge::merged;

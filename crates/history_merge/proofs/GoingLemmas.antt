@@ -1,0 +1,260 @@
+-- A part of a lane that draws lies where a round is open, and its load found the stops that the round's restart found.
+use Rattle.std.proofs.Common.{◌≡◌, ℕ, ◌+◌, ◌-◌, ◌<◌, ◌≤◌, Bool, true, false, cond, List, [], ◌∷◌, ◌++◌, None, length, take, refl, sym, ap, subst, ◌∙◌, arith, length-append}
+use Rattle.std.specs.Prelude.{nat_lt, slice_index}
+use Rattle.std.proofs.Math.Seq.{take-append_seam}
+use Rattle.std.proofs.lemmas.List.{append_assoc, length-map}
+use mathlib.Core.Option.{some}
+use lib.ListN.{get_elem?}
+use Rattle.session_script.specs.Script.{ScriptModel}
+use Rattle.history_rules.specs.State.{ReactorHalf}
+use Rattle.strand_core.specs.declared.posted.Posted.{Posted}
+use Rattle.lane_clock.specs.declared.found.Found.{Found}
+use Rattle.lane_clock.specs.declared.note.Note.{Note}
+use Rattle.lane_clock.specs.declared.step.ClockStep.{ClockStep}
+use Rattle.lane_clock.specs.declared.step.ClockStep.TheVariants.{Draw, Load, Place, Put, Look, Join}
+use Rattle.lane_clock.specs.History.{ClockEvent, steps_under}
+use Rattle.lane_clock.specs.Rule.{StepAt, by_load}
+use Rattle.lane_clock.proofs.KnownLemmas.{at_within}
+use Rattle.lane_clock.proofs.MomentLemmas.{Tail, tail_more}
+use Rattle.lane_map.specs.LaneNumbers.{asked_lane, cells_of, home_lane}
+use Rattle.lane_context.specs.Knowing.{known_steps}
+use Rattle.lane_context.specs.Labels.{AreDrawn, IsDrawn, Labelled, begins, call_note, dispatches, ends, none_drawn, one_drawn, posts, returns, shows, silent, step_of, steps_in, stops_context}
+use Rattle.lane_context.specs.LaneLog.{FoundGoing, MayFollow}
+use Rattle.lane_context.specs.Logs.{AreLogs, LogsView, session_layout}
+use Rattle.lane_context.specs.Names.{SessionNames}
+use Rattle.lane_context.specs.Parts.{ExecutedPart, FailedPart, Part, TurnEnd, TurnPart, TurnStart, end_labels, executed, failed, fails, fault_label, labels_in, labels_of, looks_empty, looks_full, passes, start_labels, takes, tells, turned}
+use Rattle.lane_context.specs.ReactorTurns.{AreTold, EndsTurn, done_labels, done_note, none_told, one_told}
+use Rattle.lane_context.specs.SeatNumbers.{lane_count, opener_seat}
+use Rattle.lane_context.specs.Stand.{stand_of}
+use Rattle.lane_context.proofs.PenLemmas.{steps-append}
+use Rattle.history_merge.proofs.CutLemmas.{IsRoundOf, known_stand, open_base, open_opened}
+use Rattle.history_merge.proofs.HistoryLemmas.{label_of}
+use Rattle.history_merge.proofs.LabellingLemmas.{AreLabels}
+use Rattle.history_merge.proofs.PartLemmas.{Every, IsMadeAt, all_made, at_left, at_right, at_seam, every-append, every_at, label_of_step, lane_made, made-append, made_up_to, step_of_label}
+
+-- the step takes in nothing of others
+abbrev pub IsNoJoin : ClockStep → Type 0
+IsNoJoin (Draw changes found) = Unit {0}
+IsNoJoin (Load found) = Unit {0}
+IsNoJoin (Place lane place) = Unit {0}
+IsNoJoin (Put lane place note) = Unit {0}
+IsNoJoin (Look lane place held) = Unit {0}
+IsNoJoin (Join counts) = ⊥
+
+abbrev pub IsAlone : Labelled → Type 0
+IsAlone label = IsNoJoin (step_of label)
+
+put_alone : (within : Bool) (lane place : ℕ) (note : Note) → Every IsAlone (cond within (silent (Put lane place note) ∷ []) [])
+put_alone true lane place note = (tt, tt)
+put_alone false lane place note = tt
+
+look_alone : (within : Bool) (lane place : ℕ) → Every IsAlone (cond within (silent (Look lane place None) ∷ []) [])
+look_alone true lane place = (tt, tt)
+look_alone false lane place = tt
+
+module _ (script : ScriptModel) where
+  call_alone : {made : Posted} {labels : List Labelled} → IsDrawn script made labels → Every IsAlone labels
+  call_alone begins = (tt, tt)
+  call_alone (posts {act} {place} {found} isnt outside) =
+      (tt, (tt, put_alone (nat_lt place (slice_index (cells_of script) (asked_lane script act))) _ place (call_note act)))
+  call_alone (dispatches isnt within) = (tt, tt)
+  call_alone (stops_context is) = (tt, (tt, tt))
+  call_alone returns = (tt, tt)
+  call_alone ends = (tt, tt)
+
+  calls_alone : {calls : List Posted} {labels : List Labelled} → AreDrawn script calls labels → Every IsAlone labels
+  calls_alone none_drawn = tt
+  calls_alone (one_drawn {calls} {call = one} {labels} {made} before now) =
+      every-append IsAlone labels made (calls_alone before) (call_alone now)
+
+  told_alone : (told : Bool) (from : ReactorHalf) {labels : List Labelled} → AreTold script told from labels →
+      Every IsAlone labels
+  told_alone told from none_told = tt
+  told_alone told from (one_told {labels} op with_code size place found before may) =
+      every-append IsAlone labels (done_labels script op with_code size place found) (told_alone told from before) (
+        tt,
+        (
+          tt,
+          put_alone (nat_lt place (slice_index (cells_of script) (home_lane script op))) _ place
+              (done_note op with_code size),
+        ),
+      )
+
+  end_alone : (told : Bool) (from : ReactorHalf) (end : TurnEnd) → EndsTurn script told from end → Every IsAlone (end_labels end)
+  end_alone told from (tells labels) is = told_alone told from is.told_so
+  end_alone told from (fails found) is = (tt, tt)
+
+  looks_alone : (lane place : ℕ) → Every IsAlone (looks_empty script lane place)
+  looks_alone lane place = look_alone (nat_lt place (slice_index (cells_of script) lane)) lane place
+
+-- A part behind earlier ones that loads and draws: nothing is taken in by it, and its load found no stop of the round
+pub record IsDrawing (names : SessionNames) (opener : List ClockStep) (lane : ℕ) (earlier : List Part)
+    (made : List Labelled) : Type 0 where
+  pub load : Found
+  pub front : List Labelled
+  pub back : List Labelled
+  pub is : made ≡ front ++ silent (Load load) ∷ back
+  pub going : FoundGoing names opener lane earlier load
+  pub alone : Every IsAlone made
+
+module _ (names : SessionNames) (opener : List ClockStep) (lane : ℕ) (earlier : List Part) where
+  -- an execution, a turn and a failure draw
+  pub executed_draws : (part : ExecutedPart) → MayFollow names opener lane earlier (executed part) →
+      IsDrawing names opener lane earlier (labels_in names.script lane (executed part))
+  executed_draws part may = record {
+    load = part.load;
+    front = looks_full lane part.place part.note;
+    back = part.labels;
+    is = refl;
+    going = may.going;
+    alone = (tt, (tt, calls_alone names.script may.drawn));
+  }
+
+  turned_by : (part : TurnPart) (start : TurnStart) (end : List Labelled) → FoundGoing names opener lane earlier part.load →
+      Every IsAlone end →
+      IsDrawing names opener lane earlier (start_labels names.script lane part.place part.load part.drawn start ++ end)
+  turned_by part (takes note changes) end going alone = record {
+    load = part.load;
+    front = looks_full lane part.place note;
+    back = shows _ changes part.drawn ∷ end;
+    is = refl;
+    going = going;
+    alone = (tt, (tt, (tt, alone)));
+  }
+  turned_by part (passes shown) end going alone = record {
+    load = part.load;
+    front = looks_empty names.script lane part.place;
+    back = shows shown _ part.drawn ∷ end;
+    is = append_assoc (looks_empty names.script lane part.place) (silent (Load part.load) ∷ shows shown _ part.drawn ∷ []) end;
+    going = going;
+    alone =
+        every-append IsAlone
+        (looks_empty names.script lane part.place ++ silent (Load part.load) ∷ shows shown _ part.drawn ∷ []) end
+        (every-append IsAlone (looks_empty names.script lane part.place) _ (looks_alone names.script lane part.place)
+        (tt, (tt, tt))) alone;
+  }
+
+  pub turned_draws : (part : TurnPart) → MayFollow names opener lane earlier (turned part) →
+      IsDrawing names opener lane earlier (labels_in names.script lane (turned part))
+  turned_draws part may =
+      turned_by part part.start (end_labels part.end) may.going
+      (end_alone names.script names.told _ part.end may.ends)
+
+  pub failed_draws : (part : FailedPart) → MayFollow names opener lane earlier (failed part) →
+      IsDrawing names opener lane earlier (labels_in names.script lane (failed part))
+  failed_draws part may = record {
+    load = part.load;
+    front = looks_empty names.script lane part.place;
+    back = fault_label part.drawn ∷ [];
+    is = refl;
+    going = may.going;
+    alone =
+        every-append IsAlone (looks_empty names.script lane part.place) _ (looks_alone names.script lane part.place)
+        (tt, (tt, tt));
+  }
+
+module _ (names : SessionNames) (logs : LogsView) (labels : ℕ → List Labelled) (logged : AreLogs names logs)
+    (are : AreLabels names logs labels) (e : ClockEvent) (es : List ClockEvent)
+    (tail : Tail (e ∷ es) logged.closed.history) (within : e.by < lane_count names.script) where
+  abbrev opener : List ClockStep
+  opener = logs.lists (opener_seat names.script)
+
+  abbrev parts : List Part
+  parts = (are.lanes e.by within).parts
+
+  abbrev makes : Part → List Labelled
+  makes = labels_in names.script e.by
+
+  -- the step stands in such a part
+  module _ (at : IsMadeAt Part makes parts (length (steps_under e.by es)) (label_of labels es e))
+      (draws : IsDrawing names opener e.by at.earlier (makes at.part)) where
+    abbrev since : ℕ
+    since = length (all_made Part makes at.earlier)
+
+    split : (rest : List Labelled)
+        × (labels e.by ≡ all_made Part makes at.earlier ++ (at.before ++ label_of labels es e ∷ rest))
+    split =
+        let up = made_up_to Part makes parts (length (steps_under e.by es)) (label_of labels es e) at in (
+          up.0,
+          (are.lanes e.by within).are
+              ∙ (up.1 ∙ append_assoc (all_made Part makes at.earlier) at.before (label_of labels es e ∷ up.0)),
+        )
+
+    -- what it knew of the opener
+    earlier_steps : take since (logs.lists e.by) ≡ steps_in (all_made Part makes at.earlier)
+    earlier_steps =
+        let xs : List Labelled = all_made Part makes at.earlier in
+        ap (take since)
+        (sym (are.steps e.by)
+        ∙ (ap steps_in split.1 ∙ steps-append xs (at.before ++ label_of labels es e ∷ split.0)))
+        ∙ (ap (λ n. take n (steps_in xs ++ steps_in (at.before ++ label_of labels es e ∷ split.0)))
+        (sym (length-map xs step_of))
+        ∙ take-append_seam (steps_in xs) (steps_in (at.before ++ label_of labels es e ∷ split.0)))
+
+    known : known_steps opener (opener_seat names.script) (take since (logs.lists e.by))
+        ≡ known_steps opener (opener_seat names.script) (steps_in (labels_of names.script e.by at.earlier))
+    known =
+        ap (known_steps opener (opener_seat names.script))
+        (earlier_steps ∙ ap steps_in (sym (lane_made names.script e.by at.earlier)))
+
+    -- its load was a step of the clock
+    load_at : StepAt logs.lists e.by (since + length draws.front) (Load draws.load)
+    load_at =
+        let more = made-append Part makes at.later (at.part ∷ at.earlier) in
+        let here : get_elem? (makes at.part) (length draws.front) ≡ some (silent (Load draws.load)) =
+        subst (λ xs. get_elem? xs (length draws.front) ≡ some (silent (Load draws.load))) (sym draws.is)
+        (at_seam draws.front (silent (Load draws.load)) draws.back) in
+        let there : get_elem? (all_made Part makes at.earlier ++ makes at.part) (since + length draws.front)
+        ≡ some (silent (Load draws.load)) =
+        at_right (all_made Part makes at.earlier) (makes at.part) (since + length draws.front) (length draws.front) refl ∙ here in
+        let whole : get_elem? (labels e.by) (since + length draws.front) ≡ some (silent (Load draws.load)) =
+        subst (λ xs. get_elem? xs (since + length draws.front) ≡ some (silent (Load draws.load)))
+        (sym ((are.lanes e.by within).are ∙ (ap (all_made Part makes) at.parts_are ∙ more.1)))
+        (at_left (all_made Part makes at.earlier ++ makes at.part) more.0 (since + length draws.front)
+        (at_within (all_made Part makes at.earlier ++ makes at.part) (since + length draws.front) _ there) ∙ there) in
+        subst (λ xs. get_elem? xs (since + length draws.front) ≡ some (Load draws.load)) (are.steps e.by)
+        (step_of_label (labels e.by) (since + length draws.front) (silent (Load draws.load)) whole)
+
+    -- nothing was taken in since
+    quiet : (i : ℕ) (counts : List ℕ) → since ≤ i → i ≤ length (steps_under e.by es) →
+        StepAt logs.lists e.by i (Join counts) → ⊥
+    quiet i counts from to step =
+        let label : Labelled = label_of labels es e in
+        let found =
+        label_of_step (labels e.by) i (Join counts)
+        (subst (λ xs. get_elem? xs i ≡ some (Join counts)) (sym (are.steps e.by)) step) in
+        let k : ℕ = i - since in
+        let before : List Labelled = at.before ++ label ∷ [] in
+        let size : length before ≡ length at.before + 1 = length-append at.before (label ∷ []) in
+        let less : k < length before = omega (arith, at.index, from, to, size) in
+        let behind : get_elem? (at.before ++ label ∷ split.0) k ≡ some found.0 =
+        sym (at_right (all_made Part makes at.earlier) (at.before ++ label ∷ split.0) i k (omega (arith, from)))
+        ∙ (sym (ap (λ xs. get_elem? xs i) split.1) ∙ found.1) in
+        let first : get_elem? before k ≡ some found.0 =
+        sym (at_left before split.0 k less)
+        ∙ (ap (λ xs. get_elem? xs k) (append_assoc at.before (label ∷ []) split.0) ∙ behind) in
+        let own : get_elem? (makes at.part) k ≡ some found.0 =
+        ap (λ xs. get_elem? xs k) (at.labels_are ∙ sym (append_assoc at.before (label ∷ []) at.after))
+        ∙ (at_left before at.after k less ∙ first) in
+        subst IsNoJoin found.2 (every_at IsAlone (makes at.part) draws.alone k found.0 own)
+
+    -- so a round is open, whose restart found the stops that the load found
+    pub going_at : IsRoundOf names.script (stand_of names.script (steps_under (opener_seat names.script) es)) draws.load.stops
+    going_at =
+        let older = tail_more es e logged.closed.history tail in
+        let parted = logged.closed.rule.changes_add_up.parted e.by (since + length draws.front) draws.load
+        (Load draws.load, load_at, by_load draws.load) in
+        let then =
+        open_base names.script
+        (known_steps opener (opener_seat names.script) (steps_in (labels_of names.script e.by at.earlier))) draws.load.stops
+        parted.2 draws.going in
+        let opened =
+        open_opened names.script
+        (stand_of names.script
+        (known_steps opener (opener_seat names.script) (steps_in (labels_of names.script e.by at.earlier))))
+        then.round in
+        let same =
+        known_stand names.script logs.lists (session_layout names.script) logs.last logged.closed logged.cuts es older e.by since
+        (omega (arith, within)) (omega (arith, at.index)) quiet
+        (ap (λ steps. (stand_of names.script steps).opening) known ∙ opened) in
+        subst (λ stand. IsRoundOf names.script stand draws.load.stops) (sym (same ∙ ap (stand_of names.script) known)) then
