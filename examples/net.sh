@@ -115,6 +115,12 @@ else
     injected sendto "$error" 2 && [ "$status" = 0 ]
     count $? "sendto with $error"
   done
+  # A read waits for bytes that are under way: time doesn't move on before it has them.
+  printf '%s\n' 'session 1 streams 1 at 1 feed 0 x616263 open { readsome 0 4 - - { } } run 1' > "$room/script"
+  for use in 2 2..4; do
+    injected recvfrom EAGAIN "$use" && [ "$status" = 0 ] && grep -qx 'done 0 ok 3' "$room/trace" && ! grep -qx last "$room/trace"
+    count $? "a read that waits for bytes under way at uses $use"
+  done
 fi
 echo "net: $passed passed, $failed failed"
 [ "$failed" = 0 ]

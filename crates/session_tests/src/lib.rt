@@ -23,6 +23,8 @@ mod sessions;
 #[cfg(test)]
 mod silent;
 #[cfg(test)]
+mod sockets;
+#[cfg(test)]
 mod texts;
 #[cfg(test)]
 mod threads;

@@ -76,21 +76,28 @@ pub(crate) fn call_session<
     asio_session(rt, alloc, words, source, out, notes, reactor, rack)
 }
 
-/// A session of these words with this source and this out over the scripted world, in which these
-/// calls fail, with handlers of these marks.
-pub(crate) fn session<R: Abort + Threads + Wait + Sync, S: Source, K: Sink>(
+/// What a session left, and its reactor.
+#[derive(Drop)]
+pub(crate) struct Run<X> {
+    pub(crate) status: Status,
+    pub(crate) note: String,
+    pub(crate) reactor: X,
+}
+
+/// A session of these words with this source, this out and this reactor, with handlers of these
+/// marks.
+pub(crate) fn session_over<R: Abort + Threads + Wait + Sync, S: Source, K: Sink, X: Reactor + Send>(
     rt: &R,
     alloc: Global,
     words: &str,
     source: &mut S,
     out: &mut K,
-    fails: &[FailAt],
+    reactor: X,
     marks: Marks,
-) -> Ended {
+) -> Run<X> {
     let words = words_of(rt, alloc, words);
     let mut notes = notes_of(rt, alloc);
     let mut rack = rack_of(rt, alloc, MOST_ACTS, marks);
-    let reactor = ScriptReactor::make(alloc, fails).expect(rt, MEMORY);
     let (status, reactor) = call_session(
         rt,
         alloc,
@@ -102,10 +109,30 @@ pub(crate) fn session<R: Abort + Threads + Wait + Sync, S: Source, K: Sink>(
         &mut rack,
     );
     rack.discard_all();
-    Ended {
+    Run {
         status,
         note: text_of(rt, alloc, notes.bytes()),
-        sent: Bytes::from_slice(alloc, reactor.sent(0)).expect(rt, MEMORY),
+        reactor,
+    }
+}
+
+/// A session of these words with this source and this out over the scripted world, in which these
+/// calls fail, with handlers of these marks.
+pub(crate) fn session<R: Abort + Threads + Wait + Sync, S: Source, K: Sink>(
+    rt: &R,
+    alloc: Global,
+    words: &str,
+    source: &mut S,
+    out: &mut K,
+    fails: &[FailAt],
+    marks: Marks,
+) -> Ended {
+    let reactor = ScriptReactor::make(alloc, fails).expect(rt, MEMORY);
+    let run = session_over(rt, alloc, words, source, out, reactor, marks);
+    Ended {
+        status: run.status,
+        note: run.note,
+        sent: Bytes::from_slice(alloc, run.reactor.sent(0)).expect(rt, MEMORY),
     }
 }
 

@@ -122,7 +122,7 @@ const MARKED: &[(&str, Marks, &str)] = &[
 ];
 
 /// Scripts with the one text that each may write.
-const ONE_TEXT: &[(&str, &str)] = &[
+pub(crate) const ONE_TEXT: &[(&str, &str)] = &[
     (
         "session 1 open { post - { } } run 1",
         "call 0 / back 0 / begin 0 ok 0 / end 0 1000 / ended",
@@ -262,7 +262,7 @@ const SENT: &[(&str, &str)] = &[
 
 /// Scripts that may write several texts: lines that stand together in each, and a text that stands
 /// in none.
-const SEVERAL_TEXTS: &[(&str, &str, &str)] = &[
+pub(crate) const SEVERAL_TEXTS: &[(&str, &str, &str)] = &[
     (
         "session 1 open { post - { } post - { } } run 4",
         "call 0 / back 0 / call 1 / back 1",
