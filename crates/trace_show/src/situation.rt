@@ -1,0 +1,170 @@
+use crate::detail::{Detail, class_words};
+use crate::found::{Against, first_act};
+use crate::lines::{EventKind, line_about, line_of_event, line_of_stop};
+use asio_types::{ActNo, Class, Event, Lane, NoMemory, OpNo};
+use history_book::Replay;
+use history_rules::{ActPhase, CallPhase};
+
+/// The events of a trace up to a line, and what they left.
+#[derive(Clone, Copy)]
+pub(crate) struct Situation<'s, 'r> {
+    pub(crate) replay: &'s Replay<'r>,
+    pub(crate) before: &'s [Event],
+}
+
+impl<'s, 'r> Situation<'s, 'r> {
+    /// The line of an act's last event of this kind.
+    pub(crate) fn line(&self, kind: EventKind, n: ActNo) -> Option<u32> {
+        line_about(self.before, kind, n)
+    }
+
+    /// The line of the last event that is this one.
+    pub(crate) fn line_of_event(&self, event: Event) -> Option<u32> {
+        line_of_event(self.before, event)
+    }
+
+    /// The line that stopped the context.
+    pub(crate) fn line_of_stop(&self) -> Option<u32> {
+        line_of_stop(self.before)
+    }
+
+    /// The first act of which this holds.
+    pub(crate) fn first(&self, against: Against) -> Option<ActNo> {
+        first_act(self.replay, against)
+    }
+
+    /// The name of a lane.
+    pub(crate) fn lane(&self, detail: &mut Detail, lane: Lane) -> Result<(), NoMemory> {
+        match lane {
+            Lane::Strand(strand) => detail.field("strand ", strand as u64),
+            Lane::Own(op) => detail.field("the lane of operation ", op as u64),
+            Lane::Reactor => detail.words("the reactor"),
+        }
+    }
+
+    /// What has become of an act, behind its name.
+    pub(crate) fn act(&self, detail: &mut Detail, n: ActNo) -> Result<(), NoMemory> {
+        if n >= self.replay.script().acts() {
+            return detail.field("the script has no act ", n as u64);
+        }
+        match self.replay.act(n).phase {
+            ActPhase::Absent => self.call(detail, n),
+            ActPhase::Asked => self.request(detail, "act ", n),
+            ActPhase::Requested => self.request(detail, "operation ", n),
+            ActPhase::Inside => {
+                detail.field("operation ", n as u64)?;
+                detail.at_line(
+                    " begins inside its call, made at line ",
+                    self.line(EventKind::Called, n),
+                )
+            }
+            ActPhase::Ready { code, size, .. } => {
+                detail.field("operation ", n as u64)?;
+                detail.words(" is ready with ")?;
+                detail.outcome(code, size)?;
+                self.since_ready(detail, n)
+            }
+            ActPhase::Running { .. } => {
+                detail.field("operation ", n as u64)?;
+                detail.at_line(" runs since line ", self.line(EventKind::Begun, n))
+            }
+            ActPhase::Ended => {
+                detail.field("operation ", n as u64)?;
+                detail.at_line(" has ended at line ", self.line(EventKind::Ended, n))
+            }
+            ActPhase::Dropped => {
+                detail.field("operation ", n as u64)?;
+                detail.at_line(" was destroyed at line ", self.line(EventKind::Dropped, n))
+            }
+        }
+    }
+
+    /// Since when an operation is ready: a posting since its call, the others since their `done`.
+    fn since_ready(&self, detail: &mut Detail, n: ActNo) -> Result<(), NoMemory> {
+        let line = match self.line(EventKind::Done, n) {
+            Some(line) => Some(line),
+            None => self.line(EventKind::Called, n),
+        };
+        detail.at_line(" since line ", line)
+    }
+
+    /// How far a request has come.
+    fn request(&self, detail: &mut Detail, name: &str, n: ActNo) -> Result<(), NoMemory> {
+        detail.field(name, n as u64)?;
+        if self.replay.was_taken(n) {
+            detail.at_line(" was taken at line ", self.line(EventKind::Taken, n))
+        } else {
+            detail.at_line(
+                " waits to be taken since line ",
+                self.line(EventKind::Called, n),
+            )
+        }
+    }
+
+    /// How far the call of an act has come.
+    pub(crate) fn call(&self, detail: &mut Detail, n: ActNo) -> Result<(), NoMemory> {
+        detail.field("act ", n as u64)?;
+        match self.replay.act(n).call {
+            CallPhase::Uncalled => detail.words(" wasn't called"),
+            CallPhase::Open { .. } => {
+                detail.at_line(
+                    " is being called since line ",
+                    self.line(EventKind::Called, n),
+                )
+            }
+            CallPhase::Stopping { .. } => {
+                detail.at_line(
+                    " stopped the context at line ",
+                    self.line(EventKind::Stopped, n),
+                )?;
+                detail.words(", and its call isn't back")
+            }
+            CallPhase::Back { .. } => {
+                detail.at_line(" was back at line ", self.line(EventKind::Back, n))
+            }
+        }
+    }
+
+    /// Which of the calls of a body comes next.
+    pub(crate) fn next_call(&self, detail: &mut Detail, acts: &[ActNo]) -> Result<(), NoMemory> {
+        for n in acts {
+            match self.replay.act(*n).call {
+                CallPhase::Back { .. } => {}
+                CallPhase::Uncalled => return comes_next(detail, *n),
+                _ => return self.call(detail, *n),
+            }
+        }
+        detail.words("all its acts were called and are back")
+    }
+
+    /// What the body of a handler does.
+    pub(crate) fn body(&self, detail: &mut Detail, o: OpNo, class: Class) -> Result<(), NoMemory> {
+        let script = self.replay.script();
+        if o >= script.acts() {
+            return self.act(detail, o);
+        }
+        match self.replay.act(o).phase {
+            ActPhase::Running { class: running, .. } if running != class => {
+                detail.field("operation ", o as u64)?;
+                detail.words(" runs ")?;
+                detail.words(class_words(running))?;
+                detail.words(", and the act stands in ")?;
+                detail.words(class_words(class))
+            }
+            ActPhase::Running { .. } => {
+                detail.field("in the body of operation ", o as u64)?;
+                detail.words(" ")?;
+                self.next_call(detail, script.branch(o, class))
+            }
+            _ => {
+                detail.words("the act stands in the body of an operation that doesn't run: ")?;
+                self.act(detail, o)
+            }
+        }
+    }
+}
+
+fn comes_next(detail: &mut Detail, n: ActNo) -> Result<(), NoMemory> {
+    detail.field("act ", n as u64)?;
+    detail.words(" is called next")
+}

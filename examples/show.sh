@@ -1,0 +1,99 @@
+#!/usr/bin/env bash
+# Runs asio_show: on each case of why.cases, where it has to say what is wanted, with the checker's status and first line; and on the
+# sessions that have a picture, which it has to draw. Pictures have to be well formed, a long one too, where python3 is there to parse
+# them; and how far it is, is said on a terminal alone. Ends with 'N passed, M failed'.
+set -u
+cd "$(dirname "$0")/.." || exit 1
+room=$(mktemp -d) || exit 1
+trap 'rm -rf "$room"' EXIT
+for program in asio_show asio_check; do
+  if ! install -m 755 "crates/$program/out/$program" "$room/$program"; then
+    echo "show: $program isn't built ('rt ci' builds it, and 'rt run' in its crate's folder)"
+    exit 1
+  fi
+done
+
+passed=0
+failed=0
+# Counts the test named $1, which ended with status $2.
+count() {
+  if [ "$2" = 0 ]; then
+    passed=$((passed + 1))
+  else
+    failed=$((failed + 1))
+    echo "show: $1 fails"
+  fi
+}
+
+# A case has three files in the room: its words, its input, and what is wanted.
+LC_ALL=C awk -v room="$room" '
+  part == "" && /^#/ { next }
+  part == "" { n++; part = "input"; print > (room "/" n ".words"); printf "" > (room "/" n ".input"); next }
+  part == "input" && /^==$/ { part = "wanted"; next }
+  part == "wanted" && /^====$/ { part = ""; close(room "/" n ".input"); close(room "/" n ".wanted"); next }
+  { print > (room "/" n "." part) }
+' examples/why.cases
+
+# Whether asio_show answers the case $1 as wanted, with the status and the first line of the checker; only its words are others.
+says() {
+  local words status
+  read -r -a words < "$room/$1.words"
+  "$room/asio_show" "${words[@]}" < "$room/$1.input" > "$room/said" 2>&1
+  status=$?
+  "$room/asio_check" "${words[@]:1}" < "$room/$1.input" > "$room/judged" 2>&1
+  [ "$?" = "$status" ] && cmp -s "$room/said" "$room/$1.wanted" || return 1
+  [ "$status" = 1 ] || [ "$(head -n 1 "$room/said" | sed 's/^asio_show:/asio_check:/')" = "$(cat "$room/judged")" ]
+}
+
+for words in "$room"/*.words; do
+  case=$(basename "$words" .words)
+  says "$case"
+  count "case $case of why.cases ($(sed -n 2p "$room/$case.wanted"))" $?
+done
+
+# Each condition of docs/LEGALITY.md has a case.
+sed -n '/^## The conditions by name/,/^## A session/s/^| `\([A-Za-z]*\)` | .*/\1/p' docs/LEGALITY.md > "$room/conditions"
+while read -r condition; do
+  grep -q "^rule: [A-Za-z ]*, $condition: " examples/why.cases
+  count "that the condition $condition has a case" $?
+done < "$room/conditions"
+
+# Whether the picture $1 is well formed, has a title and a description, and takes nothing from elsewhere; without a parser nothing is said.
+is_picture() {
+  command -v python3 > /dev/null || return 0
+  python3 - "$1" <<'END'
+import sys, xml.etree.ElementTree as tree
+svg = "{http://www.w3.org/2000/svg}"
+root = tree.parse(sys.argv[1]).getroot()
+parts = {part.tag for part in root.iter()}
+named = all(root.find(svg + part) is not None for part in ("title", "desc"))
+links = any(name.endswith(("href", "src")) for part in root.iter() for name in part.attrib)
+sys.exit(0 if root.tag == svg + "svg" and named and not links and svg + "script" not in parts else 1)
+END
+}
+command -v python3 > /dev/null || echo "show: python3 is missing, so nothing looks whether pictures are well formed"
+
+for picture in examples/*.svg; do
+  session=${picture%.svg}
+  { cat "$session.session"; echo "--"; cat "$session.trace"; } > "$room/input"
+  "$room/asio_show" picture < "$room/input" > "$room/drawn" && cmp -s "$room/drawn" "$picture" && is_picture "$room/drawn"
+  count "$picture" $?
+done
+
+# A trace of 25,601 lines, and the same with a line that is illegal behind it.
+awk -f examples/long_check.awk > "$room/long"
+"$room/asio_show" picture < "$room/long" > "$room/drawn" 2> "$room/notes" && is_picture "$room/drawn" && [ ! -s "$room/notes" ]
+count "the picture of a long trace" $?
+echo "ended" >> "$room/long"
+"$room/asio_show" picture < "$room/long" > "$room/drawn" 2> "$room/notes"
+[ "$?" = 8 ] && is_picture "$room/drawn" && grep -q "illegal at line 25602" "$room/drawn" && [ ! -s "$room/notes" ]
+count "the picture of a long trace that is illegal" $?
+if command -v script > /dev/null; then
+  script -qec "'$room/asio_show' picture < '$room/long' > '$room/drawn'" /dev/null < /dev/null > "$room/notes"
+  grep -q "% drawn" "$room/notes"
+  count "that a terminal gets how far it is" $?
+else
+  echo "show: script is missing, so nothing looks whether a terminal gets how far it is"
+fi
+echo "show: $passed passed, $failed failed"
+[ "$failed" = 0 ]
