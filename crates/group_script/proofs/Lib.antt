@@ -1,0 +1,12 @@
+pub mod SpanLemmas
+pub mod OthersLemmas
+pub mod HeldLemmas
+pub mod PhaseLemmas
+pub mod AskedLemmas
+pub mod EmitLemmas
+pub mod NextLemmas
+pub mod AbortingLemmas
+pub mod FlowsLemmas
+pub mod PlacedLemmas
+pub mod WellMadeLemmas
+pub mod ShortLemmas

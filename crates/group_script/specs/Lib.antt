@@ -1,0 +1,4 @@
+pub mod Group
+pub mod Limits
+pub mod Measure
+pub mod Aborting
