@@ -20,6 +20,7 @@ on_same opener =
       remembers = λ n. start_same _ _ refl;
       number = refl;
       draws = refl;
+      log = refl;
       stand = refl;
     }
 
@@ -29,6 +30,7 @@ on_and_on a b c first second =
       remembers = λ n. start_trans _ _ _ (first.remembers n) (second.remembers n);
       number = second.number ∙ first.number;
       draws = second.draws ∙ first.draws;
+      log = second.log ∙ first.log;
       stand = second.stand ∙ first.stand;
     }
 
@@ -43,6 +45,7 @@ on_heard script seat a b taken =
       remembers = met.remembers;
       number = met_number (copy_seat seat) a.pen.seat b.pen.seat met;
       draws = omega (arith, drawn);
+      log = taken.met.log;
       stand = taken.stand;
     }
 
@@ -51,7 +54,7 @@ own_on a b on =
     subst (λ n. StartOf (own a.pen.seat) (lists_of b.pen.seat n)) (sym on.number) (on.remembers a.pen.seat.number)
 
 -- what was heard stays so
-heard_on : (script : ScriptModel) (a b : OpenerView) (seat : SeatView) → HasGoneOn a b → IsHeard script a seat →
+pub heard_on : (script : ScriptModel) (a b : OpenerView) (seat : SeatView) → HasGoneOn a b → IsHeard script a seat →
     IsHeard script b seat
 heard_on script a b seat on is =
     record {
@@ -59,7 +62,7 @@ heard_on script a b seat on is =
       behind = start_trans _ _ _ is.behind (own_on a b on);
     }
 
-heard_now : (script : ScriptModel) (a b : OpenerView) (seat : SeatView) → HasTakenIn script seat a b →
+pub heard_now : (script : ScriptModel) (a b : OpenerView) (seat : SeatView) → HasTakenIn script seat a b →
     IsHeard script b seat
 heard_now script a b seat taken =
     record {
@@ -69,7 +72,7 @@ heard_now script a b seat taken =
       behind = start_trans _ _ _ taken.behind (own_on a b (on_heard script seat a b taken));
     }
 
-at_or_before : (k i : ℕ) → k < i + 1 → (k < i) ⊎ (k ≡ i)
+pub at_or_before : (k i : ℕ) → k < i + 1 → (k < i) ⊎ (k ≡ i)
 at_or_before k i less = elim (cases_lt k i) [
   | inl before ↦ inl before
   | inr behind ↦ inr (omega (arith, less, behind))
@@ -91,13 +94,13 @@ module _ {T : Type 0} (seat : T → SeatView) (script : ScriptModel) where
       subst (λ t. IsHeard script b (seat t)) it (heard_now script a b (seat one) taken))
       (at_or_before k i less)
 
-get_set_same : {T : Type 0} (xs : List T) (i : ℕ) (old new : T) → slice_get xs i ≡ Some old →
+pub get_set_same : {T : Type 0} (xs : List T) (i : ℕ) (old new : T) → slice_get xs i ≡ Some old →
     slice_get (set xs i new) i ≡ Some new
 get_set_same [] i old new is = absurd (cc is)
 get_set_same (x ∷ xs) zero old new is = refl
 get_set_same (x ∷ xs) (suc i) old new is = get_set_same xs i old new is
 
-get_set_other : {T : Type 0} (xs : List T) (i k : ℕ) (new : T) → k ≢ i → slice_get (set xs i new) k ≡ slice_get xs k
+pub get_set_other : {T : Type 0} (xs : List T) (i k : ℕ) (new : T) → k ≢ i → slice_get (set xs i new) k ≡ slice_get xs k
 get_set_other [] i k new ne = refl
 get_set_other (x ∷ xs) zero zero new ne = absurd (ne refl)
 get_set_other (x ∷ xs) zero (suc k) new ne = refl

@@ -4,7 +4,7 @@ use Rattle.std.proofs.lemmas.List.{append-nil}
 use Rattle.std.specs.Prelude.{◌&&◌, ◌||◌, ◌==◌, not, is_some, nat_lt, slice_get, slice_index, IsSome}
 use Rattle.std.proofs.lemmas.Bool.{cases_lt}
 use Rattle.std.proofs.lemmas.Option.{slice_get_past}
-use Rattle.std.specs.Option.{option_map, option_or}
+use Rattle.std.specs.Option.{option_map}
 use Rattle.op_handlers.specs.Marks.{Marks}
 use Rattle.session_script.specs.Lanes.{is_inline}
 use Rattle.session_script.specs.Script.{ScriptModel, is_op}
@@ -12,10 +12,9 @@ use Rattle.strand_core.specs.Answer.{CanExecute}
 use Rattle.strand_core.specs.Execution.{IsWholeExecution}
 use Rattle.strand_core.specs.Hands.{HasRunMark, Held, begins_among, held_at, left_at}
 use Rattle.strand_core.proofs.CallLemmas.{with_marks}
-use Rattle.lane_clock.specs.declared.found.Found.{Found}
 use Rattle.lane_clock.specs.declared.note.Note.{Note}
 use Rattle.lane_clock.specs.declared.step.ClockStep.{ClockStep}
-use Rattle.lane_clock.specs.declared.step.ClockStep.TheVariants.{Load, Look}
+use Rattle.lane_clock.specs.declared.step.ClockStep.TheVariants.{Look}
 use Rattle.lane_clock.specs.Seats.{ClockId, own}
 use Rattle.lane_map.specs.LaneNumbers.{cells_of, home_lane, is_op_on, lane_list, reactor_lane}
 use Rattle.lane_context.specs.declared.log.LogEntry.{LogEntry}
@@ -23,15 +22,14 @@ use Rattle.lane_context.specs.declared.one.One.{One}
 use Rattle.lane_context.specs.declared.one.One.TheVariants as one
 use Rattle.lane_context.specs.Batons.{HasRoom, HaveHands, IsHandlerBaton, IsLane, LaneView, opener_known}
 use Rattle.lane_context.specs.Labels.{AreDrawn, silent, entries_in, events_in}
-use Rattle.lane_context.specs.LaneLog.{AreParts, entries_after, has_begun}
+use Rattle.lane_context.specs.LaneLog.{AreParts, has_begun}
 use Rattle.lane_context.specs.Names.{IsNamedMark, SessionNames}
-use Rattle.lane_context.specs.Parts.{ExecutedPart, Part, executed, failed, idle, missing, turned, are_broken, labels_in, next_place}
-use Rattle.lane_context.specs.Pens.{HasGone}
-use Rattle.lane_context.specs.Polling.{CameTo, FoundNone, MissedNext, RanNext, StoppedNext, left_labels, missed_too, with_pen}
+use Rattle.lane_context.specs.Parts.{ExecutedPart, Part, executed, failed, idle, missing, turned, are_broken, labels_in}
+use Rattle.lane_context.specs.Polling.{CameTo, FoundNone, MissedNext, RanNext, StoppedNext, missed_too}
 use Rattle.lane_context.specs.SeatNumbers.{opener_seat}
 use Rattle.lane_context.proofs.DrawnLemmas.{begun-append, drawn_begun, drawn_quiet}
-use Rattle.lane_context.proofs.LaneLogLemmas.{found_going, lane_goes_on, part_log, parts_log}
-use Rattle.lane_context.proofs.LaneStepLemmas.{lane_left, lane_looked, or_none}
+use Rattle.lane_context.proofs.LaneLogLemmas.{found_going, lane_goes_on, part_log}
+use Rattle.lane_context.proofs.LaneStepLemmas.{lane_left, lane_looked, lane_missed, or_none}
 
 -- what stays where nothing was shown
 same_hands : {H : Type 0} (names : SessionNames) (marks : H → Marks) (lane : ℕ) (before after : List LogEntry)
@@ -167,53 +165,24 @@ module _ {H : Type 0} (names : SessionNames) (marks : H → Marks) (clock : Cloc
         room = room;
       }
 
-  -- the first miss is a part of its own, a later one a look
-  after_miss : (op : ℕ) (note : Note) (load : Found) (missed : Option ℕ) → old.missed ≡ missed → note.op ≡ op →
-      (CanExecute held op → ⊥) → HasGone (left_labels old.lane old.place note load) old.pen new.pen →
-      IsLane names clock (missed_too old new.pen op)
-  after_miss op note load None none it cannot gone =
-      lane_goes_on names clock old (left_labels old.lane old.place note load) new.pen old.place
-      (option_or old.missed (Some op)) is.is_lane gone refl
-      (parts_log names opener old.lane (own old.pen.seat) old.pen.log old.missed (option_or old.missed (Some op))
-      (option_or old.missed (Some op)) is.is_lane.log (missing old.place note) (idle (Load load))
-      record {
-        first = sym is.is_lane.log.first ∙ none;
-        working = never_broken names opener old.lane is.strand is.is_lane.log.parts is.is_lane.log.are;
-        next = is.is_lane.next;
-        no_handler =
-            λ strand.
-            none_to_execute (is_op_on names.script old.lane note.op) (is_inline names.script note.op)
-            (has_begun note.op (events_in (entries_after names opener old.lane is.is_lane.log.parts)))
-            (held_at held note.op)
-            (is.hold.held note.op
-            ∙ ap (λ (log : List LogEntry). is_op_on names.script old.lane note.op && not (has_begun note.op (events_in log)))
-            is.is_lane.log.shown)
-            (λ can.
-            cannot
-            (subst (CanExecute held) it
-            (can.0, ap (λ (s : ScriptModel). is_inline s note.op) is.hold.script ∙ can.1)));
-        no_request = λ same. absurd (omega (arith, same, is.strand));
-      }
-      (ap (λ n. option_or old.missed (Some n)) (sym it)) tt (or_none (option_or old.missed (Some op))))
-      (let e : next_place is.is_lane.log.parts ≡ next_place is.is_lane.log.parts + 0 + 0 = omega arith in
-      is.is_lane.next ∙ e)
-  after_miss op note load (Some first) some it cannot gone =
-      lane_goes_on names clock old (left_labels old.lane old.place note load) new.pen old.place
-      (option_or old.missed (Some op)) is.is_lane gone refl
-      (parts_log names opener old.lane (own old.pen.seat) old.pen.log old.missed old.missed
-      (option_or old.missed (Some op)) is.is_lane.log (idle (Look old.lane old.place (Some note))) (idle (Load load))
-      (refl, is.is_lane.next) (or_none old.missed) tt
-      (ap (λ m. option_or m (Some op)) some ∙ sym some ∙ or_none old.missed))
-      (let e : next_place is.is_lane.log.parts ≡ next_place is.is_lane.log.parts + 0 + 0 = omega arith in
-      is.is_lane.next ∙ e)
-
   missed_after : (op : ℕ) → HasRoom left new.pen → MissedNext op old new held left →
       IsHandlerBaton names marks clock (record { lane = new; hands = left })
   missed_after op room missed =
+      let note : Note = missed.note in
       record {
         is_lane =
-            subst (IsLane names clock) (sym missed.moved)
-            (after_miss op missed.note missed.load old.missed refl missed.it missed.cannot missed.gone);
+            subst (IsLane names clock)
+            (ap (missed_too old new.pen) missed.it ∙ sym missed.moved)
+            (lane_missed names clock old is.is_lane new.pen note
+            (never_broken names opener old.lane is.strand is.is_lane.log.parts is.is_lane.log.are)
+            (λ strand.
+            none_to_execute (is_op_on names.script old.lane note.op) (is_inline names.script note.op)
+            (has_begun note.op (events_in old.pen.log)) (held_at held note.op) (is.hold.held note.op)
+            (λ can.
+            missed.cannot
+            (subst (CanExecute held) missed.it
+            (can.0, ap (λ (s : ScriptModel). is_inline s note.op) is.hold.script ∙ can.1))))
+            (λ same. absurd (omega (arith, same, is.strand))) missed.gone);
         strand = subst (λ (v : LaneView). v.lane < reactor_lane names.script) (sym missed.moved) is.strand;
         hold =
             same_hands names marks new.lane old.pen.log new.pen.log held left

@@ -32,7 +32,7 @@ pub at_start : (xs all : List ClockStep) (i : ℕ) (step : ClockStep) → StartO
 at_start xs all i step start is =
     subst (λ ys. get_elem? ys i ≡ some step) (sym start.1) (at_front xs start.0 i step is)
 
-at_back : (xs ys : List ClockStep) (i : ℕ) → get_elem? (xs ++ ys) (length xs + i) ≡ get_elem? ys i
+pub at_back : (xs ys : List ClockStep) (i : ℕ) → get_elem? (xs ++ ys) (length xs + i) ≡ get_elem? ys i
 at_back [] ys i = let none : 0 + i ≡ i = omega arith in ap (get_elem? ys) none
 at_back (x ∷ xs) ys i =
     let e : length (x ∷ xs) + i ≡ suc (length xs + i) = omega arith in

@@ -19,7 +19,7 @@ use Rattle.lane_context.proofs.OpenerEventLemmas.{looks_quiet}
 use Rattle.lane_context.proofs.PenLemmas.{steps-append}
 use Rattle.lane_context.proofs.SteppingLemmas.{stepped_known, stepped_number}
 
-pub drawn_last : (labels : List Labelled) (shown : Event) (changes : Change) (found : Found) (old new : PenView) →
+abbrev pub drawn_last : (labels : List Labelled) (shown : Event) (changes : Change) (found : Found) (old new : PenView) →
     ((n : ℕ) → joined_count n (steps_in labels) ≡ 0) → HasGone (labels ++ shows shown changes found ∷ []) old new →
     HasDrawnLast old.seat new.seat
 drawn_last labels shown changes found old new quiet gone =
@@ -38,7 +38,7 @@ drawn_last labels shown changes found old new quiet gone =
     }
 
 -- a closing
-pub closing_last : (found drawn : Found) (looks : List Looked) (shown : Closing) (old new : PenView) →
+abbrev pub closing_last : (found drawn : Found) (looks : List Looked) (shown : Closing) (old new : PenView) →
     HasGone (closing_labels found looks shown drawn) old new → HasDrawnLast old.seat new.seat
 closing_last found drawn looks shown old new gone =
     drawn_last (weighing_labels found looks) (closing_event shown) (closing_change (closing_event shown)) drawn old new

@@ -1,7 +1,6 @@
 -- What completes in a turn of the reactor is told, one after another.
-use Rattle.std.proofs.Common.{◌≡◌, ℕ, ◌+◌, ◌<◌, ◌≤◌, Bool, true, false, List, [], ◌∷◌, ◌++◌, Option, inl, inr, length, refl, sym, ap, subst, ◌∙◌, arith}
+use Rattle.std.proofs.Common.{◌≡◌, ℕ, ◌<◌, Bool, true, false, List, [], ◌++◌, Option, inl, inr, length, refl, sym, ap, subst, ◌∙◌, arith}
 use Rattle.std.specs.Prelude.{IsTrue, ◌==◌}
-use Rattle.std.specs.List.{slice_index_or}
 use Rattle.std.proofs.lemmas.Bool.{cases_Bool, cases_lt, eq-eqb}
 use Rattle.std.proofs.lemmas.List.{append-nil, append_assoc, get_or_past}
 use Rattle.asio_types.specs.declared.code.Code.{Code}
@@ -12,21 +11,17 @@ use Rattle.history_rules.specs.State.{ReactorHalf}
 use Rattle.reactor_trait.specs.Reactor.{Outside, ReactorState}
 use Rattle.proactor_core.specs.Proactor.{Follows, IsSound, ProactorView, tells}
 use Rattle.reactor_turns.specs.Ahead.{IsHalfOf, LeavesRoom, events_ahead}
-use Rattle.reactor_turns.specs.Standing.{stands}
 use Rattle.reactor_turns.proofs.AheadLemmas.{done_leaves}
 use Rattle.reactor_turns.proofs.ClockLemmas.{time-done}
 use Rattle.reactor_turns.proofs.StandingLemmas.{stands-done}
 use Rattle.reactor_turns.proofs.SummingLemmas.{one_if}
-use Rattle.lane_clock.specs.declared.found.Found.{Found}
-use Rattle.lane_clock.specs.declared.note.Note.{Note}
-use Rattle.lane_clock.specs.Steps.{draw_count, place_count, step_count}
 use Rattle.lane_context.specs.Half.{half_from}
-use Rattle.lane_context.specs.Labels.{Labelled, entries_in, steps_in}
+use Rattle.lane_context.specs.Labels.{Labelled, entries_in}
 use Rattle.lane_context.specs.Names.{SessionNames}
 use Rattle.lane_context.specs.Pens.{HasGone, MayGo, PenView}
 use Rattle.lane_context.specs.ReactorTurns.{AreTold, none_told, one_told, done_labels, done_note}
 use Rattle.lane_context.specs.Telling.{HasToldDone}
-use Rattle.lane_context.specs.Turning.{HasTold, HasTurnRoom, IsMidTurn, log_half}
+use Rattle.lane_context.specs.Turning.{HasTold, IsMidTurn, log_half}
 use Rattle.lane_context.proofs.HalfLemmas.{done_draws, done_entries, done_half, done_places, half-append, log_on, room_on}
 use Rattle.lane_context.proofs.PenLemmas.{entries-append, gone_nowhere, gone_on, may_go_less}
 

@@ -1,7 +1,6 @@
 -- The reactor's half to which a log leads, entry by entry, and the room for what may still be shown.
-use Rattle.std.proofs.Common.{◌≡◌, ℕ, ◌+◌, ◌≤◌, Bool, List, [], ◌∷◌, ◌++◌, length, refl, sym, ap, ◌∙◌, arith}
+use Rattle.std.proofs.Common.{◌≡◌, ℕ, ◌+◌, ◌≤◌, Bool, List, [], ◌∷◌, ◌++◌, length, refl, ap, ◌∙◌, arith}
 use Rattle.std.specs.Prelude.{nat_lt, slice_index}
-use Rattle.std.proofs.lemmas.List.{append-nil}
 use Rattle.asio_types.specs.declared.code.Code.{Code}
 use Rattle.asio_types.specs.declared.event.Event.{Event}
 use Rattle.asio_types.specs.declared.event.Event.TheVariants as event
@@ -16,7 +15,7 @@ use Rattle.lane_clock.specs.Steps.{draw_count, place_count, step_count}
 use Rattle.lane_map.specs.LaneNumbers.{cells_of, home_lane}
 use Rattle.lane_context.specs.declared.log.LogEntry.{LogEntry}
 use Rattle.lane_context.specs.Half.{half_from}
-use Rattle.lane_context.specs.Labels.{Labelled, shows, entries_in, put_within, steps_in}
+use Rattle.lane_context.specs.Labels.{Labelled, shows, entries_in, steps_in}
 use Rattle.lane_context.specs.Names.{SessionNames}
 use Rattle.lane_context.specs.Pens.{HasGone, PenView}
 use Rattle.lane_context.specs.ReactorTurns.{done_labels, done_note}

@@ -1,5 +1,5 @@
 -- A lane after looks and loads that led to nothing.
-use Rattle.std.proofs.Common.{◌≡◌, ℕ, ◌+◌, Bool, true, false, cond, List, [], ◌∷◌, ◌++◌, Option, Some, None, refl, ◌∙◌, arith}
+use Rattle.std.proofs.Common.{◌≡◌, ℕ, ◌+◌, ◌<◌, Bool, true, false, cond, List, [], ◌∷◌, ◌++◌, Option, Some, None, refl, sym, ap, subst, ◌∙◌, arith}
 use Rattle.std.specs.Option.{option_or}
 use Rattle.std.proofs.lemmas.List.{append-nil}
 use Rattle.lane_clock.specs.declared.found.Found.{Found}
@@ -7,12 +7,17 @@ use Rattle.lane_clock.specs.declared.note.Note.{Note}
 use Rattle.lane_clock.specs.declared.step.ClockStep.{ClockStep}
 use Rattle.lane_clock.specs.declared.step.ClockStep.TheVariants.{Load, Look}
 use Rattle.lane_clock.specs.Seats.{ClockId, own}
+use Rattle.lane_map.specs.LaneNumbers.{reactor_lane}
 use Rattle.lane_context.specs.Batons.{IsLane, LaneView, opener_known}
+use Rattle.lane_context.specs.Half.{half_of}
 use Rattle.lane_context.specs.Labels.{silent}
+use Rattle.lane_context.specs.LaneLog.{may_execute}
 use Rattle.lane_context.specs.Names.{SessionNames}
-use Rattle.lane_context.specs.Parts.{idle, next_place}
+use Rattle.lane_context.specs.Parts.{are_broken, idle, looks_full, missing, next_place}
 use Rattle.lane_context.specs.Pens.{HasGone, PenView}
-use Rattle.lane_context.specs.Polling.{left_labels, with_pen}
+use Rattle.lane_context.specs.Polling.{left_labels, missed_too, with_pen}
+use Rattle.lane_context.specs.ReactorTurns.{may_take}
+use Rattle.lane_context.specs.Turning.{log_half}
 use Rattle.lane_context.proofs.LaneLogLemmas.{lane_goes_on, part_log, parts_log}
 
 pub or_none : (missed : Option ℕ) → missed ≡ option_or missed None
@@ -76,3 +81,36 @@ module _ (names : SessionNames) (clock : ClockId) (old : LaneView) (is : IsLane 
       (parts_log names opener old.lane (own old.pen.seat) old.pen.log old.missed old.missed old.missed is.log
       (idle (Look old.lane old.place (Some note))) (idle (Load load)) (refl, is.next) (or_none old.missed) tt
       (or_none old.missed)) still_next_twice
+
+  -- after a look that saw what the lane doesn't have: the first is a part of its own, a later one a look
+  module _ (note : Note) (working : are_broken is.log.parts ≡ false)
+      (no_handler : old.lane < reactor_lane names.script → may_execute names old.lane old.pen.log note.op ≡ false)
+      (no_request : old.lane ≡ reactor_lane names.script →
+      may_take names.script (log_half names old.pen.log) note.op ≡ false)
+      (gone : HasGone (looks_full old.lane old.place note) old.pen pen) where
+    by_first : (missed : Option ℕ) → old.missed ≡ missed → IsLane names clock (missed_too old pen note.op)
+    by_first None none =
+        lane_goes_on names clock old (looks_full old.lane old.place note) pen old.place
+        (option_or old.missed (Some note.op)) is gone refl
+        (part_log names opener old.lane (own old.pen.seat) old.pen.log old.missed (option_or old.missed (Some note.op))
+        is.log (missing old.place note)
+        record {
+          first = sym is.log.first ∙ none;
+          working = working;
+          next = is.next;
+          no_handler = λ strand.
+              subst (λ log. may_execute names old.lane log note.op ≡ false) is.log.shown (no_handler strand);
+          no_request = λ same.
+              subst (λ log. may_take names.script (half_of names.script names.told log) note.op ≡ false) is.log.shown
+              (no_request same);
+        }
+        refl) still_next
+    by_first (Some first) some =
+        lane_goes_on names clock old (looks_full old.lane old.place note) pen old.place
+        (option_or old.missed (Some note.op)) is gone refl
+        (part_log names opener old.lane (own old.pen.seat) old.pen.log old.missed (option_or old.missed (Some note.op))
+        is.log (idle (Look old.lane old.place (Some note))) (refl, is.next)
+        (ap (λ m. option_or m (Some note.op)) some ∙ sym some ∙ or_none old.missed)) still_next
+
+    pub lane_missed : IsLane names clock (missed_too old pen note.op)
+    lane_missed = by_first old.missed refl

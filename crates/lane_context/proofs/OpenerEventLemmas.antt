@@ -39,16 +39,16 @@ pub looks_quiet : (n : ℕ) (looks : List Looked) → joined_count n (steps_in (
 looks_quiet n [] = refl
 looks_quiet n (looked ∷ looks) = looks_quiet n looks
 
-closing_quiet : (n : ℕ) (found drawn : Found) (looks : List Looked) (closing : Closing) →
+pub closing_quiet : (n : ℕ) (found drawn : Found) (looks : List Looked) (closing : Closing) →
     joined_count n (steps_in (closing_labels found looks closing drawn)) ≡ 0
 closing_quiet n found drawn [] closing = refl
 closing_quiet n found drawn (looked ∷ looks) closing = closing_quiet n found drawn looks closing
 
-looks_entries : (looks : List Looked) (more : List Labelled) → entries_in (map look_label looks ++ more) ≡ entries_in more
+pub looks_entries : (looks : List Looked) (more : List Labelled) → entries_in (map look_label looks ++ more) ≡ entries_in more
 looks_entries [] more = refl
 looks_entries (looked ∷ looks) more = looks_entries looks more
 
-looks_draws : (looks : List Looked) (more : List Labelled) →
+pub looks_draws : (looks : List Looked) (more : List Labelled) →
     step_count draw_count (steps_in (map look_label looks ++ more)) ≡ step_count draw_count (steps_in more)
 looks_draws [] more = refl
 looks_draws (looked ∷ looks) more = omega (arith, looks_draws looks more)

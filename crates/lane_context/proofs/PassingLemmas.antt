@@ -1,5 +1,5 @@
 -- A time point to which the reactor passes.
-use Rattle.std.proofs.Common.{◌≡◌, ℕ, ◌≤◌, Bool, true, false, List, [], ◌∷◌, Option, Some, None, refl, sym, ap, subst, ◌∙◌, arith}
+use Rattle.std.proofs.Common.{◌≡◌, ℕ, ◌≤◌, Bool, true, false, [], ◌∷◌, Option, Some, refl, sym, ap, subst, ◌∙◌}
 use Rattle.std.specs.Prelude.{IfSome, IsTrue}
 use Rattle.asio_types.specs.Faults.{Rose}
 use Rattle.asio_types.specs.declared.outside.Point.{Point}

@@ -1,17 +1,15 @@
 -- An attempt at a lane, put together of what its steps are.
-use Rattle.std.proofs.Common.{◌≡◌, ◌≢◌, ℕ, ◌+◌, Bool, true, false, cond, List, [], ◌∷◌, Some, None, length, refl, sym, ap, subst, arith}
+use Rattle.std.proofs.Common.{◌≡◌, ◌≢◌, ℕ, ◌+◌, Bool, true, false, cond, List, [], ◌∷◌, Some, None, length, refl, ap, arith}
 use Rattle.std.specs.Option.{option_or}
 use Rattle.op_handlers.specs.Marks.{Marks}
-use Rattle.strand_core.specs.Answer.{CanExecute, IfMissing, IfWhole}
+use Rattle.strand_core.specs.Answer.{CanExecute}
 use Rattle.strand_core.specs.Hands.{HasRunMark, Held}
-use Rattle.strand_core.specs.declared.execution.Execution.{Execution}
-use Rattle.strand_core.specs.declared.execution.Execution.TheVariants as execution
 use Rattle.lane_clock.specs.declared.found.Found.{Found}
 use Rattle.lane_clock.specs.declared.note.Note.{Note}
 use Rattle.lane_clock.specs.declared.step.ClockStep.TheVariants.{Load, Look}
 use Rattle.lane_clock.specs.Steps.{draw_count, place_count, step_count}
 use Rattle.lane_context.specs.declared.lane.LaneStanding.{LaneStanding}
-use Rattle.lane_context.specs.Batons.{HasRoom, LaneView}
+use Rattle.lane_context.specs.Batons.{LaneView}
 use Rattle.lane_context.specs.Executing.{HasExecutedNoted}
 use Rattle.lane_context.specs.Labels.{Labelled, silent, entries_in, steps_in}
 use Rattle.lane_context.specs.Parts.{looks_full}
@@ -54,13 +52,18 @@ standing at pen = record {
   missed = at.missed;
 }
 
+pub seen_room : (lane place : ℕ) (note : Note) (n : ℕ) (a b : PenView) → HasGone (looks_full lane place note) a b →
+    MayGo a n n → MayGo b n n
+seen_room lane place note n a b gone may = quiet_room (looks_full lane place note) n a b refl refl refl gone may
+
 pub stopped_seen : {H : Type 0} (at : LaneStanding) (note : Note) (load : Found) (a c : PenView) (held : Held H) →
-    load.stops ≢ at.base → HasGone (left_labels at.lane at.place note load) a c →
+    CanExecute held note.op → load.stops ≢ at.base → HasGone (left_labels at.lane at.place note load) a c →
     StoppedNext (standing at a) (standing at c) held held
-stopped_seen at note load a c held differ gone =
+stopped_seen at note load a c held can differ gone =
     record {
       note = note;
       load = load;
+      can = can;
       stopped = differ;
       gone = gone;
       moved = refl;
@@ -95,30 +98,15 @@ ran_seen marks mark at to note load a b c d held left moved marked going seen lo
       script = script;
     }
 
-pub missed_seen : {H : Type 0} (op : ℕ) (at to : LaneStanding) (note : Note) (load : Found) (a c d : PenView)
-    (held left : Held H) → to ≡ record at { missed = option_or at.missed (Some op) } → op ≡ note.op →
-    load.stops ≡ at.base → (CanExecute held note.op → ⊥) → HasGone (left_labels at.lane at.place note load) a c →
-    d ≡ c → left ≡ held → MissedNext op (standing at a) (standing to d) held left
-missed_seen op at to note load a c d held left moved same going cannot gone pen hands =
+pub missed_seen : {H : Type 0} (at to : LaneStanding) (note : Note) (a b : PenView) (held : Held H) →
+    to ≡ record at { missed = option_or at.missed (Some note.op) } → (CanExecute held note.op → ⊥) →
+    HasGone (looks_full at.lane at.place note) a b → MissedNext note.op (standing at a) (standing to b) held held
+missed_seen at to note a b held moved cannot gone =
     record {
       note = note;
-      load = load;
-      it = sym same;
-      going = going;
-      cannot = λ can. cannot (subst (CanExecute held) same can);
-      gone = subst (λ (p : PenView). HasGone (left_labels at.lane at.place note load) a p) (sym pen) gone;
-      moved = ap (λ (s : LaneStanding). standing s d) moved;
-      same = hands;
+      it = refl;
+      cannot = cannot;
+      gone = gone;
+      moved = ap (λ (s : LaneStanding). standing s b) moved;
+      same = refl;
     }
-
-pub missed_room : {H : Type 0} (c d : PenView) (held left : Held H) → HasRoom held c → d ≡ c → left ≡ held →
-    HasRoom left d
-missed_room {H} c d held left room pen hands =
-    subst (λ (h : Held H). HasRoom h d) (sym hands) (subst (λ (p : PenView). HasRoom held p) (sym pen) room)
-
--- what holds of a whole execution, and of a miss
-pub whole_of : (came : Execution) (mark : ℕ) (P : ℕ → Type 0) → came ≡ execution.Whole mark → IfWhole came P → P mark
-whole_of came mark P same is = subst (λ (e : Execution). IfWhole e P) same is
-
-pub missing_of : (came : Execution) (op : ℕ) (P : ℕ → Type 0) → came ≡ execution.Missing op → IfMissing came P → P op
-missing_of came op P same is = subst (λ (e : Execution). IfMissing e P) same is

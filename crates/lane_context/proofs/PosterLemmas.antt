@@ -1,5 +1,5 @@
 -- A poster before and after one call.
-use Rattle.std.proofs.Common.{◌≡◌, ℕ, ◌+◌, ◌-◌, ◌<◌, List, [], ◌∷◌, ◌++◌, refl, sym, subst, ◌∙◌, arith}
+use Rattle.std.proofs.Common.{◌≡◌, ℕ, ◌+◌, ◌-◌, ◌<◌, ◌≤◌, List, [], ◌∷◌, ◌++◌, refl, sym, subst, ◌∙◌, arith}
 use Rattle.strand_core.specs.declared.posted.Posted.{Posted}
 use Rattle.lane_clock.specs.Seats.{ClockId}
 use Rattle.lane_context.specs.Pens.{HasDrawnCall, HasDrawnCalls, PenView}
@@ -40,3 +40,7 @@ takes_later inside now call pen made spare same drawn less rest taken =
 pub spare_less : (room count left more : ℕ) → left ≡ room → more ≡ count + 1 → count < room →
     room - count ≡ (left - more) + 1
 spare_less room count left more same longer within = omega (arith, same, longer, within)
+
+-- the room stays
+pub room_stays : (need old new : ℕ) → new ≡ old → need ≤ old → need ≤ new
+room_stays need old new same enough = omega (arith, same, enough)

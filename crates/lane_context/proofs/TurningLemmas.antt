@@ -1,5 +1,5 @@
 -- A turn of the reactor, put together of how it begins and how it ends.
-use Rattle.std.proofs.Common.{◌≡◌, ℕ, ◌+◌, ◌≤◌, Bool, true, false, List, [], ◌∷◌, ◌++◌, Option, refl, sym, ap, subst, ◌∙◌, arith}
+use Rattle.std.proofs.Common.{◌≡◌, ℕ, ◌≤◌, true, false, [], ◌∷◌, Option, refl, sym, ap, subst, ◌∙◌, arith}
 use Rattle.std.specs.Prelude.{IsTrue}
 use Rattle.asio_types.specs.Faults.{Rose}
 use Rattle.asio_types.specs.declared.event.Event.{Event}
@@ -19,11 +19,11 @@ use Rattle.lane_clock.specs.declared.found.Change.{Change}
 use Rattle.lane_clock.specs.declared.found.Change.TheVariants as change
 use Rattle.lane_clock.specs.declared.found.Found.{Found}
 use Rattle.lane_context.specs.Half.{half_from}
-use Rattle.lane_context.specs.Labels.{Labelled, shows, entries_in}
+use Rattle.lane_context.specs.Labels.{shows, entries_in}
 use Rattle.lane_context.specs.Names.{SessionNames}
 use Rattle.lane_context.specs.Parts.{fails, fault_label, tells as tells_all}
 use Rattle.lane_context.specs.Pens.{HasGone, MayGo, PenView}
-use Rattle.lane_context.specs.ReactorTurns.{AreAllTold, AreTold}
+use Rattle.lane_context.specs.ReactorTurns.{AreTold}
 use Rattle.lane_context.specs.Turning.{HasTold, HasTurned, HasTurnRoom, IsMidTurn, KeepsTurns, log_half}
 use Rattle.lane_context.proofs.HalfLemmas.{log_event, log_on, room_on}
 use Rattle.lane_context.proofs.PenLemmas.{gone_on, may_go_less}

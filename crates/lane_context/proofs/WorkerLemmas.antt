@@ -1,7 +1,7 @@
 -- A worker after it stops the context, reads the clock word, or takes in what the opener knew.
-use Rattle.std.proofs.Common.{◌≡◌, ◌≢◌, ⊎_elim, ℕ, ◌+◌, ◌≤◌, Bool, true, false, cond, zero, suc, List, [], ◌∷◌, ◌++◌, None, length, ne_eqb, refl, sym, ap, subst, ◌∙◌, arith}
+use Rattle.std.proofs.Common.{◌≡◌, ◌≢◌, ◌⊎◌, inl, inr, ⊎_elim, ℕ, ◌+◌, ◌≤◌, Bool, true, false, cond, zero, suc, List, [], ◌∷◌, ◌++◌, None, length, ne_eqb, refl, sym, ap, subst, ◌∙◌, arith}
 use Rattle.std.specs.Prelude.{◌&&◌, ◌==◌, not}
-use Rattle.std.proofs.lemmas.Bool.{eq-eqb}
+use Rattle.std.proofs.lemmas.Bool.{eq-eqb, eqb-true}
 use Rattle.std.proofs.lemmas.Bool.Decides.{eqb_tells}
 use Rattle.std.proofs.lemmas.List.{append-nil}
 use Rattle.asio_types.specs.declared.event.Event.TheVariants as event
@@ -19,16 +19,16 @@ use Rattle.lane_context.specs.declared.standing.RoundNow.{RoundNow}
 use Rattle.lane_context.specs.Batons.{opener_known}
 use Rattle.lane_context.specs.Knowing.{joined_count}
 use Rattle.lane_context.specs.Labels.{shows, silent, entries_in, steps_in}
-use Rattle.lane_context.specs.Meeting.{PenHasMet}
+use Rattle.lane_context.specs.Meeting.{PenHasMet, lists_of}
 use Rattle.lane_context.specs.Openers.{round_after}
 use Rattle.lane_context.specs.Pens.{HasGone, MayGo, PenView}
 use Rattle.lane_context.specs.SeatNumbers.{opener_seat}
-use Rattle.lane_context.specs.Stand.{Stand, after_draw, after_opening_draw, is_round_open, shut, stand_from, stand_of, wants_restart}
+use Rattle.lane_context.specs.Stand.{Stand, after_draw, after_opening_draw, base_of, is_round_open, shut, stand_from, stand_of, wants_restart}
 use Rattle.lane_context.specs.WorkerLog.{AreWorkerParts, MayFollowStopped, WorkerPart, waiting, stopped, labels_of_worker, stand_known, stops_drawn, worker_label}
-use Rattle.lane_context.specs.Workers.{IsWorker, WorkerView, in_new_round, may_draw_stop}
+use Rattle.lane_context.specs.Workers.{IsInStep, IsWorker, WorkerView, heard_round, in_new_round, may_draw_stop}
 use Rattle.lane_context.proofs.GrowingLemmas.{take_start}
 use Rattle.lane_context.proofs.LaneMeetingLemmas.{knows_opener}
-use Rattle.lane_context.proofs.MeetingLemmas.{joined_less, met_clock, met_known, met_number}
+use Rattle.lane_context.proofs.MeetingLemmas.{copied_steps, joined_less, met_clock, met_either, met_known, met_number}
 use Rattle.lane_context.proofs.OpenerLemmas.{stand_from-append}
 use Rattle.lane_context.proofs.PenLemmas.{entries-append, gone_clock, step_count-append, steps-append}
 use Rattle.lane_context.proofs.StandLemmas.{open_stand}
@@ -64,7 +64,7 @@ closings_rise script (Join taken ∷ steps) stand = closings_rise script steps s
 
 -- a worker's log stays one where more of the opener's steps are known
 module _ (script : ScriptModel) (opener longer : List ClockStep) (more : StartOf opener longer) where
-  abbrev Knows : List WorkerPart → Type 0
+  abbrev pub Knows : List WorkerPart → Type 0
   Knows parts = joined_count (opener_seat script) (steps_in (labels_of_worker parts)) ≤ length opener
 
   same_stand : (parts : List WorkerPart) → Knows parts →
@@ -80,7 +80,7 @@ module _ (script : ScriptModel) (opener longer : List ClockStep) (more : StartOf
         once = omega (arith, is.once, ap (λ (s : Stand). s.closings) (same_stand parts knows));
       }
 
-  still_worker : (parts : List WorkerPart) → Knows parts → AreWorkerParts script opener parts →
+  pub still_worker : (parts : List WorkerPart) → Knows parts → AreWorkerParts script opener parts →
       AreWorkerParts script longer parts
   still_worker [] knows are = tt
   still_worker (part ∷ parts) knows are =
@@ -125,14 +125,20 @@ module _ (script : ScriptModel) (clock : ClockId) (old : WorkerView) (is : IsWor
 
     opened : is_round_open script (stand_of script opener) ≡ true
     opened =
+        let going = (no_stop old.drew (old.round.base == shut) may).1 in
+        ⊎_elim
+        (λ (closed : old.round.base ≡ shut). absurd (cc (sym (eq-eqb old.round.base shut closed), going)))
+        (λ (same : old.round.base ≡ base_of script opener).
         open_by (is_round_open script (stand_of script opener)) (stand_of script opener).base
-        (ap (λ (r : RoundNow). r.base == shut) (sym is.round_is) ∙ (no_stop old.drew (old.round.base == shut) may).1)
+        (ap (λ b. b == shut) (sym same) ∙ going))
+        is.in_step.base_is
+
+    few_now : stops_drawn is.log.parts ≤ old.round.closings
+    few_now =
+        subst (λ b. stops_drawn is.log.parts ≤ cond b (old.round.closings + 1) old.round.closings) drew_none is.few
 
     once : stops_drawn is.log.parts ≤ (stand_of script opener).closings
-    once =
-        let few : stops_drawn is.log.parts ≤ old.round.closings =
-        subst (λ b. stops_drawn is.log.parts ≤ cond b (old.round.closings + 1) old.round.closings) drew_none is.few in
-        omega (arith, few, ap (λ (r : RoundNow). r.closings) is.round_is)
+    once = omega (arith, few_now, is.in_step.closed)
 
     pub stop_room : MayGo old.pen 1 0
     stop_room =
@@ -186,7 +192,9 @@ module _ (script : ScriptModel) (clock : ClockId) (old : WorkerView) (is : IsWor
               ap (joined_count (opener_seat script)) gone.steps
               ∙ joined_on (opener_seat script) (own old.pen.seat) (steps_in (worker_label part ∷ [])) quiet ∙ is.known
               ∙ ap length (sym knows);
-          round_is = same ∙ is.round_is ∙ ap (round_after script) (sym knows);
+          in_step =
+              subst (λ (now : RoundNow). IsInStep script (opener_known script pen.seat) now) (sym same)
+              (subst (λ steps. IsInStep script steps old.round) (sym knows) is.in_step);
           few = few;
           room = room;
           draws = draws;
@@ -205,7 +213,7 @@ module _ (script : ScriptModel) (clock : ClockId) (old : WorkerView) (is : IsWor
         round = ap (is_round_open script) stands ∙ opened may;
         once = omega (arith, once may, ap (λ (s : Stand). s.closings) stands);
       }
-      old.round true true refl (omega (arith, once may, ap (λ (r : RoundNow). r.closings) is.round_is))
+      old.round true true refl (omega (arith, few_now may))
       (omega (arith, is.room, gone.room)) (omega (arith, drawn, is.draws)) (omega (arith, placed, is.places))
 
   pub worker_read : (pen : PenView) (found : Found) → HasGone (silent (Load found) ∷ []) old.pen pen →
@@ -224,7 +232,7 @@ module _ (script : ScriptModel) (clock : ClockId) (old : WorkerView) (is : IsWor
         owns = is.owns;
         log = is.log;
         known = is.known;
-        round_is = is.round_is;
+        in_step = is.in_step;
         few = is.few;
         room = is.room;
         draws = is.draws;
@@ -232,41 +240,15 @@ module _ (script : ScriptModel) (clock : ClockId) (old : WorkerView) (is : IsWor
         short = is.short;
       }
 
-  -- the worker took in what the opener knew
-  module _ (other : SeatView) (pen : PenView) (number : other.number ≡ opener_seat script)
-      (met : PenHasMet (copy_seat other) old.pen pen) (behind : StartOf opener (own other)) where
-    learned : opener_known script pen.seat ≡ own other
-    learned = knows_opener script other old.pen.seat pen.seat number apart met.met behind
-
+  -- the worker took in what another seat knew
+  module _ (other : SeatView) (pen : PenView) (met : PenHasMet (copy_seat other) old.pen pen) where
     more : StartOf opener (opener_known script pen.seat)
     more = met.met.remembers (opener_seat script)
 
-    later : old.round.closings ≤ (stand_of script (own other)).closings
-    later =
-        let on : (stand_of script opener).closings ≤ (stand_from script (stand_of script opener) behind.0).closings =
-        closings_rise script behind.0 (stand_of script opener) in
-        let same : stand_of script (own other) ≡ stand_from script (stand_of script opener) behind.0 =
-        ap (stand_of script) behind.1 ∙ stand_from-append script _ opener behind.0 in
-        omega (
-          arith,
-          on,
-          ap (λ (s : Stand). s.closings) same,
-          ap (λ (r : RoundNow). r.closings) is.round_is,
-        )
-
-    few_by : (drew : Bool) (a b n : ℕ) → a ≤ b → n ≤ cond drew (a + 1) a →
-        n ≤ cond (drew && (a == b)) (b + 1) b
-    few_by false a b n less few = omega (arith, less, few)
-    few_by true a b n less few =
-        ⊎_elim
-        (λ (same : ((a == b) ≡ true) × (a ≡ b)).
-        subst (λ t. n ≤ cond t (b + 1) b) (sym same.0) (omega (arith, few, same.1)))
-        (λ (differ : ((a == b) ≡ false) × (a ≢ b)).
-        subst (λ t. n ≤ cond t (b + 1) b) (sym differ.0) (omega (arith, few, less, differ.1)))
-        (eqb_tells a b)
-
-    pub worker_meets : IsWorker script clock (in_new_round old pen (round_after script (own other)))
-    worker_meets =
+    takes_in : (round : RoundNow) (drew was_stopped : Bool) → IsInStep script (opener_known script pen.seat) round →
+        stops_drawn is.log.parts ≤ cond drew (round.closings + 1) round.closings →
+        IsWorker script clock (record { pen = pen; round = round; drew = drew; stopped = was_stopped })
+    takes_in round drew was_stopped in_step few =
         let taken : List ℕ = counts (copy_seat other).known in
         let part : WorkerPart = waiting (Join taken) in
         let drawn = ap (step_count draw_count) met.met.steps ∙ step_count-append draw_count (own old.pen.seat) _ in
@@ -296,12 +278,86 @@ module _ (script : ScriptModel) (clock : ClockId) (old : WorkerView) (is : IsWor
           };
           known =
               met_known _ old.pen.seat pen.seat met.met (opener_seat script) (λ e. apart (sym e)) is.known;
-          round_is = ap (round_after script) (sym learned);
-          few =
-              few_by old.drew old.round.closings (stand_of script (own other)).closings (stops_drawn is.log.parts)
-              later is.few;
+          in_step = in_step;
+          few = few;
           room = omega (arith, is.room, met.room);
           draws = omega (arith, drawn, is.draws);
           places = omega (arith, placed, is.places);
           short = is.short;
         }
+
+    later : old.round.closings ≤ (stand_of script (opener_known script pen.seat)).closings
+    later =
+        let on : (stand_of script opener).closings ≤ (stand_from script (stand_of script opener) more.0).closings =
+        closings_rise script more.0 (stand_of script opener) in
+        let same : stand_of script (opener_known script pen.seat) ≡ stand_from script (stand_of script opener) more.0 =
+        ap (stand_of script) more.1 ∙ stand_from-append script _ opener more.0 in
+        omega (
+          arith,
+          on,
+          ap (λ (s : Stand). s.closings) same,
+          is.in_step.closed,
+        )
+
+    -- where it was a lane's, it counts as open no more than both did
+    module _ (base : ℕ) (base_is : base ≡ base_of script (opener_known script other)) where
+      kept : base ≡ old.round.base →
+          (old.round.base ≡ shut) ⊎ (old.round.base ≡ base_of script (opener_known script pen.seat))
+      kept same =
+          ⊎_elim
+          (λ (mine : opener_known script pen.seat ≡ opener).
+          subst (λ steps. (old.round.base ≡ shut) ⊎ (old.round.base ≡ base_of script steps)) (sym mine)
+          is.in_step.base_is)
+          (λ (told : opener_known script pen.seat ≡ lists_of (copy_seat other) (opener_seat script)).
+          inr (sym same ∙ base_is
+          ∙ ap (base_of script) (sym (told ∙ copied_steps other.known (opener_seat script)))))
+          (met_either (copy_seat other) old.pen.seat pen.seat met.met (opener_seat script) (λ e. apart (sym e)))
+
+      heard_by : (b : Bool) → (b ≡ true → base ≡ old.round.base) →
+          IsInStep script (opener_known script pen.seat) (cond b old.round (record old.round { base = shut }))
+      heard_by true same = record { base_is = kept (same refl); closed = later }
+      heard_by false same = record { base_is = inl refl; closed = later }
+
+      few_heard : (b : Bool) →
+          stops_drawn is.log.parts
+          ≤ cond old.drew ((cond b old.round (record old.round { base = shut })).closings + 1)
+          (cond b old.round (record old.round { base = shut })).closings
+      few_heard true = is.few
+      few_heard false = is.few
+
+      pub worker_hears : IsWorker script clock (record {
+        pen = pen;
+        round = heard_round old.round base;
+        drew = old.drew;
+        stopped = old.stopped;
+      })
+      worker_hears =
+          takes_in (heard_round old.round base) old.drew old.stopped
+          (heard_by (base == old.round.base) (eqb-true base old.round.base)) (few_heard (base == old.round.base))
+
+  -- the worker took in what the opener knew
+  module _ (other : SeatView) (pen : PenView) (number : other.number ≡ opener_seat script)
+      (met : PenHasMet (copy_seat other) old.pen pen) (behind : StartOf opener (own other)) where
+    learned : opener_known script pen.seat ≡ own other
+    learned = knows_opener script other old.pen.seat pen.seat number apart met.met behind
+
+    few_by : (drew : Bool) (a b n : ℕ) → a ≤ b → n ≤ cond drew (a + 1) a →
+        n ≤ cond (drew && (a == b)) (b + 1) b
+    few_by false a b n less few = omega (arith, less, few)
+    few_by true a b n less few =
+        ⊎_elim
+        (λ (same : ((a == b) ≡ true) × (a ≡ b)).
+        subst (λ t. n ≤ cond t (b + 1) b) (sym same.0) (omega (arith, few, same.1)))
+        (λ (differ : ((a == b) ≡ false) × (a ≢ b)).
+        subst (λ t. n ≤ cond t (b + 1) b) (sym differ.0) (omega (arith, few, less, differ.1)))
+        (eqb_tells a b)
+
+    pub worker_meets : IsWorker script clock (in_new_round old pen (round_after script (own other)))
+    worker_meets =
+        takes_in other pen met (round_after script (own other)) _ _
+        (record {
+          base_is = inr (ap (base_of script) (sym learned));
+          closed = omega (arith, ap (λ steps. (stand_of script steps).closings) learned);
+        })
+        (few_by old.drew old.round.closings (stand_of script (own other)).closings (stops_drawn is.log.parts)
+        (omega (arith, later other pen met, ap (λ steps. (stand_of script steps).closings) learned)) is.few)

@@ -19,6 +19,7 @@ pub record HasGoneOn (old new : OpenerView) : Type 0 where
   pub remembers : Remembers old.pen.seat new.pen.seat
   pub number : new.pen.seat.number ≡ old.pen.seat.number
   pub draws : step_count draw_count (own new.pen.seat) ≡ step_count draw_count (own old.pen.seat)
+  pub log : new.pen.log ≡ old.pen.log
   pub stand : new.stand ≡ old.stand
 
 -- the opener knows all that a seat did, and that no more of the opener than it did

@@ -34,6 +34,11 @@ pub record IsCut (script : ScriptModel) (lists : ℕ → List ClockStep) (j n : 
   pub joins : StepAt lists n (steps_before script lists j n) (Join counts)
   pub knows : j < slice_index counts (opener_seat script)
 
+-- every event of the opener is a cut of each other number
+abbrev pub EventsAreCuts : ScriptModel → (ℕ → List ClockStep) → Type 0
+EventsAreCuts script lists =
+    (j n : ℕ) → IsEventAt script lists j → n < opener_seat script → IsCut script lists j n
+
 -- the note at a place of a lane was seen, and behind it the lane loaded and drew: so it was executed
 -- or taken
 pub record HasStarted (steps : List ClockStep) (lane place : ℕ) : Type 0 where
@@ -45,6 +50,10 @@ pub record HasStarted (steps : List ClockStep) (lane place : ℕ) : Type 0 where
   pub sees : get_elem? steps at ≡ some (Look lane place (Some note))
   pub loads : get_elem? steps (suc at) ≡ some (Load load)
   pub draws : get_elem? steps (suc (suc at)) ≡ some (Draw changes found)
+
+-- the notes at the first places of a lane were executed or taken
+abbrev pub HaveStarted : List ClockStep → ℕ → ℕ → Type 0
+HaveStarted steps lane count = (place : ℕ) → place < count → HasStarted steps lane place
 
 abbrev pub is_stop_change : Change → Bool
 is_stop_change change.Same = false

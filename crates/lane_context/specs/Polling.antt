@@ -86,24 +86,23 @@ pub record FoundNone {H : Type 0} (old new : LaneView) (held left : Held H) : Ty
   pub moved : new ≡ with_pen old new.pen
   pub same : left ≡ held
 
--- what was seen at the next place was left, since the context is stopped
+-- what was seen at the next place can be executed, and was left, since the context is stopped
 pub record StoppedNext {H : Type 0} (old new : LaneView) (held left : Held H) : Type 0 where
   pub note : Note
   pub load : Found
+  pub can : CanExecute held note.op
   pub stopped : load.stops ≢ old.base
   pub gone : HasGone (left_labels old.lane old.place note load) old.pen new.pen
   pub moved : new ≡ with_pen old new.pen
   pub same : left ≡ held
 
--- the lane doesn't hold the handler of what it saw at its next place
+-- the lane can't execute what it saw at its next place; that is found by the look alone
 pub record MissedNext {H : Type 0} (op : ℕ) (old new : LaneView) (held left : Held H)
     : Type 0 where
   pub note : Note
-  pub load : Found
   pub it : note.op ≡ op
-  pub going : load.stops ≡ old.base
   pub cannot : ¬ CanExecute held op
-  pub gone : HasGone (left_labels old.lane old.place note load) old.pen new.pen
+  pub gone : HasGone (looks_full old.lane old.place note) old.pen new.pen
   pub moved : new ≡ missed_too old new.pen op
   pub same : left ≡ held
 

@@ -1,21 +1,22 @@
 -- A worker's own seat and log: it stops the context from outside of every handler, at most once a
 -- round, and reads what is outstanding (Asio reference, io_context::stop, ::stopped).
-use Rattle.std.specs.Prelude.{◌≡◌, ℕ, ◌+◌, ◌≤◌, Bool, true, false, ◌&&◌, ◌||◌, ◌==◌, not, [], ◌∷◌, None, length, if◌then◌else◌}
+use Rattle.std.specs.Prelude.{◌≡◌, ◌⊎◌, ℕ, ◌+◌, ◌≤◌, Bool, true, false, ◌&&◌, ◌||◌, ◌==◌, not, List, [], ◌∷◌, None, length, if◌then◌else◌}
 use Rattle.asio_types.specs.declared.event.Event.TheVariants as event
 use Rattle.session_script.specs.Script.{ScriptModel}
 use Rattle.lane_clock.specs.declared.found.Change.TheVariants as change
 use Rattle.lane_clock.specs.declared.found.Found.{Found}
+use Rattle.lane_clock.specs.declared.step.ClockStep.{ClockStep}
 use Rattle.lane_clock.specs.declared.step.ClockStep.TheVariants.{Load}
-use Rattle.lane_clock.specs.Seats.{ClockId, Owns, own}
+use Rattle.lane_clock.specs.Seats.{ClockId, Owns, SeatView, copy_seat, own}
 use Rattle.lane_clock.specs.Steps.{draw_count, most_draws, place_count, step_count}
 use Rattle.lane_context.specs.declared.standing.RoundNow.{RoundNow}
 use Rattle.lane_context.specs.Batons.{opener_known}
 use Rattle.lane_context.specs.Knowing.{joined_count}
 use Rattle.lane_context.specs.Labels.{shows, silent}
-use Rattle.lane_context.specs.Openers.{round_after}
+use Rattle.lane_context.specs.Meeting.{PenHasMet}
 use Rattle.lane_context.specs.Pens.{HasGone, PenView}
 use Rattle.lane_context.specs.SeatNumbers.{IsWorkerSeat, opener_seat}
-use Rattle.lane_context.specs.Stand.{shut}
+use Rattle.lane_context.specs.Stand.{base_of, shut, stand_of}
 use Rattle.lane_context.specs.WorkerLog.{IsWorkerLog, stops_drawn}
 
 pub record WorkerView : Type 0 where
@@ -31,6 +32,12 @@ pub record WorkerView : Type 0 where
 abbrev pub stops_so_far : WorkerView → ℕ
 stops_so_far view = if view.drew then view.round.closings + 1 else view.round.closings
 
+-- what is kept of where the rounds stand, beside these steps of the opener: it lets nothing begin that
+-- they don't, and has no more rounds closed
+pub record IsInStep (script : ScriptModel) (known : List ClockStep) (round : RoundNow) : Type 0 where
+  pub base_is : (round.base ≡ shut) ⊎ (round.base ≡ base_of script known)
+  pub closed : round.closings ≤ (stand_of script known).closings
+
 -- a worker, whose log has nothing but stops from outside
 pub record IsWorker (script : ScriptModel) (clock : ClockId) (view : WorkerView) : Type 0 where
   pub clock_is : view.pen.seat.clock ≡ clock
@@ -40,7 +47,7 @@ pub record IsWorker (script : ScriptModel) (clock : ClockId) (view : WorkerView)
   -- what it knows of the opener its own joins took in
   pub known : joined_count (opener_seat script) (own view.pen.seat)
       ≡ length (opener_known script view.pen.seat)
-  pub round_is : view.round ≡ round_after script (opener_known script view.pen.seat)
+  pub in_step : IsInStep script (opener_known script view.pen.seat) view.round
   pub few : stops_drawn log.parts ≤ stops_so_far view
   -- room for a stop of each round
   pub room : length script.rounds ≤ stops_drawn log.parts + view.pen.room
@@ -78,6 +85,18 @@ pub record HasRead (old new : WorkerView) (found : Found) : Type 0 where
 -- the stop word counts as set
 abbrev pub is_set : WorkerView → Found → Bool
 is_set view found = view.stopped || not (found.stops == view.round.base)
+
+-- what is kept after a lane was heard that may begin something with these stops: they are the same, or
+-- nothing counts as open
+abbrev pub heard_round : RoundNow → ℕ → RoundNow
+heard_round round base = if base == round.base then round else record round { base = shut }
+
+-- the worker took in what a lane did
+pub record HasHeard (lane : SeatView) (base : ℕ) (old new : WorkerView) : Type 0 where
+  pub met : PenHasMet (copy_seat lane) old.pen new.pen
+  pub round : new.round ≡ heard_round old.round base
+  pub drew : new.drew ≡ old.drew
+  pub stopped : new.stopped ≡ old.stopped
 
 -- a restart that the worker didn't know came
 abbrev pub restarts_since : RoundNow → RoundNow → Bool

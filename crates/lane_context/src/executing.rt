@@ -1,8 +1,9 @@
 //! One execution of a lane.
-ghost use Rattle.std.specs.Prelude.{◌≡◌, ◌-◌, [], vec_capacity, vec_len};
-ghost use Rattle.strand_core.specs.Answer.{CanExecute, IfMissing, IfWhole, TakesWhole};
+ghost use Rattle.std.specs.Prelude.{◌≡◌, ◌-◌, ◌≤◌, [], vec_capacity, vec_len};
+ghost use Rattle.strand_core.specs.Answer.{CanExecute, TakesWhole};
 ghost use Rattle.strand_core.specs.Hands.{HasRunMark};
 ghost use Rattle.lane_context.specs.Executing.{HasExecutedNoted};
+ghost use Rattle.lane_context.specs.Polling.{most_made};
 ghost use Rattle.lane_context.specs.Posting.{FitsClock, TakesNext};
 
 use crate::lane_poster::{LanePoster, PenStart};
@@ -14,12 +15,12 @@ use session_script::Script;
 use std::marker::{Brand, PhantomData};
 use strand_core::{Execution, Hands, Posted, execute};
 
-/// What an execution leaves: the pen, the calls that it made, and what it came to.
+/// What an execution leaves: the pen, the calls that it made, and the run mark of its handler.
 #[derive(Drop)]
 pub(crate) struct Drawn {
     pub(crate) pen: Pen,
     pub(crate) made: Vec<Posted>,
-    pub(crate) execution: Execution,
+    pub(crate) mark: u64,
 }
 
 /// Executes the operation of a note, from a pen that is named.
@@ -35,24 +36,22 @@ fn execute_from<'a, H: CompletionHandler, S: PenStart>(
     requires names { S.script ≡ script.now }
     requires start { S.start ≡ pen }
     requires none { made.items ≡ [] }
+    requires buffer { most_made script.now ≤ vec_capacity made }
     requires clock { pen.seat.clock ≡ clock.now }
     requires map { map.now ≡ script.now }
     requires fits { FitsClock script.now clock.now }
     requires script { hands.old.script ≡ script.now }
-    requires room { CanExecute hands.old note.op → TakesWhole (TakesNext (record {
+    requires can { CanExecute hands.old note.op }
+    requires room { TakesWhole (TakesNext (record {
       script = script.now;
       pen = pen;
       made = made.items;
       spare = vec_capacity made - vec_len made;
     })) script.now note.op note.code note.size }
     ensures script { hands.new.script ≡ hands.old.script }
-    ensures executed { IfWhole result.execution (λ mark.
-        HasExecutedNoted H.marks note S.start result.pen hands.old hands.new) }
-    ensures mark { IfWhole result.execution (λ mark. HasRunMark H.marks hands.old note.op mark) }
-    ensures missing { IfMissing result.execution (λ missed. missed ≡ note.op) }
-    ensures cannot { IfMissing result.execution (λ missed. ¬ CanExecute hands.old note.op) }
-    ensures same_pen { IfMissing result.execution (λ missed. result.pen ≡ S.start) }
-    ensures same_hands { IfMissing result.execution (λ missed. hands.new ≡ hands.old) }
+    ensures executed { HasExecutedNoted H.marks note S.start result.pen hands.old hands.new }
+    ensures mark { HasRunMark H.marks hands.old note.op result.mark }
+    ensures buffer { most_made script.now ≤ vec_capacity result.made }
 {
     let mut poster = LanePoster {
         clock,
@@ -62,7 +61,10 @@ fn execute_from<'a, H: CompletionHandler, S: PenStart>(
         made,
         start: PhantomData::<S>,
     };
-    let execution = execute(&mut poster, script, hands, note.op, note.code, note.size);
+    let Execution::Whole(mark) = execute(&mut poster, script, hands, note.op, note.code, note.size)
+    else {
+        unreachable!()
+    };
     let LanePoster {
         clock: _,
         script: _,
@@ -71,15 +73,11 @@ fn execute_from<'a, H: CompletionHandler, S: PenStart>(
         made,
         start: _,
     } = poster;
-    Drawn {
-        pen,
-        made,
-        execution,
-    }
+    Drawn { pen, made, mark }
 }
 
-/// Executes the operation of a note with a lane's pen, and inside it the dispatches that execute
-/// inside their call. `made` is the room for its calls. `Missing` comes before any draw.
+/// Executes the operation of a note, whose handler is held, with a lane's pen, and inside it the
+/// dispatches that execute inside their call. `made` is the room for its calls.
 pub(crate) fn execute_noted<'a, H: CompletionHandler>(
     clock: &LaneClock,
     script: &'a Script,
@@ -90,24 +88,22 @@ pub(crate) fn execute_noted<'a, H: CompletionHandler>(
     note: Note,
 ) -> Drawn
     requires none { made.items ≡ [] }
+    requires buffer { most_made script.now ≤ vec_capacity made }
     requires clock { pen.seat.clock ≡ clock.now }
     requires map { map.now ≡ script.now }
     requires fits { FitsClock script.now clock.now }
     requires script { hands.old.script ≡ script.now }
-    requires room { CanExecute hands.old note.op → TakesWhole (TakesNext (record {
+    requires can { CanExecute hands.old note.op }
+    requires room { TakesWhole (TakesNext (record {
       script = script.now;
       pen = pen;
       made = made.items;
       spare = vec_capacity made - vec_len made;
     })) script.now note.op note.code note.size }
     ensures script { hands.new.script ≡ hands.old.script }
-    ensures executed { IfWhole result.execution (λ mark.
-        HasExecutedNoted H.marks note pen result.pen hands.old hands.new) }
-    ensures mark { IfWhole result.execution (λ mark. HasRunMark H.marks hands.old note.op mark) }
-    ensures missing { IfMissing result.execution (λ missed. missed ≡ note.op) }
-    ensures cannot { IfMissing result.execution (λ missed. ¬ CanExecute hands.old note.op) }
-    ensures same_pen { IfMissing result.execution (λ missed. result.pen ≡ pen) }
-    ensures same_hands { IfMissing result.execution (λ missed. hands.new ≡ hands.old) }
+    ensures executed { HasExecutedNoted H.marks note pen result.pen hands.old hands.new }
+    ensures mark { HasRunMark H.marks hands.old note.op result.mark }
+    ensures buffer { most_made script.now ≤ vec_capacity result.made }
 {
     execute_from::<H, Brand>(clock, script, map, pen, made, hands, note)
 }

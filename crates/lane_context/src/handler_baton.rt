@@ -1,12 +1,17 @@
 ghost use Rattle.std.specs.Prelude.{◌≡◌, ◌-◌, ◌≤◌, [], vec_capacity, vec_len};
 ghost use Rattle.lane_map.specs.LaneNumbers.{cells_of};
+ghost use Rattle.lane_context.specs.Batons.{IsHandlerBaton};
 ghost use Rattle.lane_context.specs.Polling.{CameTo, most_made};
+ghost use Rattle.lane_context.specs.Workers.{HasHeard};
 
+use crate::attendee::{Attendee, LaneAttendee, attend_lane};
 use crate::lane::LaneState;
 use crate::law::clock_fits;
 use crate::one::One;
+use crate::opener::Opener;
 use crate::polling::{Polled, poll_handlers};
 use crate::session::LaneSession;
+use crate::worker_seat::{WorkerSeat, tell_lane};
 use lane_clock::LaneClock;
 use lane_map::{LaneMap, lanes_have_cells};
 use op_handlers::CompletionHandler;
@@ -17,9 +22,9 @@ use strand_core::{Hands, Posted};
 /// A lane on which handlers execute, as it lies in its slot between turns: its log is made of whole
 /// executions, and it holds the handlers of its operations that didn't begin.
 pub(crate) struct HandlerBaton<'a, H: CompletionHandler, N: LaneSession> {
-    lane: LaneState,
-    hands: Hands<'a, H>,
-    names: PhantomData<N>,
+    pub(crate) lane: LaneState,
+    pub(crate) hands: Hands<'a, H>,
+    pub(crate) names: PhantomData<N>,
 }
 
 impl<'a, H: CompletionHandler, N: LaneSession> Model for HandlerBaton<'a, H, N> {
@@ -58,6 +63,7 @@ impl<'a, H: CompletionHandler, N: LaneSession> HandlerBaton<'a, H, N> {
         requires map { map.now ≡ script.now }
         ensures came { CameTo H.marks result.one self.entry.lane result.baton.lane self.entry.hands
             result.baton.hands }
+        ensures buffer { most_made script.now ≤ vec_capacity result.made }
     {
         clock_fits(clock, script);
         lanes_have_cells(script);
@@ -72,5 +78,62 @@ impl<'a, H: CompletionHandler, N: LaneSession> HandlerBaton<'a, H, N> {
             made,
             one,
         }
+    }
+
+    /// What holds of every such lane.
+    pub(crate) fn is_one(&self)
+        ensures { IsHandlerBaton N.names H.marks N.clock self.now }
+    {
+        let _lane = &self.lane;
+    }
+
+    /// The number of its lane.
+    pub(crate) fn lane_number(&self) -> u32
+        ensures { result ≡ self.now.lane.lane }
+    {
+        self.lane.at.lane
+    }
+
+    /// A worker takes in what the lane did.
+    pub(crate) fn tell(&mut self, clock: &LaneClock, worker: &mut WorkerSeat<N>)
+        requires clock { clock.now ≡ N.clock }
+        ensures same { self.new ≡ self.old }
+        ensures heard { HasHeard self.old.lane.pen.seat self.old.lane.base worker.old worker.new }
+    {
+        tell_lane(&mut self.lane, clock, worker);
+    }
+}
+
+impl<'a, H: CompletionHandler, N: LaneSession> Attendee<N> for HandlerBaton<'a, H, N> {
+    ghost seat = { λ b. b.lane.pen.seat };
+
+    ghost base = { λ b. b.lane.base };
+
+    ghost running = { λ b. b.lane.running };
+
+    ghost place = { λ b. b.lane.place };
+
+    fn report(&mut self, opener: &mut Opener<N>, clock: &LaneClock) {
+        opener.hear(clock, &mut self.lane.pen);
+    }
+
+    fn attend(&mut self, opener: &mut Opener<N>, clock: &LaneClock, script: &Script) {
+        attend_lane(&mut self.lane, opener, clock, script);
+    }
+}
+
+impl<'a, H: CompletionHandler, N: LaneSession> LaneAttendee<N> for HandlerBaton<'a, H, N> {
+    fn number(&self) -> u32 {
+        self.lane.at.lane
+    }
+
+    fn next_place(&self) -> u32 {
+        self.lane.at.place
+    }
+
+    // handlers stop the context, and the reactor's lane executes none
+    fn has_failed(&self) -> bool {
+        let _lane = &self.lane;
+        false
     }
 }

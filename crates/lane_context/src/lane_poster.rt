@@ -30,7 +30,8 @@ impl PenStart for Brand {
 }
 
 /// What an execution of a lane is told to: it draws each event with the lane's pen, and notes the
-/// calls. It keeps that the pen has come from its start by the calls that were made.
+/// calls. It keeps that the pen has come from its start by the calls that were made, and the room for
+/// all that an execution of the script makes.
 #[derive(Drop)]
 pub(crate) struct LanePoster<'c, 'a, S: PenStart> {
     pub(crate) clock: &'c LaneClock,
@@ -42,7 +43,8 @@ pub(crate) struct LanePoster<'c, 'a, S: PenStart> {
 }
 
 impl<'c, 'a, S: PenStart> Model for LanePoster<'c, 'a, S> {
-    ghost use Rattle.std.specs.Prelude.{◌≡◌, ◌-◌, vec_capacity, vec_len};
+    ghost use Rattle.std.specs.Prelude.{◌≡◌, ◌-◌, ◌≤◌, vec_capacity, vec_len};
+    ghost use Rattle.lane_context.specs.Polling.{most_made};
     ghost use Rattle.lane_context.specs.Posting.{IsPosting, PosterView};
 
     ghost Value = { PosterView };
@@ -63,6 +65,7 @@ impl<'c, 'a, S: PenStart> Model for LanePoster<'c, 'a, S> {
         made = p.made.items;
         spare = vec_capacity p.made - vec_len p.made;
       });
+      buffer : most_made S.script ≤ vec_capacity p.made;
     } };
 }
 

@@ -1,4 +1,4 @@
-ghost use Rattle.std.specs.Prelude.{◌≡◌};
+ghost use Rattle.std.specs.Prelude.{◌≡◌, ◌^◌, ◌<◌, length};
 ghost use Rattle.lane_map.specs.LaneNumbers.{cells_of};
 ghost use Rattle.lane_context.specs.Posting.{FitsClock};
 
@@ -13,4 +13,11 @@ pub(crate) fn clock_fits(clock: &LaneClock, script: &Script)
 {
     scripts_are_well_formed(script);
     lanes_have_cells(script);
+}
+
+/// No script has so many rounds that their number wouldn't fit.
+pub(crate) fn rounds_are_few(script: &Script)
+    ensures { length script.now.rounds < 2 ^ 32 }
+{
+    scripts_are_well_formed(script);
 }

@@ -1,18 +1,22 @@
-ghost use Rattle.std.specs.Prelude.{◌≡◌, ◌<◌, ℕ, [], IsFalse, IsTrue, length, slice_index, true};
+ghost use Rattle.std.specs.Prelude.{◌≡◌, [], IsFalse, IsTrue, true};
 ghost use Rattle.lane_clock.specs.Seats.{copy_seat};
 ghost use Rattle.lane_map.specs.LaneNumbers.{cells_of, reactor_lane};
-ghost use Rattle.lane_context.specs.Cuts.{HasStarted, NoneStops};
+ghost use Rattle.lane_context.specs.Benches.{AreLanes, AreStartedAt, places_of};
+ghost use Rattle.lane_context.specs.Cuts.{NoneStops};
 ghost use Rattle.lane_context.specs.Meeting.{PenHasMet, lists_of};
 ghost use Rattle.lane_context.specs.OpenerEvents.{HasClosed, HasOpened, HasRestarted, HasWaited};
-ghost use Rattle.lane_context.specs.Openers.{HasTakenIn, HaveMet, round_of};
-ghost use Rattle.lane_context.specs.SeatNumbers.{lane_count, opener_seat};
+ghost use Rattle.lane_context.specs.Openers.{HasTakenIn, HaveMet, IsOpener, round_of};
+ghost use Rattle.lane_context.specs.SeatNumbers.{opener_seat};
 ghost use Rattle.lane_context.specs.Stand.{first_stand, is_round_open, wants_restart};
 
-use crate::law::clock_fits;
+use crate::attendee::LaneAttendee;
+use crate::closing::Closing;
+use crate::law::{clock_fits, rounds_are_few};
 use crate::opening::draw_opening;
 use crate::pen::Pen;
 use crate::session::LaneSession;
 use crate::standing::{RoundNow, RoundStanding};
+use crate::weighing::weigh;
 use asio_types::Event;
 use lane_clock::{Change, LaneClock};
 use lane_map::{LaneMap, lanes_have_cells};
@@ -22,9 +26,9 @@ use std::marker::{Model, PhantomData};
 /// Who makes the calls of `open`, and closes and restarts rounds: its log is made of these.
 #[derive(Drop)]
 pub(crate) struct Opener<N: LaneSession> {
-    pen: Pen,
-    rounds: RoundStanding,
-    names: PhantomData<N>,
+    pub(crate) pen: Pen,
+    pub(crate) rounds: RoundStanding,
+    pub(crate) names: PhantomData<N>,
 }
 
 impl<N: LaneSession> Model for Opener<N> {
@@ -60,8 +64,8 @@ impl<N: LaneSession> Opener<N> {
     {
         let copy = self.pen.split(clock);
         other.meet(clock, copy);
-        let copy = other.split(clock);
-        self.pen.meet(clock, copy);
+        let back = other.split(clock);
+        self.pen.meet(clock, back);
     }
 
     /// Where the rounds stand, for lanes and workers.
@@ -87,6 +91,13 @@ impl<N: LaneSession> Opener<N> {
         self.rounds.opening = 0;
     }
 
+    /// What holds of every opener.
+    pub(crate) fn is_one(&self)
+        ensures { IsOpener N.names.script N.clock self.now }
+    {
+        let _rounds = self.rounds;
+    }
+
     /// Restarts the context for the next round.
     pub(crate) fn restart(&mut self, clock: &LaneClock)
         requires clock { clock.now ≡ N.clock }
@@ -99,5 +110,43 @@ impl<N: LaneSession> Opener<N> {
         let found = self.pen.draw(clock, Change::Same, Event::Restart);
         self.rounds.restarted = true;
         self.rounds.base = found.stops;
+    }
+
+    /// Closes the round, where a load bears that out and in a poll round looks at the next cell of
+    /// each lane: answers whether it did.
+    pub(crate) fn close<B: LaneAttendee<N>>(
+        &mut self,
+        clock: &LaneClock,
+        script: &Script,
+        map: &LaneMap<'_>,
+        lanes: &[B],
+        closing: Closing,
+    ) -> bool
+        requires clock { clock.now ≡ N.clock }
+        requires cells { clock.now.plan.cells ≡ cells_of script.now }
+        requires script { script.now ≡ N.names.script }
+        requires map { map.now ≡ script.now }
+        requires lanes { AreLanes B.seat script.now lanes.now }
+        requires round { is_round_open N.names.script self.old.stand ≡ true }
+        requires working { NoneStops
+            (lists_of self.old.pen.seat (reactor_lane N.names.script)) }
+        requires started { AreStartedAt N.names.script (lists_of self.old.pen.seat)
+            (places_of B.place lanes.now) }
+        ensures closed { IsTrue result →
+            HasClosed N.names.script (places_of B.place lanes.now) closing self.old self.new }
+        ensures waited { IsFalse result → HasWaited N.names.script closing self.old self.new }
+    {
+        clock_fits(clock, script);
+        lanes_have_cells(script);
+        rounds_are_few(script);
+        let round = self.rounds.round(script);
+        let found = self.pen.load(clock);
+        if !weigh::<N, B>(&mut self.pen, clock, map, lanes, round, found, closing) {
+            return false;
+        }
+        self.pen.draw(clock, closing.change(), closing.event());
+        self.rounds.closings += 1;
+        self.rounds.restarted = false;
+        true
     }
 }

@@ -1,7 +1,7 @@
 ghost use Rattle.std.specs.Prelude.{◌≡◌, ℕ, ◌<◌, ◌≤◌, [], ◌∷◌, length, slice_index, IfNone, IfSome, IsFalse, IsTrue};
 ghost use Rattle.lane_clock.specs.declared.step.ClockStep.TheVariants.{Load, Look, Put};
 ghost use Rattle.lane_clock.specs.ClockWord.{IsParted};
-ghost use Rattle.lane_clock.specs.Seats.{copy_seat, own};
+ghost use Rattle.lane_clock.specs.Seats.{IsSourceOf, Keeps, copy_seat, own};
 ghost use Rattle.lane_clock.specs.Steps.{has_drawn, has_put};
 ghost use Rattle.lane_map.specs.LaneNumbers.{cells_of, home_lane};
 ghost use Rattle.lane_context.specs.Labels.{shows, silent};
@@ -18,8 +18,8 @@ use std::marker::Model;
 /// A seat and the log of what it draws.
 #[derive(Drop)]
 pub(crate) struct Pen {
-    seat: LaneSeat,
-    log: Vec<LogEntry>,
+    pub(crate) seat: LaneSeat,
+    pub(crate) log: Vec<LogEntry>,
 }
 
 impl Model for Pen {
@@ -147,5 +147,16 @@ impl Pen {
         ensures { PenHasMet copy self.old self.new }
     {
         clock.meet(&mut self.seat, copy);
+    }
+
+    /// Takes in another seat for good.
+    pub(crate) fn join(&mut self, clock: &LaneClock, other: LaneSeat)
+        requires clock { self.old.seat.clock ≡ clock.now }
+        requires same { other.clock ≡ clock.now }
+        ensures met { PenHasMet other self.old self.new }
+        ensures takes { Keeps other self.new.seat }
+        ensures theirs { IsSourceOf other self.old.seat }
+    {
+        clock.join(&mut self.seat, other);
     }
 }

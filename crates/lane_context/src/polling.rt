@@ -1,6 +1,7 @@
 //! One attempt at a lane on which handlers execute.
-ghost use Rattle.std.specs.Prelude.{◌≡◌, ℕ, ◌+◌, ◌-◌, ◌^◌, ◌<◌, ◌≤◌, [], length, IsSome, vec_capacity, vec_len};
+ghost use Rattle.std.specs.Prelude.{◌≡◌, ◌↔◌, ℕ, ◌+◌, ◌-◌, ◌^◌, ◌<◌, ◌≤◌, [], length, IsSome, IsTrue, vec_capacity, vec_len};
 ghost use Rattle.lane_map.specs.LaneNumbers.{cells_of};
+ghost use Rattle.strand_core.specs.Answer.{CanExecute};
 ghost use Rattle.strand_core.specs.Hands.{held_at};
 ghost use Rattle.lane_context.specs.Batons.{HasRoom};
 ghost use Rattle.lane_context.specs.Pens.{HasGone};
@@ -11,11 +12,13 @@ use crate::executing::{Drawn, execute_noted};
 use crate::lane::LaneState;
 use crate::one::One;
 use crate::pen::Pen;
+use asio_types::OpNo;
+use history_rules::is_inline;
 use lane_clock::{LaneClock, Note};
 use lane_map::LaneMap;
 use op_handlers::CompletionHandler;
 use session_script::{Script, parents_come_first};
-use strand_core::{Execution, Hands, Posted};
+use strand_core::{Hands, Posted};
 
 /// What an attempt leaves: the lane, the calls that were made, and what it came to.
 #[derive(Drop)]
@@ -45,8 +48,17 @@ pub(crate) fn see_next(
     pen.look(clock, lane, place)
 }
 
+/// Whether the handler of an operation is held that executes by itself.
+fn can_execute<H>(script: &Script, hands: &Hands<'_, H>, op: OpNo) -> bool
+    requires script { hands.now.script ≡ script.now }
+    ensures { IsTrue result ↔ CanExecute hands.now op }
+{
+    hands.holds(op) && !is_inline(script, op)
+}
+
 /// Looks at the lane's next place, and executes what it sees there, unless a load behind the look
-/// finds that the context is stopped. `made` is the room for the calls.
+/// finds that the context is stopped. Whether the lane has the handler is asked before the load.
+/// `made` is the room for the calls.
 pub(crate) fn poll_handlers<'a, H: CompletionHandler>(
     clock: &LaneClock,
     script: &'a Script,
@@ -66,6 +78,7 @@ pub(crate) fn poll_handlers<'a, H: CompletionHandler>(
     requires known { (op : ℕ) → IsSome (held_at hands.old op) → op < length script.now.acts }
     ensures came { CameTo H.marks result.one state result.lane hands.old hands.new }
     ensures room { HasRoom hands.new result.lane.pen }
+    ensures buffer { most_made script.now ≤ vec_capacity result.made }
 {
     parents_come_first(script);
     hands.keeps_inline();
@@ -78,6 +91,15 @@ pub(crate) fn poll_handlers<'a, H: CompletionHandler>(
             one,
         };
     };
+    if !can_execute(script, hands, note.op) {
+        let at = at.missed_too(note.op);
+        let one = One::Missing(note.op);
+        return Polled {
+            lane: LaneState { pen, at },
+            made,
+            one,
+        };
+    }
     let found = pen.load(clock);
     if found.stops != at.base {
         let one = One::Stopped;
@@ -87,29 +109,12 @@ pub(crate) fn poll_handlers<'a, H: CompletionHandler>(
             one,
         };
     }
-    let Drawn {
-        pen,
+    let Drawn { pen, made, mark } = execute_noted(clock, script, map, pen, made, hands, note);
+    let at = at.one_place_on();
+    let one = One::Ran(note.op, mark);
+    Polled {
+        lane: LaneState { pen, at },
         made,
-        execution,
-    } = execute_noted(clock, script, map, pen, made, hands, note);
-    match execution {
-        Execution::Whole(mark) => {
-            let at = at.one_place_on();
-            let one = One::Ran(note.op, mark);
-            Polled {
-                lane: LaneState { pen, at },
-                made,
-                one,
-            }
-        }
-        Execution::Missing(op) => {
-            let at = at.missed_too(op);
-            let one = One::Missing(op);
-            Polled {
-                lane: LaneState { pen, at },
-                made,
-                one,
-            }
-        }
+        one,
     }
 }

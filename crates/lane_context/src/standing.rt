@@ -1,6 +1,7 @@
 ghost use Rattle.std.specs.Prelude.{◌≡◌};
 ghost use Rattle.lane_context.specs.Openers.{base_at, is_running_at, round_of, stand_at};
 ghost use Rattle.lane_context.specs.Stand.{is_round_open, wants_restart};
+ghost use Rattle.lane_context.specs.Workers.{restarts_since};
 
 use session_script::{Pace, Script};
 
@@ -18,6 +19,15 @@ pub(crate) struct RoundNow {
     pub(crate) base: u64,
     // whether time may pass
     pub(crate) running: bool,
+}
+
+impl RoundNow {
+    /// Whether a restart came since then.
+    pub(crate) fn restarts_since(self, before: RoundNow) -> bool
+        ensures { result ≡ restarts_since before self }
+    {
+        self.restarted && !(before.closings == self.closings && before.restarted)
+    }
 }
 
 /// Where the rounds of a session stand.

@@ -1,4 +1,7 @@
-use Rattle.std.proofs.Common.{sym}
+use Rattle.std.proofs.Common.{◌≤◌, subst, sym}
+use Rattle.std.specs.Prelude.{vec_capacity}
+use Rattle.session_script.specs.Script.{ScriptModel}
+use Rattle.lane_context.specs.Polling.{most_made}
 use Rattle.lane_context.proofs.ExecutingLemmas.{posting_begins}
 use Rattle.lane_context.proofs.executing.execute_from.Goals as goal
 
@@ -10,4 +13,5 @@ invariant_of-poster g c =
       posting =
           posting_begins c.args.clock.now _ c.args.script.now c.args.pen c.args.made.items _ c.requires.start
           c.requires.none c.requires.clock c.requires.fits;
+      buffer = subst (λ (s : ScriptModel). most_made s ≤ vec_capacity c.args.made) (sym c.requires.names) c.requires.buffer;
     }

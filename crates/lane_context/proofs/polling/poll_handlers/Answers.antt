@@ -1,12 +1,9 @@
-use Rattle.std.proofs.Common.{◌≡◌, ◌-◌, arith, subst, sym}
+use Rattle.std.proofs.Common.{◌-◌, arith, subst, sym}
 use Rattle.std.specs.Prelude.{nat_lt, slice_index, vec_capacity, vec_len}
-use Rattle.strand_core.specs.Answer.{CanExecute}
-use Rattle.strand_core.specs.Hands.{HasRunMark}
 use Rattle.lane_map.specs.LaneNumbers.{cells_of}
 use Rattle.lane_context.specs.Batons.{HasRoom, LaneView, room_held}
-use Rattle.lane_context.specs.Executing.{HasExecutedNoted}
-use Rattle.lane_context.specs.Polling.{MissedNext, RanNext, StoppedNext}
-use Rattle.lane_context.proofs.PollingLemmas.{left_gone, left_room, looked_room, missed_room, missed_seen, missing_of, ran_seen, standing, stopped_seen, whole_of}
+use Rattle.lane_context.specs.Polling.{RanNext, StoppedNext}
+use Rattle.lane_context.proofs.PollingLemmas.{left_gone, left_room, looked_room, ran_seen, seen_room, standing, stopped_seen}
 use Rattle.lane_context.proofs.RoomLemmas.{ran_room, takes_whole}
 use Rattle.lane_context.proofs.polling.poll_handlers.Goals as goal
 
@@ -22,7 +19,7 @@ returns-then-found-at-clause-came g c =
     subst (λ (s : LaneView).
     StoppedNext s (standing c.state.inside.at c.load-found.new.self) c.args.hands.now c.args.hands.now) c.state.view_is
     (stopped_seen c.state.inside.at c.in-Some.note c.load-found.result c.state.inside.pen c.load-found.new.self
-    c.args.hands.now (λ same. absurd (omega (arith, same, c.if-found-at.true)))
+    c.args.hands.now (c.can_execute.ensures.0 c.if-not-can_execute.false) (λ same. absurd (omega (arith, same, c.if-found-at.true)))
     (left_gone c.state.inside.at.lane c.state.inside.at.place c.in-Some.note c.load-found.result c.state.inside.pen
     c.see_next.new.pen c.load-found.new.self c.in-Some.ensures.seen c.load-found.ensures.gone))
 
@@ -34,8 +31,14 @@ returns-then-found-at-clause-room g c =
     c.see_next.new.pen c.load-found.new.self c.in-Some.ensures.seen c.load-found.ensures.gone)
     (subst (λ (s : LaneView). HasRoom c.args.hands.now s.pen) (sym c.state.view_is) c.requires.room)
 
+pub returns-then-not-can_execute-clause-room : goal.returns-then-not-can_execute-clause-room
+returns-then-not-can_execute-clause-room g c =
+    seen_room c.state.inside.at.lane c.state.inside.at.place c.in-Some.note (room_held c.args.hands.now)
+    c.state.inside.pen c.see_next.new.pen c.in-Some.ensures.seen
+    (subst (λ (s : LaneView). HasRoom c.args.hands.now s.pen) (sym c.state.view_is) c.requires.room)
+
 pub execute_noted-pen-requires-clause-room : goal.execute_noted-pen-requires-clause-room
-execute_noted-pen-requires-clause-room g c can =
+execute_noted-pen-requires-clause-room g c =
     takes_whole c.args.script.now c.parents_come_first.ensures c.args.hands.now c.requires.script c.keeps_inline.ensures
     c.requires.known c.load-found.new.self c.args.made.items (vec_capacity c.args.made - vec_len c.args.made)
     c.in-Some.note.op c.in-Some.note.code c.in-Some.note.size
@@ -43,77 +46,30 @@ execute_noted-pen-requires-clause-room g c can =
     (room_held c.args.hands.now) c.state.inside.pen c.load-found.new.self
     (left_gone c.state.inside.at.lane c.state.inside.at.place c.in-Some.note c.load-found.result c.state.inside.pen
     c.see_next.new.pen c.load-found.new.self c.in-Some.ensures.seen c.load-found.ensures.gone)
-    (subst (λ (s : LaneView). HasRoom c.args.hands.now s.pen) (sym c.state.view_is) c.requires.room)) c.requires.buffer can
+    (subst (λ (s : LaneView). HasRoom c.args.hands.now s.pen) (sym c.state.view_is) c.requires.room)) c.requires.buffer
+    (c.can_execute.ensures.0 c.if-not-can_execute.false)
 
-pub returns-in-Whole-clause-came : goal.returns-in-Whole-clause-came
-returns-in-Whole-clause-came g c =
+pub returns-clause-came : goal.returns-clause-came
+returns-clause-came g c =
     subst (λ (s : LaneView).
-    RanNext g.H.CompletionHandler.marks c.in-Some.note.op c.in-Whole.mark s
+    RanNext g.H.CompletionHandler.marks c.in-Some.note.op c.execute_noted-pen.result.mark s
     (standing c.one_place_on-at.result c.execute_noted-pen.result.pen) c.args.hands.now
     c.execute_noted-pen.new.hands) c.state.view_is
-    (ran_seen g.H.CompletionHandler.marks c.in-Whole.mark c.state.inside.at c.one_place_on-at.result c.in-Some.note
-    c.load-found.result c.state.inside.pen c.see_next.new.pen c.load-found.new.self c.execute_noted-pen.result.pen
-    c.args.hands.now c.execute_noted-pen.new.hands c.one_place_on-at.ensures
-    (whole_of c.execute_noted-pen.result.execution c.in-Whole.mark
-    (λ mark. HasRunMark g.H.CompletionHandler.marks c.args.hands.now c.in-Some.note.op mark) c.in-Whole.is
-    c.execute_noted-pen.ensures.mark) (omega (arith, c.if-found-at.false)) c.in-Some.ensures.seen c.load-found.ensures.gone
-    (whole_of c.execute_noted-pen.result.execution c.in-Whole.mark
-    (λ mark.
-    HasExecutedNoted g.H.CompletionHandler.marks c.in-Some.note c.load-found.new.self c.execute_noted-pen.result.pen
-    c.args.hands.now c.execute_noted-pen.new.hands) c.in-Whole.is c.execute_noted-pen.ensures.executed)
-    c.execute_noted-pen.ensures.script)
+    (ran_seen g.H.CompletionHandler.marks c.execute_noted-pen.result.mark c.state.inside.at c.one_place_on-at.result
+    c.in-Some.note c.load-found.result c.state.inside.pen c.see_next.new.pen c.load-found.new.self
+    c.execute_noted-pen.result.pen c.args.hands.now c.execute_noted-pen.new.hands c.one_place_on-at.ensures
+    c.execute_noted-pen.ensures.mark c.if-found-at.false c.in-Some.ensures.seen c.load-found.ensures.gone
+    c.execute_noted-pen.ensures.executed c.execute_noted-pen.ensures.script)
 
-pub returns-in-Whole-clause-room : goal.returns-in-Whole-clause-room
-returns-in-Whole-clause-room g c =
-    ran_room g.H.CompletionHandler.marks c.args.script.now c.parents_come_first.ensures c.in-Some.note.op c.in-Whole.mark
-    (standing c.state.inside.at c.state.inside.pen)
+pub returns-clause-room : goal.returns-clause-room
+returns-clause-room g c =
+    ran_room g.H.CompletionHandler.marks c.args.script.now c.parents_come_first.ensures c.in-Some.note.op
+    c.execute_noted-pen.result.mark (standing c.state.inside.at c.state.inside.pen)
     (standing c.one_place_on-at.result c.execute_noted-pen.result.pen) c.args.hands.now c.execute_noted-pen.new.hands
     c.requires.script c.keeps_inline.ensures c.requires.known
-    (ran_seen g.H.CompletionHandler.marks c.in-Whole.mark c.state.inside.at c.one_place_on-at.result c.in-Some.note
-    c.load-found.result c.state.inside.pen c.see_next.new.pen c.load-found.new.self c.execute_noted-pen.result.pen
-    c.args.hands.now c.execute_noted-pen.new.hands c.one_place_on-at.ensures
-    (whole_of c.execute_noted-pen.result.execution c.in-Whole.mark
-    (λ mark. HasRunMark g.H.CompletionHandler.marks c.args.hands.now c.in-Some.note.op mark) c.in-Whole.is
-    c.execute_noted-pen.ensures.mark) (omega (arith, c.if-found-at.false)) c.in-Some.ensures.seen c.load-found.ensures.gone
-    (whole_of c.execute_noted-pen.result.execution c.in-Whole.mark
-    (λ mark.
-    HasExecutedNoted g.H.CompletionHandler.marks c.in-Some.note c.load-found.new.self c.execute_noted-pen.result.pen
-    c.args.hands.now c.execute_noted-pen.new.hands) c.in-Whole.is c.execute_noted-pen.ensures.executed)
-    c.execute_noted-pen.ensures.script)
+    (ran_seen g.H.CompletionHandler.marks c.execute_noted-pen.result.mark c.state.inside.at c.one_place_on-at.result
+    c.in-Some.note c.load-found.result c.state.inside.pen c.see_next.new.pen c.load-found.new.self
+    c.execute_noted-pen.result.pen c.args.hands.now c.execute_noted-pen.new.hands c.one_place_on-at.ensures
+    c.execute_noted-pen.ensures.mark c.if-found-at.false c.in-Some.ensures.seen c.load-found.ensures.gone
+    c.execute_noted-pen.ensures.executed c.execute_noted-pen.ensures.script)
     (subst (λ (s : LaneView). HasRoom c.args.hands.now s.pen) (sym c.state.view_is) c.requires.room)
-
-pub returns-in-Missing-clause-came : goal.returns-in-Missing-clause-came
-returns-in-Missing-clause-came g c =
-    subst (λ (s : LaneView).
-    MissedNext c.in-Missing.op s (standing c.missed_too-at.result c.execute_noted-pen.result.pen) c.args.hands.now
-    c.execute_noted-pen.new.hands) c.state.view_is
-    (missed_seen c.in-Missing.op c.state.inside.at c.missed_too-at.result c.in-Some.note c.load-found.result
-    c.state.inside.pen c.load-found.new.self c.execute_noted-pen.result.pen c.args.hands.now
-    c.execute_noted-pen.new.hands c.missed_too-at.ensures
-    (missing_of c.execute_noted-pen.result.execution c.in-Missing.op (λ op. op ≡ c.in-Some.note.op) c.in-Missing.is
-    c.execute_noted-pen.ensures.missing) (omega (arith, c.if-found-at.false))
-    (missing_of c.execute_noted-pen.result.execution c.in-Missing.op
-    (λ op. CanExecute c.args.hands.now c.in-Some.note.op → ⊥) c.in-Missing.is c.execute_noted-pen.ensures.cannot)
-    (left_gone c.state.inside.at.lane c.state.inside.at.place c.in-Some.note c.load-found.result c.state.inside.pen
-    c.see_next.new.pen c.load-found.new.self c.in-Some.ensures.seen c.load-found.ensures.gone)
-    (missing_of c.execute_noted-pen.result.execution c.in-Missing.op
-    (λ op. c.execute_noted-pen.result.pen ≡ c.load-found.new.self) c.in-Missing.is
-    c.execute_noted-pen.ensures.same_pen)
-    (missing_of c.execute_noted-pen.result.execution c.in-Missing.op
-    (λ op. c.execute_noted-pen.new.hands ≡ c.args.hands.now) c.in-Missing.is
-    c.execute_noted-pen.ensures.same_hands))
-
-pub returns-in-Missing-clause-room : goal.returns-in-Missing-clause-room
-returns-in-Missing-clause-room g c =
-    missed_room c.load-found.new.self c.execute_noted-pen.result.pen c.args.hands.now c.execute_noted-pen.new.hands
-    (left_room c.state.inside.at.lane c.state.inside.at.place c.in-Some.note c.load-found.result
-    (room_held c.args.hands.now) c.state.inside.pen c.load-found.new.self
-    (left_gone c.state.inside.at.lane c.state.inside.at.place c.in-Some.note c.load-found.result c.state.inside.pen
-    c.see_next.new.pen c.load-found.new.self c.in-Some.ensures.seen c.load-found.ensures.gone)
-    (subst (λ (s : LaneView). HasRoom c.args.hands.now s.pen) (sym c.state.view_is) c.requires.room))
-    (missing_of c.execute_noted-pen.result.execution c.in-Missing.op
-    (λ op. c.execute_noted-pen.result.pen ≡ c.load-found.new.self) c.in-Missing.is
-    c.execute_noted-pen.ensures.same_pen)
-    (missing_of c.execute_noted-pen.result.execution c.in-Missing.op
-    (λ op. c.execute_noted-pen.new.hands ≡ c.args.hands.now) c.in-Missing.is
-    c.execute_noted-pen.ensures.same_hands)

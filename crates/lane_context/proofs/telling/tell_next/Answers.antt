@@ -1,4 +1,4 @@
-use Rattle.std.proofs.Common.{◌≡◌, ◌<◌, ap, length, subst, sym, ◌∙◌, arith}
+use Rattle.std.proofs.Common.{◌<◌, ap, length, subst, sym, ◌∙◌, arith}
 use Rattle.session_script.specs.Script.{ScriptModel, act_of}
 use Rattle.history_rules.specs.Requests.{slot_in}
 use Rattle.lane_map.specs.LaneNumbers.{cells_of, home_lane}

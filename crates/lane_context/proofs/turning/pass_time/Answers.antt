@@ -1,4 +1,4 @@
-use Rattle.std.proofs.Common.{◌≡◌, [], ◌∷◌, Some, None, ap, inl, inr, subst, ◌∙◌}
+use Rattle.std.proofs.Common.{◌≡◌, [], ◌∷◌, Some, None, ap, inl, subst, ◌∙◌}
 use Rattle.history_rules.specs.State.{ReactorHalf}
 use Rattle.history_rules.specs.Time.{next_time}
 use Rattle.proactor_core.specs.Proactor.{Follows}

@@ -1,4 +1,4 @@
-use Rattle.std.proofs.Common.{◌≡◌, ap, subst, sym, ◌∙◌, arith, length}
+use Rattle.std.proofs.Common.{ap, subst, sym, ◌∙◌, arith, length}
 use Rattle.session_script.specs.Script.{ScriptModel, act_of}
 use Rattle.session_script.specs.WellFormed.{IsWellFormed}
 use Rattle.lane_context.specs.Turning.{log_half}

@@ -3,7 +3,7 @@ use Rattle.std.specs.Prelude.{vec_capacity, vec_len}
 use Rattle.strand_core.specs.declared.posted.Posted.TheVariants as posted
 use Rattle.lane_context.proofs.CallLemmas.{begin_called}
 use Rattle.lane_context.proofs.PenLemmas.{may_go_less}
-use Rattle.lane_context.proofs.PosterLemmas.{posts_on, spare_less, takes_later, takes_now}
+use Rattle.lane_context.proofs.PosterLemmas.{posts_on, room_stays, spare_less, takes_later, takes_now}
 use Rattle.lane_context.proofs.lane_poster.LanePosterPoster.begin.Goals as goal
 
 pub draw-found-requires-clause-room : goal.draw-found-requires-clause-room
@@ -21,6 +21,7 @@ invariant_of-self g c =
       posting =
           posts_on _ _ _ (posted.Begin c.args.op c.args.code c.args.size c.draw-found.result.clock) c.draw-found.new.self _ _ c.self.invariant.posting
           (begin_called c.self.inside.script.now c.args.op c.args.code c.args.size c.draw-found.result c.self.inside.pen c.draw-found.new.self c.draw-found.ensures) c.push_reserved.ensures.items;
+      buffer = room_stays _ _ _ c.push_reserved.ensures.capacity c.self.invariant.buffer;
     }
 
 pub returns-clause-rest : goal.returns-clause-rest

@@ -1,7 +1,7 @@
 use Rattle.std.proofs.Common.{arith}
 use Rattle.std.specs.Prelude.{vec_capacity, vec_len}
 use Rattle.strand_core.specs.declared.posted.Posted.TheVariants as posted
-use Rattle.lane_context.proofs.PosterLemmas.{posts_on, spare_less, takes_later, takes_now}
+use Rattle.lane_context.proofs.PosterLemmas.{posts_on, room_stays, spare_less, takes_later, takes_now}
 use Rattle.lane_context.proofs.lane_poster.LanePosterPoster.call.Goals as goal
 
 pub draw_call-requires-clause-known : goal.draw_call-requires-clause-known
@@ -21,6 +21,7 @@ invariant_of-self g c =
       posting =
           posts_on _ _ _ (posted.Call c.args.act) c.draw_call.new.pen _ _ c.self.invariant.posting
           c.draw_call.ensures c.push_reserved.ensures.items;
+      buffer = room_stays _ _ _ c.push_reserved.ensures.capacity c.self.invariant.buffer;
     }
 
 pub returns-clause-rest : goal.returns-clause-rest

@@ -3,7 +3,7 @@ use Rattle.std.specs.Prelude.{vec_capacity, vec_len}
 use Rattle.strand_core.specs.declared.posted.Posted.TheVariants as posted
 use Rattle.lane_context.proofs.CallLemmas.{end_called}
 use Rattle.lane_context.proofs.PenLemmas.{may_go_less}
-use Rattle.lane_context.proofs.PosterLemmas.{posts_on, spare_less, takes_later, takes_now}
+use Rattle.lane_context.proofs.PosterLemmas.{posts_on, room_stays, spare_less, takes_later, takes_now}
 use Rattle.lane_context.proofs.lane_poster.LanePosterPoster.end.Goals as goal
 
 pub draw-requires-clause-room : goal.draw-requires-clause-room
@@ -21,6 +21,7 @@ invariant_of-self g c =
       posting =
           posts_on _ _ _ (posted.End c.args.op c.args.ran) c.draw.new.self _ _ c.self.invariant.posting
           (end_called c.self.inside.script.now c.args.op c.args.ran c.draw.result c.self.inside.pen c.draw.new.self c.draw.ensures) c.push_reserved.ensures.items;
+      buffer = room_stays _ _ _ c.push_reserved.ensures.capacity c.self.invariant.buffer;
     }
 
 pub returns-clause-rest : goal.returns-clause-rest

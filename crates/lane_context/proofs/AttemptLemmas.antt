@@ -1,0 +1,147 @@
+-- One attempt of a worker at a lane.
+use Rattle.std.proofs.Common.{◌≡◌, ℕ, suc, ◌+◌, ◌≤◌, Bool, true, false, cond, List, [], ◌∷◌, Option, Some, None, inl, inr, refl, sym, ap, subst, ◌∙◌, arith}
+use Rattle.std.proofs.lemmas.Bool.{eq-eqb}
+use Rattle.std.specs.Prelude.{◌==◌, not, if◌then◌else◌}
+use Rattle.turn_table.specs.Numbers.{without_number}
+use Rattle.turn_table.specs.Seated.{IsSeatOf, Lanes, Seated, with_turn, without_turn}
+use Rattle.lane_context.specs.declared.one.One.{One}
+use Rattle.lane_context.specs.declared.one.One.TheVariants as one
+use Rattle.lane_context.specs.declared.run_end.RunEnd.{RunEnd}
+use Rattle.lane_context.specs.declared.run_end.RunEnd.TheVariants as end
+use Rattle.lane_context.specs.Answers.{is_done, is_fault, is_nothing}
+use Rattle.lane_context.specs.Attempts.{Gives, HadTurn, HasTried, HoldsTurns, KeepsAfterFault, WorkerAt}
+use Rattle.lane_context.specs.LaneValues.{HasWorked, HearsOf, IsBaton, LaneCameTo, LaneValue, Terms, Tries, home_of}
+use Rattle.lane_context.specs.Workers.{WorkerView}
+
+none_left : (lane : ℕ) (turns : List ℕ) → turns ≡ [] → without_number lane (lane ∷ turns) ≡ []
+none_left lane turns none =
+    ap (λ turns. without_number lane (lane ∷ turns)) none
+    ∙ ap (λ b. cond (not b) (lane ∷ []) []) (eq-eqb lane lane refl)
+
+-- who had no turn and gives the one that it took has none again
+pub given_back : (lane : ℕ) (old took new : Seated) → old.turns ≡ [] → took ≡ with_turn lane old →
+    new ≡ without_turn lane took → new ≡ old
+given_back lane old took new none taken given =
+    given ∙ ap (without_turn lane) taken
+    ∙ ap (λ turns. record old { turns = turns }) (none_left lane old.turns none ∙ sym none)
+
+-- attempts one after another
+module _ {H X : Type 0} (t : Terms H X) where
+  pub first_work : (answer : One) (before after : LaneValue H X) → LaneCameTo t answer before after →
+      HasWorked t 1 answer before after
+  first_work answer before after came =
+      record { count = 0; few = omega arith; earlier = before; worked = refl; came = came }
+
+  pub more_work : (most : ℕ) (answer next : One) (before mid after : LaneValue H X) →
+      HasWorked t most answer before mid → is_done answer ≡ true → LaneCameTo t next mid after →
+      HasWorked t (most + 1) next before after
+  more_work most answer next before mid after it done came =
+      record {
+        count = suc it.count;
+        few = omega (arith, it.few);
+        earlier = mid;
+        worked = (it.earlier, answer, done, it.worked, it.came);
+        came = came;
+      }
+
+  pub less_work : (few most : ℕ) (answer : One) (before after : LaneValue H X) → HasWorked t few answer before after →
+      few ≤ most → HasWorked t most answer before after
+  less_work few most answer before after it less =
+      record {
+        count = it.count;
+        few = omega (arith, it.few, less);
+        earlier = it.earlier;
+        worked = it.worked;
+        came = it.came;
+      }
+
+module _ {H X : Type 0} (t : Tries H X) (lane : ℕ) (answer : One) (turns left : Seated)
+    (kept : Option (LaneValue H X)) (after : LaneValue H X) where
+  pub gives_none : (b : Bool) → b ≡ is_fault answer → b ≡ false → left ≡ turns → kept ≡ None →
+      Gives t lane (is_fault answer) after turns left kept
+  gives_none b same not_so given none =
+      subst (λ c. Gives t lane c after turns left kept) (sym not_so ∙ same) (given, none)
+
+  pub gives_kept : (b : Bool) → b ≡ is_fault answer → b ≡ true → left ≡ with_turn lane turns →
+      kept ≡ Some after → Gives t lane (is_fault answer) after turns left kept
+  gives_kept b same so given keeps =
+      subst (λ c. Gives t lane c after turns left kept) (sym so ∙ same) (given, keeps)
+
+  pub had_turn : (seat mid last : WorkerView) (before told polled : LaneValue H X) → IsBaton t.terms before →
+      IsBaton t.terms polled → home_of before ≡ lane → told ≡ before → HearsOf before seat mid →
+      HasWorked t.terms t.most answer told polled → home_of polled ≡ home_of told → after ≡ polled → HearsOf polled mid last →
+      Gives t lane (is_fault answer) after turns left kept →
+      HasTried t lane answer (record { seat = seat; turns = turns }) (record { seat = last; turns = left }) kept
+  had_turn seat mid last before told polled is still home same heard came at stays learned given =
+      inr (record {
+        before = before;
+        after = after;
+        is = is;
+        still = subst (IsBaton t.terms) (sym stays) still;
+        home = home;
+        stays = ap home_of stays ∙ at ∙ ap home_of same ∙ home;
+        mid = mid;
+        heard = heard;
+        worked =
+            subst (λ v. HasWorked t.terms t.most answer before v) (sym stays)
+            (subst (λ v. HasWorked t.terms t.most answer v polled) same came);
+        learned = subst (λ v. HearsOf v mid last) (sym stays) learned;
+        given = given;
+      })
+
+module _ {H X : Type 0} (t : Tries H X) (lane : ℕ) (answer : One) (old new : WorkerAt)
+    (kept : Option (LaneValue H X)) where
+  -- it has the turn of the lane that it keeps, and no other
+  pub holds_after : HasTried t lane answer old new kept → old.turns.turns ≡ [] → HoldsTurns kept (Some new.turns)
+  holds_after (inl held) none =
+      subst (λ k. HoldsTurns k (Some new.turns)) (sym held.none)
+      (ap (λ (s : Seated). s.turns) held.missed ∙ none)
+  holds_after (inr had) none = by_case (is_fault answer) had.given
+    where
+      by_case : (b : Bool) → Gives t lane b had.after old.turns new.turns kept → HoldsTurns kept (Some new.turns)
+      by_case false given =
+          subst (λ k. HoldsTurns k (Some new.turns)) (sym given.1) (ap (λ (s : Seated). s.turns) given.0 ∙ none)
+      by_case true given =
+          subst (λ k. HoldsTurns k (Some new.turns)) (sym given.1)
+          (ap (λ (s : Seated). s.turns) given.0 ∙ ap (λ turns. lane ∷ turns) none
+          ∙ ap (λ n. n ∷ []) (sym had.stays))
+
+  -- it keeps a lane only after a fault
+  pub keeps_after : HasTried t lane answer old new kept → (last : Option RunEnd) →
+      KeepsAfterFault kept (if is_fault answer then Some end.Fault else last)
+  keeps_after (inl held) last =
+      subst (λ k. KeepsAfterFault k (if is_fault answer then Some end.Fault else last)) (sym held.none) tt
+  keeps_after (inr had) last = by_case (is_fault answer) had.given
+    where
+      by_case : (b : Bool) → Gives t lane b had.after old.turns new.turns kept →
+          KeepsAfterFault kept (if b then Some end.Fault else last)
+      by_case false given = subst (λ k. KeepsAfterFault k last) (sym given.1) tt
+      by_case true given = subst (λ k. KeepsAfterFault k (Some end.Fault)) (sym given.1) refl
+
+  -- its seat is at the same table
+  pub seat_after : (lanes : Lanes) → HasTried t lane answer old new kept → IsSeatOf lanes old.turns →
+      IsSeatOf lanes new.turns
+  seat_after lanes (inl held) fits = subst (IsSeatOf lanes) (sym held.missed) fits
+  seat_after lanes (inr had) fits = by_case (is_fault answer) had.given
+    where
+      by_case : (b : Bool) → Gives t lane b had.after old.turns new.turns kept → IsSeatOf lanes new.turns
+      by_case false given = subst (IsSeatOf lanes) (sym given.0) fits
+      by_case true given = subst (IsSeatOf lanes) (sym given.0) fits
+
+  -- where it found nothing to do, it keeps no lane
+  pub free_after : HasTried t lane answer old new kept → is_fault answer ≡ false → kept ≡ None
+  free_after (inl held) works = held.none
+  free_after (inr had) works =
+      (subst (λ b. Gives t lane b had.after old.turns new.turns kept) works had.given).1
+
+-- an answer of nothing is that one, and no fault
+pub nothing_is : (answer : One) → is_nothing answer ≡ true → answer ≡ one.Nothing
+nothing_is (one.Ran op mark) is = absurd (cc is)
+nothing_is one.Turned is = absurd (cc is)
+nothing_is one.Nothing is = refl
+nothing_is one.Stopped is = absurd (cc is)
+nothing_is one.Fault is = absurd (cc is)
+nothing_is (one.Missing op) is = absurd (cc is)
+
+pub no_fault : (answer : One) → is_nothing answer ≡ true → is_fault answer ≡ false
+no_fault answer is = ap is_fault (nothing_is answer is)

@@ -1,0 +1,92 @@
+-- Calls of `poll_one` and `run`.
+use Rattle.std.proofs.Common.{◌≡◌, ◌≢◌, ◌⊎◌, inl, inr, ℕ, ◌<◌, Bool, true, false, Option, Some, None, refl, sym, ap, subst, ◌∙◌}
+use Rattle.std.specs.Prelude.{◌||◌, ◌==◌, not, is_some, IfSome}
+use Rattle.turn_table.specs.Seated.{Lanes, Seated}
+use Rattle.lane_clock.specs.declared.found.Found.{Found}
+use Rattle.lane_context.specs.declared.one.One.{One}
+use Rattle.lane_context.specs.declared.one.One.TheVariants as one
+use Rattle.lane_context.specs.declared.run_end.RunEnd.{RunEnd}
+use Rattle.lane_context.specs.declared.run_end.RunEnd.TheVariants as end
+use Rattle.lane_context.specs.Attempts.{IsSeated, WorkerState}
+use Rattle.lane_context.specs.LaneValues.{LaneValue, Tries}
+use Rattle.lane_context.specs.Runs.{CameLast, EndsFor, HasRun, HasSettled, is_barred, with_end}
+use Rattle.lane_context.specs.Scanning.{GoesOn, HasLooked, HasLookedRound, TriedLast}
+use Rattle.lane_context.proofs.ScanLemmas.{on_and_on, on_same}
+
+-- who may begin something keeps no lane
+pub keeps_none : {H X : Type 0} (kept : Option (LaneValue H X)) (b : Bool) → (is_some kept || b) ≡ false → kept ≡ None
+keeps_none None b free = refl
+keeps_none (Some value) b free = absurd (cc free)
+
+-- what was read says the same of the worker before and behind it
+pub barred_same : {H X : Type 0} (old new : WorkerState H X) (found : Found) → HasLooked old new found →
+    is_barred old found ≡ is_barred new found
+barred_same old new found looked =
+    ap (λ kept. is_some kept || (old.seat.stopped || not (found.stops == old.seat.round.base))) (sym looked.kept)
+    ∙ ap (λ stopped. is_some new.kept || (stopped || not (found.stops == old.seat.round.base))) (sym looked.read.stopped)
+    ∙ ap (λ round. is_some new.kept || (new.seat.stopped || not (found.stops == round.base))) (sym looked.read.round)
+
+pub looked_seated : {H X : Type 0} (lanes : Lanes) (old new : WorkerState H X) (found : Found) →
+    HasLooked old new found → IsSeated lanes old → IsSeated lanes new
+looked_seated lanes old new found looked is =
+    record { seat = is.seat; is = looked.turns ∙ is.is; fits = is.fits }
+
+-- why a call ends stays so where the worker had gone on before
+pub ends_on : {H X : Type 0} (t : Tries H X) (lanes : ℕ) (now : RunEnd) (a b c : WorkerState H X) → GoesOn a b →
+    EndsFor t lanes now b c → EndsFor t lanes now a c
+ends_on t lanes end.Ended a b c on why =
+    record {
+      before = why.before;
+      mid = why.mid;
+      since = on_and_on a b why.before on why.since;
+      each = why.each;
+      settled = why.settled;
+    }
+ends_on t lanes end.Stopped a b c on (inl why) =
+    inl (record { before = why.before; since = on_and_on a b why.before on why.since; read = why.read })
+ends_on t lanes end.Stopped a b c on (inr why) =
+    inr (record { before = why.before; since = on_and_on a b why.before on why.since; last = why.last })
+ends_on t lanes end.Idle a b c on why =
+    record {
+      before = why.before;
+      mid = why.mid;
+      since = on_and_on a b why.before on why.since;
+      each = why.each;
+      settled = why.settled;
+    }
+ends_on t lanes end.Fault a b c on why =
+    record { before = why.before; since = on_and_on a b why.before on why.since; last = why.last }
+
+-- where nothing was found to do, and what was read behind that ends the call
+pub nothing_ends : {H X : Type 0} (t : Tries H X) (lanes : ℕ) (old mid new : WorkerState H X) (o : Option RunEnd) →
+    GoesOn old mid → HasLookedRound t lanes one.Nothing old mid → IfSome o (λ now. HasSettled now mid new) →
+    IfSome o (λ now. EndsFor t lanes now old new)
+nothing_ends t lanes old mid new None on each settled = settled
+nothing_ends t lanes old mid new (Some end.Ended) on each settled =
+    record { before = old; mid = mid; since = on_same old; each = each; settled = settled }
+nothing_ends t lanes old mid new (Some end.Stopped) on each settled =
+    inl (record {
+      before = mid;
+      since = on;
+      read = record { found = settled.found; looked = settled.looked; is = settled.why };
+    })
+nothing_ends t lanes old mid new (Some end.Idle) on each settled =
+    record { before = old; mid = mid; since = on_same old; each = each; settled = settled }
+nothing_ends t lanes old mid new (Some end.Fault) on each settled = absurd settled.why
+
+-- an attempt that ends a call was the last that the worker did
+pub came_last : {H X : Type 0} (t : Tries H X) (lanes : ℕ) (answer : One) (old new : WorkerState H X) →
+    TriedLast t lanes answer old new → CameLast t lanes answer old new
+came_last t lanes answer old new tried = record { before = old; since = on_same old; last = tried }
+
+pub ended_on : {H X : Type 0} (old mid new : WorkerState H X) (now : RunEnd) → GoesOn old mid →
+    new ≡ with_end mid now → GoesOn old new
+ended_on old mid new now on kept =
+    subst (GoesOn old) (sym kept) (record { seat = on.seat; misses = on.misses })
+
+pub has_run : {H X : Type 0} (t : Tries H X) (lanes : ℕ) (now answer : RunEnd) (old mid ended new : WorkerState H X) →
+    GoesOn old mid → EndsFor t lanes now mid ended → new ≡ with_end ended now → answer ≡ now →
+    HasRun t lanes answer old new
+has_run t lanes now answer old mid ended new on why kept same =
+    subst (λ a. HasRun t lanes a old new) (sym same)
+    record { ended = ended; why = ends_on t lanes now old mid ended on why; kept = kept }

@@ -1,0 +1,12 @@
+use Rattle.lane_context.specs.Attending.{HasGoneOn, HaveAttended}
+use Rattle.lane_context.specs.Benches.{AreInRound}
+use Rattle.lane_context.proofs.bench.attend_all.Given as goal
+
+abbrev pub invariant-loop-one : goal.invariant-loop-one
+invariant-loop-one g l = record {
+  on : HasGoneOn l.fn.opener l.opener;
+  attended : HaveAttended g.T.Attendee.seat g.N.LaneSession.names.script l.fn.opener l.opener l.initial.all l.all
+      l.one-index;
+  round : AreInRound g.T.Attendee.base g.T.Attendee.running g.N.LaneSession.names.script l.opener.stand l.all
+      l.one-index;
+}

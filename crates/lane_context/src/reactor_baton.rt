@@ -1,0 +1,145 @@
+ghost use Rattle.std.specs.Prelude.{◌≡◌};
+ghost use Rattle.lane_map.specs.LaneNumbers.{cells_of};
+ghost use Rattle.lane_context.specs.ReactorPolling.{TurnCameTo};
+ghost use Rattle.lane_context.specs.Turning.{IsReactorBaton};
+ghost use Rattle.lane_context.specs.Workers.{HasHeard};
+
+use crate::attendee::{Attendee, LaneAttendee, attend_lane};
+use crate::lane::LaneState;
+use crate::law::clock_fits;
+use crate::one::One;
+use crate::opener::Opener;
+use crate::reactor_polling::{ReactorPolled, poll_reactor};
+use crate::session::LaneSession;
+use crate::worker_seat::{WorkerSeat, tell_lane};
+use lane_clock::LaneClock;
+use lane_map::{LaneMap, lanes_have_cells};
+use proactor_core::Proactor;
+use reactor_trait::Reactor;
+use session_script::Script;
+use std::marker::{Brand, Model, PhantomData};
+
+/// The reactor's lane, as it lies in its slot between turns: its log is made of whole turns, and its
+/// proactor stands where that log leads.
+#[derive(Drop)]
+pub(crate) struct ReactorBaton<'a, X: Reactor, N: LaneSession> {
+    pub(crate) lane: LaneState,
+    pub(crate) proactor: Proactor<'a, X>,
+    pub(crate) names: PhantomData<N>,
+}
+
+impl<'a, X: Reactor, N: LaneSession> Model for ReactorBaton<'a, X, N> {
+    ghost use Rattle.lane_context.specs.Turning.{IsReactorBaton, ReactorView};
+
+    ghost Value = { ReactorView X };
+
+    ghost view = { λ b. record { lane = b.lane; proactor = b.proactor } };
+
+    ghost invariant = { λ b.
+        IsReactorBaton N.names X.state X.told X.faults N.faults N.clock
+        (record { lane = b.lane; proactor = b.proactor }) };
+}
+
+/// What an attempt at the reactor's lane leaves: its baton, and what it came to.
+#[derive(Drop)]
+pub(crate) struct ReactorBatonPolled<'a, X: Reactor, N: LaneSession> {
+    pub(crate) baton: ReactorBaton<'a, X, N>,
+    pub(crate) one: One,
+}
+
+impl<'a, X: Reactor, N: LaneSession> ReactorBaton<'a, X, N> {
+    /// Looks at the lane's next place, and takes the request that it sees there, or lets time pass,
+    /// unless a load behind the look finds that the context is stopped.
+    pub(crate) fn poll(
+        self,
+        clock: &LaneClock,
+        script: &'a Script,
+        map: &LaneMap<'a>,
+    ) -> ReactorBatonPolled<'a, X, N>
+        requires clock { clock.now ≡ N.clock }
+        requires cells { clock.now.plan.cells ≡ cells_of script.now }
+        requires script { script.now ≡ N.names.script }
+        requires map { map.now ≡ script.now }
+        ensures came { TurnCameTo N.names X.faults result.one self.entry.lane result.baton.lane
+            self.entry.proactor result.baton.proactor }
+    {
+        clock_fits(clock, script);
+        lanes_have_cells(script);
+        let ReactorBaton {
+            lane,
+            mut proactor,
+            names,
+        } = self;
+        let ReactorPolled { lane, one } = poll_reactor::<X, N, Brand>(
+            clock,
+            script,
+            map,
+            lane,
+            &mut proactor,
+        );
+        ReactorBatonPolled {
+            baton: ReactorBaton {
+                lane,
+                proactor,
+                names,
+            },
+            one,
+        }
+    }
+
+    /// What holds of every such lane.
+    pub(crate) fn is_one(&self)
+        ensures { IsReactorBaton N.names X.state X.told X.faults N.faults N.clock self.now }
+    {
+        let _lane = &self.lane;
+    }
+
+    /// The number of its lane.
+    pub(crate) fn lane_number(&self) -> u32
+        ensures { result ≡ self.now.lane.lane }
+    {
+        self.lane.at.lane
+    }
+
+    /// A worker takes in what the lane did.
+    pub(crate) fn tell(&mut self, clock: &LaneClock, worker: &mut WorkerSeat<N>)
+        requires clock { clock.now ≡ N.clock }
+        ensures same { self.new ≡ self.old }
+        ensures heard { HasHeard self.old.lane.pen.seat self.old.lane.base worker.old worker.new }
+    {
+        tell_lane(&mut self.lane, clock, worker);
+    }
+}
+
+impl<'a, X: Reactor, N: LaneSession> Attendee<N> for ReactorBaton<'a, X, N> {
+    ghost seat = { λ b. b.lane.pen.seat };
+
+    ghost base = { λ b. b.lane.base };
+
+    ghost running = { λ b. b.lane.running };
+
+    ghost place = { λ b. b.lane.place };
+
+    fn report(&mut self, opener: &mut Opener<N>, clock: &LaneClock) {
+        opener.hear(clock, &mut self.lane.pen);
+    }
+
+    fn attend(&mut self, opener: &mut Opener<N>, clock: &LaneClock, script: &Script) {
+        attend_lane(&mut self.lane, opener, clock, script);
+    }
+}
+
+impl<'a, X: Reactor, N: LaneSession> LaneAttendee<N> for ReactorBaton<'a, X, N> {
+    fn number(&self) -> u32 {
+        self.lane.at.lane
+    }
+
+    fn next_place(&self) -> u32 {
+        self.lane.at.place
+    }
+
+    fn has_failed(&self) -> bool {
+        let _lane = &self.lane;
+        self.proactor.failed()
+    }
+}

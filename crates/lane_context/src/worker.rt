@@ -1,0 +1,108 @@
+ghost use Rattle.std.specs.Prelude.{◌≡◌};
+ghost use Rattle.lane_context.specs.Runs.{is_barred, last_end, with_end};
+ghost use Rattle.lane_context.specs.Scanning.{GoesOn, HasLooked};
+ghost use Rattle.lane_context.specs.Workers.{Stops, is_set, may_draw_stop};
+
+use crate::baton::Baton;
+use crate::run_end::RunEnd;
+use crate::session::LaneSession;
+use crate::worker_seat::WorkerSeat;
+use lane_clock::{Found, LaneClock};
+use op_handlers::CompletionHandler;
+use reactor_trait::Reactor;
+use std::marker::Model;
+use strand_core::Posted;
+use turn_table::TurnSeat;
+
+/// One who executes handlers of a context: each thread that calls `run` has one of its own (Asio
+/// reference, io_context::run). It draws nothing itself but stops.
+pub struct Worker<'a, X: Reactor, H: CompletionHandler, N: LaneSession> {
+    pub(crate) seat: WorkerSeat<N>,
+    // its seat at the table of turns, unless another has gathered it
+    pub(crate) turns: Option<TurnSeat>,
+    // the reactor's lane, which it keeps after a fault
+    pub(crate) kept: Option<Baton<'a, X, H, N>>,
+    // how its last call ended
+    pub(crate) last: Option<RunEnd>,
+    // the lane at which it looks first
+    pub(crate) cursor: u32,
+    // the room for the calls of an execution; out while one is made
+    pub(crate) made: Option<Vec<Posted>>,
+}
+
+impl<'a, X: Reactor, H: CompletionHandler, N: LaneSession> Model for Worker<'a, X, H, N> {
+    ghost use Rattle.lane_context.specs.Attempts.{HoldsTurns, IsCallRoom, KeepsAfterFault, WorkerState};
+
+    ghost Value = { WorkerState H X };
+
+    ghost view = { λ w. record { seat = w.seat; turns = w.turns; kept = w.kept; last = w.last } };
+
+    ghost invariant = { λ w. record {
+      turns : HoldsTurns w.kept w.turns;
+      last : KeepsAfterFault w.kept w.last;
+      room : IsCallRoom N.names.script w.made;
+    } };
+}
+
+impl<'a, X: Reactor, H: CompletionHandler, N: LaneSession> Worker<'a, X, H, N> {
+    /// Reads the clock, the work and the stops.
+    pub(crate) fn read(&mut self, clock: &LaneClock) -> Found
+        requires clock { clock.now ≡ N.clock }
+        ensures looked { HasLooked self.old self.new result }
+        ensures on { GoesOn self.old self.new }
+    {
+        self.seat.read(clock)
+    }
+
+    /// Whether it may begin nothing, by what it read: the context is stopped, or it keeps the reactor
+    /// that failed.
+    pub(crate) fn is_barred(&self, found: Found) -> bool
+        ensures { result ≡ is_barred self.now found }
+    {
+        self.kept.is_some() || self.seat.is_set(found)
+    }
+
+    /// Whether the stop word counts as set for it, by what it read.
+    pub(crate) fn is_set(&self, found: Found) -> bool
+        ensures { result ≡ is_set self.now.seat found }
+    {
+        self.seat.is_set(found)
+    }
+
+    /// Stops the context.
+    pub(crate) fn stop(&mut self, clock: &LaneClock)
+        requires clock { clock.now ≡ N.clock }
+        ensures stops { Stops self.old.seat self.new.seat (may_draw_stop self.old.seat) }
+        ensures turns { self.new.turns ≡ self.old.turns }
+        ensures kept { self.new.kept ≡ self.old.kept }
+        ensures last { self.new.last ≡ self.old.last }
+    {
+        self.seat.stop(clock);
+    }
+
+    /// Whether time may pass in the round.
+    pub(crate) fn is_running(&self) -> bool
+        ensures { result ≡ self.now.seat.round.running }
+    {
+        self.seat.is_running()
+    }
+
+    /// Keeps how a call ended; after a fault that stays.
+    pub(crate) fn ends(&mut self, end: RunEnd) -> RunEnd
+        ensures same { result ≡ end }
+        ensures kept { self.new ≡ with_end self.old end }
+    {
+        self.last = last_end(self.last, end);
+        end
+    }
+}
+
+/// The last end of a worker whose last was this one.
+fn last_end(last: Option<RunEnd>, end: RunEnd) -> Option<RunEnd>
+    ensures { result ≡ last_end last end }
+{
+    match last {
+        Some(RunEnd::Fault) => last,
+        _ => Some(end),
+    }
+}
