@@ -39,7 +39,7 @@ pub record IsGoing (script : ScriptModel) (told : Bool) (lane : Lane) (left : Li
   pub sees : SeesAlike script lane alone.context.acts acts
   pub ends : IsAtRest script (state_from script told alone left).context
 
-not_underway : (of : ActPhase) → is_running of ≡ false → waits_inside of ≡ false → is_underway of ≡ false
+pub not_underway : (of : ActPhase) → is_running of ≡ false → waits_inside of ≡ false → is_underway of ≡ false
 not_underway (phase.Running class progress) quiet entered = absurd (cc)
 not_underway phase.Inside quiet entered = absurd (cc)
 not_underway other quiet entered = refl

@@ -1,7 +1,7 @@
 -- A handler that has begun was shown to begin.
 use Rattle.std.proofs.Common.{◌≡◌, ℕ, ◌+◌, ◌<◌, ◌≤◌, Bool, true, false, cond, List, [], ◌∷◌, ◌++◌, None, Some, inl, inr, length, refl, sym, ap, ◌∙◌, arith}
 use Rattle.std.specs.Option.{unwrap_or}
-use Rattle.std.proofs.lemmas.Bool.{cases_eq, eq-eqb}
+use Rattle.std.proofs.lemmas.Bool.{cases_eq, eq-eqb, ne_eqb}
 use Rattle.asio_types.specs.Faults.{most_faults}
 use Rattle.asio_types.specs.declared.code.Code.TheVariants as code
 use Rattle.asio_types.specs.declared.event.Event.{Event}
@@ -21,11 +21,13 @@ use Rattle.history_rules.specs.declared.phase.Cause.TheVariants as cause
 use Rattle.history_rules.specs.declared.phase.Step.{Step}
 use Rattle.lane_context.specs.LaneLog.{is_begin_of}
 use Rattle.book_context.specs.Order.{has_begun}
+use Rattle.book_context.proofs.RestLemmas.{is_within}
 use Rattle.reactor_turns.proofs.SummingLemmas.{one_if}
 use Rattle.history_merge.proofs.CalledLemmas.{AreExpected}
 use Rattle.history_merge.proofs.CountedLemmas.{counted_is, counted_most}
 use Rattle.history_merge.proofs.EachActLemmas.{Each}
-use Rattle.history_merge.proofs.EventOrderLemmas.{in_order}
+use Rattle.history_merge.proofs.EventOrderLemmas.{in_order, to_begin}
+use Rattle.history_merge.proofs.FrameLemmas.{begun_act}
 use Rattle.history_merge.proofs.NextCallLemmas.{fresh_next}
 use Rattle.history_merge.proofs.OrderlyLemmas.{IsExpected, IsInOrder}
 use Rattle.history_merge.proofs.TestLemmas.{IsSame, back_same, base_same, begin_same, call_same, phase_same, stop_same}
@@ -56,10 +58,6 @@ finished_begun : (script : ScriptModel) (o : ℕ) (of : ActPhase) → has_finish
 finished_begun script o (phase.Running class progress) is = refl
 finished_begun script o other is = absurd (cc)
 
-at_most_one : (b : Bool) → one_if b ≤ 1
-at_most_one true = omega arith
-at_most_one false = omega arith
-
 module _ (script : ScriptModel) (well : IsWellFormed script) (told : Bool) (act : ℕ) where
   abbrev begun_at : State → Bool
   begun_at s = has_begun (phase_at s.context act)
@@ -73,64 +71,78 @@ module _ (script : ScriptModel) (well : IsWellFormed script) (told : Bool) (act 
   abbrev Here : ℕ → ℕ → Type 0
   Here o n = n ≡ o
 
+  abbrev Counts : State → Event → Type 0
+  Counts s shown =
+      one_if (begun_at (after_event script told s shown)) ≡ one_if (begun_at s) + one_if (is_begin_of act shown)
+
   -- an event that isn't its begin leaves whether it has begun
-  same_begun : (s : State) (shown : Event) → Each (IsSame test Nowhere) s.context.acts (context_after script s.context shown).acts →
-      one_if (begun_at (after_event script told s shown)) ≤ one_if (begun_at s) + one_if (is_begin_of act shown)
-  same_begun s shown each = let same = ap one_if ((each act).same (λ never. never)) in omega (arith, same)
+  same_begun : (s : State) (shown : Event) → one_if (is_begin_of act shown) ≡ 0 →
+      Each (IsSame test Nowhere) s.context.acts (context_after script s.context shown).acts → Counts s shown
+  same_begun s shown isnt each = let same = ap one_if ((each act).same (λ never. never)) in omega (arith, same, isnt)
 
   begun_after : (s : State) (shown : Event) → IsInOrder script s.context → MayHappen script told s shown →
-      IsExpected s.context shown →
-      one_if (begun_at (after_event script told s shown)) ≤ one_if (begun_at s) + one_if (is_begin_of act shown)
+      IsExpected s.context shown → Counts s shown
   begun_after s (event.Call a) order may expected =
-      same_begun s (event.Call a)
+      same_begun s (event.Call a) refl
       (call_same test begun_step script s.context Nowhere a
       (λ here.
       accepted_by (is_inline script a) (is_act is_posting script a) (is_act is_operation script a)
       (is_act is_control script a)
       ∙ sym (ap (λ (x : ActState). has_begun x.phase) (fresh_next script well s.context order s.reactor.failed a may))))
   begun_after s (event.Stop (Some a)) order may expected =
-      same_begun s (event.Stop (Some a)) (stop_same test begun_step script s.context Nowhere a)
+      same_begun s (event.Stop (Some a)) refl (stop_same test begun_step script s.context Nowhere a)
   begun_after s (event.Stop None) order may expected =
-      same_begun s (event.Stop None) (base_same test begun_step script s.context Nowhere)
+      same_begun s (event.Stop None) refl (base_same test begun_step script s.context Nowhere)
   begun_after s (event.Back a) order may expected =
-      same_begun s (event.Back a) (back_same test begun_step script s.context Nowhere a)
+      same_begun s (event.Back a) refl (back_same test begun_step script s.context Nowhere a)
   begun_after s (event.Begin o given size) order may expected = elim (cases_eq o act) [
     | inl same ↦
         let begins : one_if (is_begin_of act (event.Begin o given size)) ≡ 1 = ap one_if (eq-eqb o act same) in
-        let most = at_most_one (begun_at (after_event script told s (event.Begin o given size))) in
-        omega (arith, begins, most)
+        let to = to_begin script s.context o given size may in
+        let was : one_if (begun_at s) ≡ 0 = ap (λ n. one_if (has_begun (phase_at s.context n))) (sym same) ∙ ap one_if to.isnt in
+        let now : one_if (begun_at (after_event script told s (event.Begin o given size))) ≡ 1 =
+        ap (λ n. one_if (has_begun (phase_at (context_after script s.context (event.Begin o given size)) n))) (sym same)
+        ∙ ap (λ (x : ActState). one_if (has_begun x.phase))
+        (begun_act script s.context o (is_within s.context o to.there) given) in
+        omega (arith, begins, was, now)
     | inr other ↦
         let still =
         ap one_if ((begin_same test begun_step script s.context (Here o) o given size (λ away. absurd (away refl)) act).same
         (λ is. other (sym is))) in
-        omega (arith, still)
+        let none : one_if (is_begin_of act (event.Begin o given size)) ≡ 0 = ap one_if (ne_eqb o act other) in
+        omega (arith, still, none)
   ]
   begun_after s (event.End o mark) order may expected =
-      same_begun s (event.End o mark)
+      same_begun s (event.End o mark) refl
       (phase_same test begun_step script s.context Nowhere o phase.Ended
       (λ here. sym (finished_begun script o (phase_at s.context o) may)))
   begun_after s (event.Done o given size) order may expected =
-      same_begun s (event.Done o given size)
+      same_begun s (event.Done o given size) refl
       (phase_same test begun_step script s.context Nowhere o
       (phase.Ready given size (cause.Completed s.context.events (unwrap_or s.context.turn 0)))
       (λ here. sym (ap has_begun expected)))
   begun_after s (event.Dropped o mark) order may expected =
-      same_begun s (event.Dropped o mark)
+      same_begun s (event.Dropped o mark) refl
       (phase_same test begun_step script s.context Nowhere o phase.Dropped (λ here. sym expected))
-  begun_after s other order may expected = same_begun s other (base_same test begun_step script s.context Nowhere)
+  begun_after s other order may expected = same_begun s other refl (base_same test begun_step script s.context Nowhere)
 
   -- what has begun began here, or before
-  pub begun_shown : (s : State) (events : List Event) → IsInOrder script s.context →
+  pub begun_exact : (s : State) (events : List Event) → IsInOrder script s.context →
       s.context.events + length events < most_faults → AreExpected script told s events →
-      one_if (begun_at (state_from script told s events)) ≤ one_if (begun_at s) + begins_of act events
-  begun_shown s [] order room are = omega arith
-  begun_shown s (shown ∷ events) order room are =
+      one_if (begun_at (state_from script told s events)) ≡ one_if (begun_at s) + begins_of act events
+  begun_exact s [] order room are = omega arith
+  begun_exact s (shown ∷ events) order room are =
       let next : State = after_event script told s shown in
       let one : next.context.events ≤ s.context.events + 1 =
       let is = counted_is script told s (shown ∷ []) (omega (arith, room)) in
       let most = counted_most (shown ∷ []) in omega (arith, is, most) in
       let rest =
-      begun_shown next events
+      begun_exact next events
       (in_order script well told s order (omega (arith, room)) shown are.0 are.1) (omega (arith, room, one)) are.2 in
       let now = begun_after s shown order are.0 are.1 in
       omega (arith, rest, now)
+
+  pub begun_shown : (s : State) (events : List Event) → IsInOrder script s.context →
+      s.context.events + length events < most_faults → AreExpected script told s events →
+      one_if (begun_at (state_from script told s events)) ≤ one_if (begun_at s) + begins_of act events
+  begun_shown s events order room are = let is = begun_exact s events order room are in omega (arith, is)

@@ -24,7 +24,7 @@ use Rattle.book_context.proofs.PlaceLemmas.{parent_is}
 use Rattle.lane_map.proofs.PlaceLemmas.{lane_at}
 use Rattle.history_merge.specs.Among.{IsPlaceOn}
 
-or_reactor : (found : Option Lane) → lane_or_reactor found ≡ unwrap_or found lane.Reactor
+pub or_reactor : (found : Option Lane) → lane_or_reactor found ≡ unwrap_or found lane.Reactor
 or_reactor None = refl
 or_reactor (Some found) = refl
 

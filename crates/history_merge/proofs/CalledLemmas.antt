@@ -155,7 +155,7 @@ module _ (script : ScriptModel) (well : IsWellFormed script) (told : Bool) (act 
       omega (arith, rest, now)
 
 -- before the first event all acts are in order
-first_order : (script : ScriptModel) (told : Bool) → IsInOrder script (first_state script told).context
+pub first_order : (script : ScriptModel) (told : Bool) → IsInOrder script (first_state script told).context
 first_order script told =
     let fresh_at : (n : ℕ) → act_at (first_state script told).context n ≡ fresh = all_fresh (length script.acts) in
     record {

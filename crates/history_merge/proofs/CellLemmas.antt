@@ -50,12 +50,12 @@ summed_zero : (f : ℕ → ℕ) (n : ℕ) → ((m : ℕ) → f m ≡ 0) → summ
 summed_zero f zero none = refl
 summed_zero f (suc n) none = let rest = summed_zero f n none in let here = none n in omega (arith, rest, here)
 
-summed_counted : (test : ℕ → Bool) (n : ℕ) → summed (λ m. one_if (test m)) n ≡ counted test n
+pub summed_counted : (test : ℕ → Bool) (n : ℕ) → summed (λ m. one_if (test m)) n ≡ counted test n
 summed_counted test zero = refl
 summed_counted test (suc n) = let rest = summed_counted test n in omega (arith, rest)
 
 -- one number among the first
-one_among : (a n : ℕ) (b here : Bool) → (b ≡ true → a < n) →
+pub one_among : (a n : ℕ) (b here : Bool) → (b ≡ true → a < n) →
     one_if (b && here) ≡ summed (λ m. one_if (b && ((a == m) && here))) n
 one_among a n false here within = sym (summed_zero (λ m. one_if (false && ((a == m) && here))) n (λ m. refl))
 one_among a n true true within =
@@ -166,6 +166,17 @@ module _ (names : SessionNames) (well : IsWellFormed names.script) (logs : LogsV
           (asks (label_of labels es e) (asked_at e es all.1 parts.0) parts.1))
       by_test false is = is
 
+  -- so an act gets one place of the lane that it asks at most
+  pub placed_once : (guards seats : ℕ) (es : List ClockEvent) → seats ≤ 2 ^ 15 → IsSoundHistory guards seats es →
+      AreLabelled labels es → AreExpected script names.told (first_state script names.told) (shown_in labels es) →
+      (act : ℕ) → act < acts → (b : Bool) → asks_place script lane act ≡ b → total labels (placed_of script lane act) es ≤ one_if b
+  placed_once guards seats es few sound all expected act within true is =
+      let led = placed_led act es in
+      let once = led_once names logs labels are guards seats act es few sound all well within expected in
+      omega (arith, led, once)
+  placed_once guards seats es few sound all expected act within false is =
+      let none = none_placed act es all is in omega (arith, none)
+
   pub placed_most : (guards seats : ℕ) (es : List ClockEvent) → seats ≤ 2 ^ 15 → IsSoundHistory guards seats es →
       AreLabelled labels es → AreExpected script names.told (first_state script names.told) (shown_in labels es) →
       total labels (placed_by script lane) es ≤ counted (asks_place script lane) acts
@@ -175,18 +186,11 @@ module _ (names : SessionNames) (well : IsWellFormed names.script) (logs : LogsV
       let count = summed_counted (asks_place script lane) acts in
       omega (arith, sum, each, count)
     where
-      one : (act : ℕ) → act < acts → (b : Bool) → asks_place script lane act ≡ b →
-          total labels (placed_of script lane act) es ≤ one_if b
-      one act within true is =
-          let led = placed_led act es in
-          let once = led_once names logs labels are guards seats act es few sound all well within expected in
-          omega (arith, led, once)
-      one act within false is = let none = none_placed act es all is in omega (arith, none)
-
       among : (n : ℕ) → n ≤ acts → summed (λ act. total labels (placed_of script lane act) es) n
           ≤ summed (λ act. one_if (asks_place script lane act)) n
       among zero less = omega arith
       among (suc n) less =
           let rest = among n (omega (arith, less)) in
-          let here = one n (omega (arith, less)) (asks_place script lane n) refl in
+          let here =
+          placed_once guards seats es few sound all expected n (omega (arith, less)) (asks_place script lane n) refl in
           omega (arith, rest, here)

@@ -116,7 +116,7 @@ round_opening script stand found = go (wants_restart script stand)
     go true = refl
     go false = refl
 
-opened_stays : (script : ScriptModel) (stand : Stand) (found : Found) → stand.opening ≡ 0 →
+pub opened_stays : (script : ScriptModel) (stand : Stand) (found : Found) → stand.opening ≡ 0 →
     (after_draw script stand found).opening ≡ 0
 opened_stays script stand found opened =
     subst (λ left. (after_opening_draw left script stand found).opening ≡ 0) (sym opened)

@@ -49,11 +49,11 @@ unspent_there : (of : ActPhase) → is_unspent of ≡ true → of ≢ phase.Abse
 unspent_there of is absent = let wrong : true ≡ false = sym is ∙ ap is_unspent absent in absurd (cc)
 
 -- a handler that is to begin is there, and hasn't begun
-record IsToBegin (of : ActPhase) : Type 0 where
-  there : of ≢ phase.Absent
-  isnt : has_begun of ≡ false
+pub record IsToBegin (of : ActPhase) : Type 0 where
+  pub there : of ≢ phase.Absent
+  pub isnt : has_begun of ≡ false
 
-to_begin : (script : ScriptModel) (s : ContextState) (o : ℕ) (given : Code) (size : ℕ) →
+pub to_begin : (script : ScriptModel) (s : ContextState) (o : ℕ) (given : Code) (size : ℕ) →
     MayBegin script s o given size → IsToBegin (phase_at s o)
 to_begin script s o given size (inl outside) = record {
   there = λ absent.
@@ -117,7 +117,7 @@ module _ (script : ScriptModel) (well : IsWellFormed script) (told : Bool) (s : 
   unbegun o to isnt class k made =
       absurd (let wrong : true ≡ false = sym (made_begun class k (phase_at s.context o) made) ∙ isnt in cc)
 
-  acts_later : (shown : Event) → MayHappen script told s shown → IsExpected s.context shown →
+  pub acts_later : (shown : Event) → MayHappen script told s shown → IsExpected s.context shown →
       Each (IsLater shown later) s.context.acts (context_after script s.context shown).acts
   acts_later (event.Call a) may expected =
       let new : ActState = record { call = call.Open now; phase = accepted script a } in

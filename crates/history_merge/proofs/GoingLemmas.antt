@@ -156,22 +156,22 @@ module _ (names : SessionNames) (opener : List ClockStep) (lane : ℕ) (earlier 
 module _ (names : SessionNames) (logs : LogsView) (labels : ℕ → List Labelled) (logged : AreLogs names logs)
     (are : AreLabels names logs labels) (e : ClockEvent) (es : List ClockEvent)
     (tail : Tail (e ∷ es) logged.closed.history) (within : e.by < lane_count names.script) where
-  abbrev opener : List ClockStep
+  abbrev pub opener : List ClockStep
   opener = logs.lists (opener_seat names.script)
 
-  abbrev parts : List Part
+  abbrev pub parts : List Part
   parts = (are.lanes e.by within).parts
 
-  abbrev makes : Part → List Labelled
+  abbrev pub makes : Part → List Labelled
   makes = labels_in names.script e.by
 
   -- the step stands in such a part
   module _ (at : IsMadeAt Part makes parts (length (steps_under e.by es)) (label_of labels es e))
       (draws : IsDrawing names opener e.by at.earlier (makes at.part)) where
-    abbrev since : ℕ
+    abbrev pub since : ℕ
     since = length (all_made Part makes at.earlier)
 
-    split : (rest : List Labelled)
+    pub split : (rest : List Labelled)
         × (labels e.by ≡ all_made Part makes at.earlier ++ (at.before ++ label_of labels es e ∷ rest))
     split =
         let up = made_up_to Part makes parts (length (steps_under e.by es)) (label_of labels es e) at in (
@@ -191,14 +191,14 @@ module _ (names : SessionNames) (logs : LogsView) (labels : ℕ → List Labelle
         (sym (length-map xs step_of))
         ∙ take-append_seam (steps_in xs) (steps_in (at.before ++ label_of labels es e ∷ split.0)))
 
-    known : known_steps opener (opener_seat names.script) (take since (logs.lists e.by))
+    pub known : known_steps opener (opener_seat names.script) (take since (logs.lists e.by))
         ≡ known_steps opener (opener_seat names.script) (steps_in (labels_of names.script e.by at.earlier))
     known =
         ap (known_steps opener (opener_seat names.script))
         (earlier_steps ∙ ap steps_in (sym (lane_made names.script e.by at.earlier)))
 
     -- its load was a step of the clock
-    load_at : StepAt logs.lists e.by (since + length draws.front) (Load draws.load)
+    pub load_at : StepAt logs.lists e.by (since + length draws.front) (Load draws.load)
     load_at =
         let more = made-append Part makes at.later (at.part ∷ at.earlier) in
         let here : get_elem? (makes at.part) (length draws.front) ≡ some (silent (Load draws.load)) =
@@ -216,7 +216,7 @@ module _ (names : SessionNames) (logs : LogsView) (labels : ℕ → List Labelle
         (step_of_label (labels e.by) (since + length draws.front) (silent (Load draws.load)) whole)
 
     -- nothing was taken in since
-    quiet : (i : ℕ) (counts : List ℕ) → since ≤ i → i ≤ length (steps_under e.by es) →
+    pub quiet : (i : ℕ) (counts : List ℕ) → since ≤ i → i ≤ length (steps_under e.by es) →
         StepAt logs.lists e.by i (Join counts) → ⊥
     quiet i counts from to step =
         let label : Labelled = label_of labels es e in
@@ -238,23 +238,34 @@ module _ (names : SessionNames) (logs : LogsView) (labels : ℕ → List Labelle
         ∙ (at_left before at.after k less ∙ first) in
         subst IsNoJoin found.2 (every_at IsAlone (makes at.part) draws.alone k found.0 own)
 
-    -- so a round is open, whose restart found the stops that the load found
-    pub going_at : IsRoundOf names.script (stand_of names.script (steps_under (opener_seat names.script) es)) draws.load.stops
-    going_at =
-        let older = tail_more es e logged.closed.history tail in
+    -- a round was open by what it knew, whose restart found the stops that the load found
+    pub round_known : IsRoundOf names.script
+        (stand_of names.script
+        (known_steps opener (opener_seat names.script) (steps_in (labels_of names.script e.by at.earlier)))) draws.load.stops
+    round_known =
         let parted = logged.closed.rule.changes_add_up.parted e.by (since + length draws.front) draws.load
         (Load draws.load, load_at, by_load draws.load) in
-        let then =
         open_base names.script
         (known_steps opener (opener_seat names.script) (steps_in (labels_of names.script e.by at.earlier))) draws.load.stops
-        parted.2 draws.going in
-        let opened =
-        open_opened names.script
+        parted.2 draws.going
+
+    pub opened_known :
         (stand_of names.script
-        (known_steps opener (opener_seat names.script) (steps_in (labels_of names.script e.by at.earlier))))
-        then.round in
-        let same =
-        known_stand names.script logs.lists (session_layout names.script) logs.last logged.closed logged.cuts es older e.by since
-        (omega (arith, within)) (omega (arith, at.index)) quiet
-        (ap (λ steps. (stand_of names.script steps).opening) known ∙ opened) in
-        subst (λ stand. IsRoundOf names.script stand draws.load.stops) (sym (same ∙ ap (stand_of names.script) known)) then
+        (known_steps opener (opener_seat names.script) (take since (logs.lists e.by)))).opening ≡ 0
+    opened_known =
+        ap (λ steps. (stand_of names.script steps).opening) known
+        ∙ open_opened names.script
+        (stand_of names.script
+        (known_steps opener (opener_seat names.script) (steps_in (labels_of names.script e.by at.earlier)))) round_known.round
+
+    -- and so it is
+    pub stand_at : stand_of names.script (steps_under (opener_seat names.script) es)
+        ≡ stand_of names.script
+        (known_steps opener (opener_seat names.script) (steps_in (labels_of names.script e.by at.earlier)))
+    stand_at =
+        known_stand names.script logs.lists (session_layout names.script) logs.last logged.closed logged.cuts es
+        (tail_more es e logged.closed.history tail) e.by since (omega (arith, within)) (omega (arith, at.index)) quiet opened_known
+        ∙ ap (stand_of names.script) known
+
+    pub going_at : IsRoundOf names.script (stand_of names.script (steps_under (opener_seat names.script) es)) draws.load.stops
+    going_at = subst (λ stand. IsRoundOf names.script stand draws.load.stops) (sym stand_at) round_known

@@ -78,7 +78,7 @@ module _ (script : ScriptModel) (n : ℕ) where
           let is : is_op script n ≡ is_operation e.act = rw stands refl in
           is ∙ inside_is (caller_lane (lanes_of script) e.parent) e.act (sym opened ∙ inside)
 
-  posting_op : is_act is_posting script n ≡ true → is_op script n ≡ true
+  pub posting_op : is_act is_posting script n ≡ true → is_op script n ≡ true
   posting_op posts = by_entry (slice_get script.acts n) refl
     where
       by_entry : (found : Option Entry) → slice_get script.acts n ≡ found → is_op script n ≡ true
@@ -90,7 +90,7 @@ module _ (script : ScriptModel) (n : ℕ) where
           let is : is_op script n ≡ is_operation e.act = rw stands refl in
           is ∙ posting_is e.act (sym opened ∙ posts)
 
-  op_is : is_act is_operation script n ≡ is_op script n
+  pub op_is : is_act is_operation script n ≡ is_op script n
   op_is = by_entry (slice_get script.acts n) refl
     where
       by_entry : (found : Option Entry) → slice_get script.acts n ≡ found →

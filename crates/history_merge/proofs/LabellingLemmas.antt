@@ -16,10 +16,10 @@ use Rattle.lane_clock.proofs.KnownLemmas.{under_other}
 use Rattle.lane_map.specs.LaneNumbers.{cells_of, cells_on, home_lane, lane_list}
 use Rattle.lane_context.specs.Labels.{AreDrawn, IsDrawn, Labelled, begins, call_note, dispatches, ends, entries_in, none_drawn, one_drawn, posts, put_within, returns, silent, steps_in, stops_context}
 use Rattle.lane_context.specs.LaneLog.{AreParts, IsIdleStep, MayFollow}
-use Rattle.lane_context.specs.Logs.{AreLogs, LogsView, entries_of}
+use Rattle.lane_context.specs.Logs.{AreLogs, LogsView, entries_of, missed_by}
 use Rattle.lane_context.specs.Names.{SessionNames}
 use Rattle.lane_context.specs.OpenerLog.{AreOpenerParts, IsRestingStep, Looked, MayFollowOpened, OpenerPart, closed, labels_of_opener, look_label, opened, opener_labels, resting, restarted}
-use Rattle.lane_context.specs.Parts.{Part, TurnEnd, TurnPart, TurnStart, end_labels, executed, failed, fails, idle, labels_in, labels_of, looks_empty, missing, passes, start_labels, takes, tells, turned}
+use Rattle.lane_context.specs.Parts.{Part, TurnEnd, TurnPart, TurnStart, end_labels, executed, failed, fails, first_missed, idle, labels_in, labels_of, looks_empty, missing, passes, start_labels, takes, tells, turned}
 use Rattle.lane_context.specs.ReactorTurns.{AreTold, EndsTurn, done_labels, done_note, none_told, one_told}
 use Rattle.lane_context.specs.SeatNumbers.{IsWorkerSeat, lane_count, opener_seat, worker_count}
 use Rattle.lane_context.specs.WorkerLog.{AreWorkerParts, MayFollowStopped, WorkerPart, labels_of_worker, stopped, waiting}
@@ -158,6 +158,9 @@ pub record AreLabels (names : SessionNames) (logs : LogsView) (labels : ℕ → 
       AreMadeOf WorkerPart labels_worker (MayFollowStopped names.script (logs.lists (opener_seat names.script))) (labels n)
   pub opener : AreMadeOf OpenerPart opener_labels (MayFollowOpened names.script logs.lists) (labels (opener_seat names.script))
   pub others : (n : ℕ) → opener_seat names.script < n → labels n ≡ []
+  -- what a lane missed first is what its parts did
+  pub missed : (lane : ℕ) (within : lane < lane_count names.script) →
+      missed_by logs lane ≡ first_missed (lanes lane within).parts
 
 -- What holds of the labels of each part holds of each label
 module _ (names : SessionNames) (logs : LogsView) (labels : ℕ → List Labelled) (are : AreLabels names logs labels)
@@ -165,7 +168,7 @@ module _ (names : SessionNames) (logs : LogsView) (labels : ℕ → List Labelle
     (of_lane : (lane : ℕ) → lane < lane_count names.script → (earlier : List Part) (part : Part) →
     MayFollow names (logs.lists (opener_seat names.script)) lane earlier part →
     Every (Q lane) (labels_in names.script lane part))
-    (of_worker : (n : ℕ) (earlier : List WorkerPart) (part : WorkerPart) →
+    (of_worker : (n : ℕ) → IsWorkerSeat names.script n → (earlier : List WorkerPart) (part : WorkerPart) →
     MayFollowStopped names.script (logs.lists (opener_seat names.script)) earlier part → Every (Q n) (labels_worker part))
     (of_opener : (earlier : List OpenerPart) (part : OpenerPart) →
     MayFollowOpened names.script logs.lists earlier part → Every (Q (opener_seat names.script)) (opener_labels part)) where
@@ -176,15 +179,16 @@ module _ (names : SessionNames) (logs : LogsView) (labels : ℕ → List Labelle
       every_at (Q n) (all_made P made parts.parts) (every_made P made May (Q n) each parts.parts parts.follow) i label
       (subst (λ xs. get_elem? xs i ≡ some label) parts.are at)
 
-  pub each_label : (n i : ℕ) (label : Labelled) → get_elem? (labels n) i ≡ some label → Q n label
-  each_label n i label at = elim (cases_lt n (lane_count names.script)) [
+  pub each_seated : (n i : ℕ) (label : Labelled) → get_elem? (labels n) i ≡ some label → Q n label
+  each_seated n i label at = elim (cases_lt n (lane_count names.script)) [
     | inl lane ↦
         of_parts Part (labels_in names.script n) (MayFollow names (logs.lists (opener_seat names.script)) n) n (of_lane n lane)
         (are.lanes n lane) i label at
     | inr behind ↦ elim (cases_lt n (opener_seat names.script)) [
       | inl before ↦
           of_parts WorkerPart labels_worker (MayFollowStopped names.script (logs.lists (opener_seat names.script))) n
-          (of_worker n) (are.workers n (record { behind = behind; before = before })) i label at
+          (of_worker n (record { behind = behind; before = before }))
+          (are.workers n (record { behind = behind; before = before })) i label at
       | inr beyond ↦ elim (cases_eq n (opener_seat names.script)) [
         | inl is ↦
             subst (λ n. Q n label) (sym is)
@@ -196,6 +200,19 @@ module _ (names : SessionNames) (logs : LogsView) (labels : ℕ → List Labelle
       ]
     ]
   ]
+
+-- where that it is a worker's doesn't matter
+module _ (names : SessionNames) (logs : LogsView) (labels : ℕ → List Labelled) (are : AreLabels names logs labels)
+    (Q : ℕ → Labelled → Type 0)
+    (of_lane : (lane : ℕ) → lane < lane_count names.script → (earlier : List Part) (part : Part) →
+    MayFollow names (logs.lists (opener_seat names.script)) lane earlier part →
+    Every (Q lane) (labels_in names.script lane part))
+    (of_worker : (n : ℕ) (earlier : List WorkerPart) (part : WorkerPart) →
+    MayFollowStopped names.script (logs.lists (opener_seat names.script)) earlier part → Every (Q n) (labels_worker part))
+    (of_opener : (earlier : List OpenerPart) (part : OpenerPart) →
+    MayFollowOpened names.script logs.lists earlier part → Every (Q (opener_seat names.script)) (opener_labels part)) where
+  pub each_label : (n i : ℕ) (label : Labelled) → get_elem? (labels n) i ≡ some label → Q n label
+  each_label = each_seated names logs labels are Q of_lane (λ n seat earlier part may. of_worker n earlier part may) of_opener
 
 -- a step by itself neither draws nor gets a place
 pub plain_label : (names : SessionNames) (logs : LogsView) (labels : ℕ → List Labelled) → AreLabels names logs labels →
@@ -264,7 +281,7 @@ module _ (names : SessionNames) (logs : LogsView) (logged : AreLogs names logs) 
       ]
     ]
 
-    lane_by : n < lane_count names.script →
+    abbrev lane_by : n < lane_count names.script →
         AreMadeOf Part (labels_in names.script n) (MayFollow names (logs.lists seat) n) (labels_by n lane before is)
     lane_by within = elim lane as (λ lane.
         AreMadeOf Part (labels_in names.script n) (MayFollow names (logs.lists seat) n) (labels_by n lane before is)) [
@@ -325,6 +342,12 @@ module _ (names : SessionNames) (logs : LogsView) (logged : AreLogs names logs) 
       ]
     ]
 
+  missed_of : (n : ℕ) (lane : (n < lane_count names.script) ⊎ (lane_count names.script ≤ n)) (before : (n < seat) ⊎ (seat ≤ n))
+      (is : (n ≡ seat) ⊎ (n ≢ seat)) (within : n < lane_count names.script) →
+      missed_by logs n ≡ first_missed (lane_by n lane before is within).parts
+  missed_of n (inl lane) before is within = (logged.lanes n lane).first
+  missed_of n (inr behind) before is within = absurd (omega (arith, within, behind))
+
   -- so all numbers have their labels
   pub are_labels : AreLabels names logs labels_under
   unfolding labels_under
@@ -335,4 +358,5 @@ module _ (names : SessionNames) (logs : LogsView) (logged : AreLogs names logs) 
     workers = λ n. worker_by n (cases_lt n (lane_count names.script)) (cases_lt n seat) (cases_eq n seat);
     opener = opener_by seat (cases_lt seat (lane_count names.script)) (cases_lt seat seat) (cases_eq seat seat) refl;
     others = λ n. others_by n (cases_lt n (lane_count names.script)) (cases_lt n seat) (cases_eq n seat);
+    missed = λ n. missed_of n (cases_lt n (lane_count names.script)) (cases_lt n seat) (cases_eq n seat);
   }

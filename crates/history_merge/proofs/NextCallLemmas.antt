@@ -58,7 +58,7 @@ module _ (script : ScriptModel) (a o : ℕ) (class : Class) where
       by_class running progress (same_class running class) refl next
   in_branch other next = absurd next
 
-in_opening : (script : ScriptModel) (a : ℕ) (failed : Bool) (s : ContextState) →
+pub in_opening : (script : ScriptModel) (a : ℕ) (failed : Bool) (s : ContextState) →
     IsSomeAnd (body_at script failed s None) (IsNextOf a) →
     IsNextOf a (record { acts = opening_of script; progress = s.opening })
 in_opening script a true s next = absurd next

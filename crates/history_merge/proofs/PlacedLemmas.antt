@@ -54,7 +54,7 @@ module _ (labels : ℕ → List Labelled) where
   total test (e ∷ es) = one_if (test e.by (label_of labels es e)) + total test es
 
   -- it is the sum over all numbers
-  total_sums : (guards seats : ℕ) (test : ℕ → Labelled → Bool) (es : List ClockEvent) →
+  pub total_sums : (guards seats : ℕ) (test : ℕ → Labelled → Bool) (es : List ClockEvent) →
       IsSoundHistory guards seats es → AreLabelled labels es →
       total test es ≡ summed (λ n. times (test n) (made_so_far labels es n)) seats
   total_sums guards seats test [] sound all = sym (nothing seats)
@@ -95,7 +95,7 @@ is_led_by script act n label = not (n == reactor_lane script) && is_led_label ac
 
 module _ (names : SessionNames) (logs : LogsView) (labels : ℕ → List Labelled) (are : AreLabels names logs labels) where
   -- each number's labels are paired, but the reactor's
-  number_paired : (act n : ℕ) → n ≢ reactor_lane names.script → ArePaired act (labels n)
+  pub number_paired : (act n : ℕ) → n ≢ reactor_lane names.script → ArePaired act (labels n)
   number_paired act n away = elim (cases_lt n (lane_count names.script)) [
     | inl lane ↦
         let made = are.lanes n lane in

@@ -26,7 +26,7 @@ pub record IsDrawnBy (labels : List Labelled) (entry : LogEntry) : Type 0 where
   pub label : get_elem? labels at ≡ some (shows entry.event changes found)
   pub position : found.clock ≡ entry.position
 
-drawn_by : (labels : List Labelled) (at : ℕ) (entry : LogEntry) → get_elem? (entries_in labels) at ≡ some entry →
+pub drawn_by : (labels : List Labelled) (at : ℕ) (entry : LogEntry) → get_elem? (entries_in labels) at ≡ some entry →
     IsDrawnBy labels entry
 drawn_by [] at entry there = absurd (some-ne-none entry (sym there))
 drawn_by (silent step ∷ labels) at entry there =

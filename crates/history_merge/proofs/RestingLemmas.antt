@@ -37,7 +37,7 @@ pub record IsResting (r : ReactorHalf) : Type 0 where
 settled_works : (told : Bool) (r : ReactorHalf) → (settled told r).failed ≡ r.failed
 settled_works told r = (settled-clock told r).failed
 
-take_works : (script : ScriptModel) (told : Bool) (r : ReactorHalf) (a : ℕ) →
+pub take_works : (script : ScriptModel) (told : Bool) (r : ReactorHalf) (a : ℕ) →
     (reactor_after_take script told r a).failed ≡ r.failed
 take_works script told r a = by_act (act_of script a) refl
   where
@@ -52,32 +52,32 @@ point_works : (script : ScriptModel) (told : Bool) (r : ReactorHalf) (to : Point
 point_works script told r (point.Time now) = settled_works told (at_time script told now r)
 point_works script told r point.Last = settled_works told (at_last told r)
 
-start_works : (script : ScriptModel) (told : Bool) (r : ReactorHalf) (running : Bool) (load : Found) (start : TurnStart) →
+pub start_works : (script : ScriptModel) (told : Bool) (r : ReactorHalf) (running : Bool) (load : Found) (start : TurnStart) →
     MayStartTurn script r running load start → (reactor_after script told r (start_event start)).failed ≡ r.failed
 start_works script told r running load (takes note changes) may = take_works script told r note.op
 start_works script told r running load (passes shown) may =
     ap (λ shown. (reactor_after script told r shown).failed) may.next ∙ point_works script told r (next_time script r)
 
 -- steps by themselves are no entries
-put_entries : (within : Bool) (lane place : ℕ) (note : Note) →
+pub put_entries : (within : Bool) (lane place : ℕ) (note : Note) →
     entries_in (cond within (silent (Put lane place note) ∷ []) []) ≡ []
 put_entries true lane place note = refl
 put_entries false lane place note = refl
 
-look_entries : (within : Bool) (lane place : ℕ) (labels : List Labelled) →
+pub look_entries : (within : Bool) (lane place : ℕ) (labels : List Labelled) →
     entries_in (cond within (silent (Look lane place None) ∷ []) [] ++ labels) ≡ entries_in labels
 look_entries true lane place labels = refl
 look_entries false lane place labels = refl
 
 module _ (script : ScriptModel) (told : Bool) where
-  half-append : (half : ReactorHalf) (xs ys : List Labelled) →
+  pub half-append : (half : ReactorHalf) (xs ys : List Labelled) →
       half_from script told half (entries_in (xs ++ ys))
       ≡ half_from script told (half_from script told half (entries_in xs)) (entries_in ys)
   half-append half xs ys =
       ap (half_from script told half) (entries-append xs ys)
       ∙ half_from-append script told half (entries_in xs) (entries_in ys)
 
-  told_works : (from : ReactorHalf) {labels : List Labelled} → AreTold script told from labels →
+  pub told_works : (from : ReactorHalf) {labels : List Labelled} → AreTold script told from labels →
       (half_from script told from (entries_in labels)).failed ≡ from.failed
   told_works from none_told = refl
   told_works from (one_told {labels} op with_code size place found before may) =
@@ -89,7 +89,7 @@ module _ (script : ScriptModel) (told : Bool) where
       ∙ ((time-done script half op).failed ∙ told_works from before))
 
   -- what a turn begins with, and then tells
-  start_half : (lane : ℕ) (half : ReactorHalf) (place : ℕ) (load found : Found) (start : TurnStart) →
+  pub start_half : (lane : ℕ) (half : ReactorHalf) (place : ℕ) (load found : Found) (start : TurnStart) →
       half_from script told half (entries_in (start_labels script lane place load found start))
       ≡ reactor_after script told half (start_event start)
   start_half lane half place load found (takes note changes) = refl
@@ -114,7 +114,7 @@ module _ (script : ScriptModel) (told : Bool) where
   }
   turn_rests from (fails found) ends works isnt = absurd (cc)
 
-either_false : (a b : Bool) → (a || b) ≡ false → (a ≡ false) × (b ≡ false)
+pub either_false : (a b : Bool) → (a || b) ≡ false → (a ≡ false) × (b ≡ false)
 either_false true b is = absurd (cc)
 either_false false b is = (refl, is)
 
@@ -122,7 +122,7 @@ module _ (names : SessionNames) (opener : List ClockStep) (lane : ℕ) (is : lan
   abbrev half_of_parts : List Part → ReactorHalf
   half_of_parts parts = half_after names opener lane parts
 
-  goes_on : (parts : List Part) (part : Part) →
+  pub goes_on : (parts : List Part) (part : Part) →
       half_of_parts (part ∷ parts)
       ≡ half_from names.script names.told (half_of_parts parts) (entries_in (labels_in names.script lane part))
   goes_on parts part =

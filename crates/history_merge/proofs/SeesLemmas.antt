@@ -53,11 +53,11 @@ stopped_came (call.Open called) = refl
 stopped_came (call.Stopping called) = refl
 stopped_came (call.Back called back) = refl
 
-open_made : (of : CallPhase) → is_made of ≡ true → is_open of ≡ true
+pub open_made : (of : CallPhase) → is_made of ≡ true → is_open of ≡ true
 open_made (call.Open called) is = refl
 open_made other is = absurd (cc)
 
-open_stopped : (of : CallPhase) → has_stopped of ≡ true → is_open of ≡ true
+pub open_stopped : (of : CallPhase) → has_stopped of ≡ true → is_open of ≡ true
 open_stopped (call.Stopping called) is = refl
 open_stopped other is = absurd (cc)
 

@@ -47,7 +47,7 @@ pub record IsCountedBy (script : ScriptModel) (told : Bool) (s : State) (halts :
   pub few_work : outstanding_work (after_event script told s shown) < 2 ^ 16
   pub few_stops : (halts_with shown halts).stops < 2 ^ 16
 
-word_still : (step : ClockStep) (word : ℕ) → draw_count step ≡ 0 → word_with step word ≡ word
+pub word_still : (step : ClockStep) (word : ℕ) → draw_count step ≡ 0 → word_with step word ≡ word
 word_still (Draw changes found) word none = absurd (omega (arith, none))
 word_still (Load found) word none = refl
 word_still (Place lane place) word none = refl

@@ -92,7 +92,7 @@ kinds (act.Dispatch strand) = refl
 kinds other = refl
 
 module _ (script : ScriptModel) (a : ℕ) (within : a < length script.acts) where
-  by_kind : (found : Option Entry) → slice_get script.acts a ≡ found →
+  pub by_kind : (found : Option Entry) → slice_get script.acts a ≡ found →
       (is_act is_posting script a || (is_act is_operation script a || is_act is_control script a)) ≡ not (stops script a)
   by_kind None stands = absurd (outside script.acts a within stands)
     where

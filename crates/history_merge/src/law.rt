@@ -2,6 +2,7 @@
 ghost use Rattle.lane_context.specs.Logs.{AreLogs, LogsView};
 ghost use Rattle.lane_context.specs.Names.{SessionNames};
 ghost use Rattle.history_merge.specs.Among.{ExecutionsStayLegal};
+ghost use Rattle.history_merge.specs.Merging.{MergedIsLegal};
 ghost use Rattle.history_merge.specs.Ordering.{ArePositioned};
 
 use lane_clock::positions_are_drawn_once;
@@ -21,3 +22,10 @@ pub fn logs_are_positioned()
 {
     positions_are_drawn_once();
 }
+
+/// The logs of a session, put together, are one legal history of its script on one io_context, with
+/// the marks that are named: for every script, every number of lanes and workers, and every order in
+/// which their steps came, whether the reactor tells its bytes or not.
+pub fn merged_logs_are_legal()
+    ensures { MergedIsLegal }
+{}

@@ -1,6 +1,6 @@
-//! The logs of a context without a lock, put together into one history. What has to be shown of it
-//! stands in `specs/Merging.antt`: it is a legal history of the script. The session will stand on
-//! it.
+//! The logs of a context without a lock, put together into one history. It promises that this is one
+//! legal history of the script, with the marks that are named (`specs/Merging.antt`), for every
+//! number of lanes and workers and every order of their steps. The session will stand on it.
 #![tactic(auto)]
 
 mod law;
@@ -8,5 +8,5 @@ mod merge;
 mod ordering;
 mod placing;
 
-pub use law::{executions_stay_legal, logs_are_positioned};
+pub use law::{executions_stay_legal, logs_are_positioned, merged_logs_are_legal};
 pub use merge::merged;

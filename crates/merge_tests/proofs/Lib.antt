@@ -1,0 +1,2 @@
+pub mod SpoiltLemmas
+pub mod DrawingLemmas
