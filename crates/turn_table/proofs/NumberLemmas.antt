@@ -3,7 +3,7 @@ use Rattle.std.proofs.Common.{◌≡◌, ◌≢◌, ℕ, zero, suc, ◌+◌, ◌
 use Rattle.std.proofs.lemmas.Bool.{true≢false, or_left, or_right, or_cases, cases_lt, cases_eq}
 use Rattle.std.proofs.lemmas.Map.Views.{any-filter_same}
 use Rattle.std.proofs.lemmas.List.Folds.{list_any-append}
-use Rattle.turn_table.specs.Numbers.{has, Has, without_number, greatest, run_from}
+use Rattle.turn_table.specs.Numbers.{all_below, has, Has, without_number, greatest, run_from}
 
 pub has_head : (n : ℕ) (xs : List ℕ) → Has (n ∷ xs) n
 has_head n xs = or_left (eqb n n) (has n xs) (eq-eqb n n refl)
@@ -63,6 +63,17 @@ has-le_greatest n (x ∷ xs) h =
     ⊎_elim (λ e. let same = eqb-true n x e in omega arith) (λ there. let l = has-le_greatest n xs there in omega arith)
     (or_cases (eqb n x) (has n xs) h)
 
+-- the numbers below one are all of these
+pub has_below : (k n : ℕ) → k < n → Has (all_below n) k
+has_below k zero less = absurd (omega arith)
+has_below k (suc n) less = ⊎_elim (λ e. or_left (eqb k n) _ (eq-eqb k n e))
+    (λ other. or_right (eqb k n) _ (has_below k n (omega arith))) (cases_eq k n)
+
+pub below-bound : (k n : ℕ) → Has (all_below n) k → k < n
+below-bound k zero h = absurd (true≢false (sym h))
+below-bound k (suc n) h = ⊎_elim (λ e. let same = eqb-true k n e in omega arith)
+    (λ there. let less = below-bound k n there in omega arith) (or_cases (eqb k n) _ h)
+
 -- a run has the numbers from its first one on
 pub has_run : (n first count : ℕ) → first ≤ n → n < first + count → Has (run_from first count) n
 has_run n first zero low high = absurd (omega arith)
@@ -99,6 +110,10 @@ without_none n (x ∷ xs) h =
 -- a turn that was taken and given is as if it had not been taken
 pub without_cons : (n : ℕ) (xs : List ℕ) → (¬ Has xs n) → without_number n (n ∷ xs) ≡ xs
 without_cons n xs h = filter_no n xs ∙ without_none n xs h
+
+-- without the greatest of them, the others are left
+pub below-without : (n : ℕ) → without_number n (all_below (suc n)) ≡ all_below n
+below-without n = without_cons n (all_below n) (λ h. let less = below-bound n n h in omega arith)
 
 pub run-without_greatest : (first count : ℕ) →
     without_number (greatest (run_from first (suc count))) (run_from first (suc count)) ≡ run_from first count

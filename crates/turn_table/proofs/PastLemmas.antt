@@ -1,5 +1,5 @@
 -- What the seats did, after one more step.
-use Rattle.std.proofs.Common.{◌≡◌, ◌≢◌, ℕ, ◌<◌, cond, List, ◌∷◌, length, get_or, set, sym, refl, ap, ◌∙◌, ⊎_elim, arith, Some, None, length-set, get_or-set_other, get_or-set_same, eq-eqb, ne_eqb}
+use Rattle.std.proofs.Common.{◌≡◌, ◌≢◌, ℕ, zero, suc, ◌<◌, ◌≤◌, cond, List, [], ◌∷◌, length, get_or, set, sym, refl, ap, ◌∙◌, ⊎_elim, arith, Some, None, length-set, get_or-set_other, get_or-set_same, eq-eqb, ne_eqb}
 use Rattle.std.proofs.lemmas.Bool.{cases_eq}
 use mathlib.Core.Option.{some}
 use lib.ListN.{get_elem?}
@@ -75,3 +75,30 @@ came_further lanes k x who me holder after words views v w past next was step in
       (λ p. was.misses seat n u p.1 h ∙ sym (step.misses seat)) (at_set views me seat w u there);
   unborn = λ seat beyond. step.misses seat ∙ was.unborn seat (let e = length-set views me w in omega arith);
 }
+
+-- the first seat took the turns of all lanes below one
+abbrev pub takings : ℕ → List Deed
+takings zero = []
+takings (suc n) = taking n 0 ∷ takings n
+
+pub untaken : (n lane : ℕ) → n ≤ lane → holder_in (takings n) lane ≡ None
+untaken zero lane le = refl
+untaken (suc n) lane le =
+    ap (λ b. cond b (Some 0) (holder_in (takings n) lane)) (ne_eqb lane n (λ e. omega arith))
+    ∙ untaken n lane (omega arith)
+
+pub taken_first : (n lane : ℕ) → lane < n → holder_in (takings n) lane ≡ Some 0
+taken_first zero lane less = absurd (omega arith)
+taken_first (suc n) lane less = ⊎_elim
+    (λ e. ap (λ b. cond b (Some 0) (holder_in (takings n) lane)) (eq-eqb lane n e))
+    (λ other.
+    ap (λ b. cond b (Some 0) (holder_in (takings n) lane)) (ne_eqb lane n other) ∙ taken_first n lane (omega arith))
+    (cases_eq lane n)
+
+pub takings_right : (n : ℕ) → IsPast (takings n)
+takings_right zero = tt
+takings_right (suc n) = (untaken n n (omega arith), takings_right n)
+
+pub takings_miss : (n seat : ℕ) → misses_in (takings n) seat ≡ []
+takings_miss zero seat = refl
+takings_miss (suc n) seat = takings_miss n seat

@@ -3,9 +3,9 @@ use Rattle.std.proofs.Common.{◌≡◌, ℕ, suc, ◌-◌, ◌<◌, ◌≤◌, 
 use Rattle.std.proofs.lemmas.List.{reverse-append}
 use Rattle.atomic_table.specs.Seated.{TableId}
 use Rattle.turn_table.specs.declared.place.TurnView.{TurnView}
-use Rattle.turn_table.specs.Numbers.{Has, run_from}
-use Rattle.turn_table.specs.Seated.{Seated, seated, IsSeatReady, Lanes, StandsForTwo, first_seat, new_turn_seat, without_greatest, greatest_alone}
-use Rattle.turn_table.proofs.NumberLemmas.{has_run, run-greatest, run-without_greatest}
+use Rattle.turn_table.specs.Numbers.{Has, all_below, run_from}
+use Rattle.turn_table.specs.Seated.{HasTurn, Seated, seated, IsSeatReady, Lanes, StandsForTwo, first_seat, new_turn_seat, without_greatest, without_turn, greatest_alone}
+use Rattle.turn_table.proofs.NumberLemmas.{below-without, has_below, has_run, run-greatest, run-without_greatest}
 
 pub record IsSat (seat : Seated) (view : TurnView) : Type 0 where
   pub hand : view.hand ≡ None
@@ -30,6 +30,21 @@ sat table views seat view ready is sole =
       numbers = ap (λ (s : Seated). s.numbers) seen;
       seats = ap (λ (s : Seated). s.seats) seen;
     }
+
+-- the seat of all numbers, with the turns of the lanes below one
+abbrev pub holding : Lanes → ℕ → Seated
+holding lanes n = record (first_seat lanes lanes.seats) { turns = all_below n }
+
+module _ (lanes : Lanes) (seat : Seated) (n lane : ℕ) (is : seat ≡ holding lanes (suc n)) (last : lane ≡ n) where
+  pub has_last : HasTurn seat lane
+  has_last = subst (λ (s : Seated). HasTurn s lane) (sym is) (has_below lane (suc n) (omega (arith, last)))
+
+  pub gave_last : (now : Seated) → now ≡ without_turn lane seat → now ≡ holding lanes n
+  gave_last now given =
+      given
+      ∙ (ap (λ k. without_turn k seat) last
+      ∙ (ap (without_turn n) is
+      ∙ ap (λ ts. record (first_seat lanes lanes.seats) { turns = ts }) (below-without n)))
 
 -- the seat of the numbers below left, after a part: m is left less 1
 pub parted_one : (lanes : Lanes) (seat rest : Seated) (left m : ℕ) → left ≡ suc m → seat ≡ first_seat lanes left →

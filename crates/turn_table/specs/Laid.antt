@@ -1,10 +1,10 @@
 -- How the values lie in the slots (this project's own).
-use Rattle.std.specs.Prelude.{◌≡◌, ℕ, ◌<◌, ◌≤◌, List, [], ◌∷◌, ◌++◌, map, length, slice_index_or, vec_capacity}
+use Rattle.std.specs.Prelude.{◌≡◌, ℕ, ◌<◌, ◌≤◌, List, [], ◌∷◌, ◌++◌, length, replicate, slice_index_or, vec_capacity}
 use Rattle.std.specs.Global.{Vec}
 use mathlib.Core.Option.{some}
 use lib.ListN.{get_elem?}
 use Rattle.turn_table.specs.declared.place.TablePlace.{TablePlace}
-use Rattle.turn_table.specs.declared.place.TablePlace.TheVariants.{Value, Room}
+use Rattle.turn_table.specs.declared.place.TablePlace.TheVariants.{Empty, Value, Room}
 
 module _ {T : Type 0} where
   -- the n-th value, from 0, belongs to lane n
@@ -17,16 +17,23 @@ module _ {T : Type 0} where
     pub empty : room.items ≡ []
     pub fits : count ≤ vec_capacity room
 
-  -- the values of all lanes, and then the room that they left
-  pub record AreLaid (values : List T) (places : List (TablePlace T)) : Type 0 where
+  -- nothing for each lane, and then room for all values
+  pub record AreBare (lanes : ℕ) (places : List (TablePlace T)) : Type 0 where
     pub room : Vec T
-    pub is_room : IsRoomFor (length values) room
-    pub are : places ≡ map Value values ++ Room room ∷ []
+    pub is_room : IsRoomFor lanes room
+    pub are : places ≡ replicate lanes Empty ++ Room room ∷ []
 
   -- each slot has its lane's value, and the last one has room for all
   pub record IsWhole (home_of : T → ℕ) (lanes : ℕ) (places : List (TablePlace T)) : Type 0 where
     pub each : (lane : ℕ) → lane < lanes →
         (value : T) × (home_of value ≡ lane) × (get_elem? places lane ≡ some (Value value))
+    pub room : Vec T
+    pub is_room : IsRoomFor lanes room
+    pub last : get_elem? places lanes ≡ some (Room room)
+
+  -- no slot has a value, and the last one has room for all
+  pub record IsVacant (lanes : ℕ) (places : List (TablePlace T)) : Type 0 where
+    pub each : (lane : ℕ) → lane < lanes → get_elem? places lane ≡ some Empty
     pub room : Vec T
     pub is_room : IsRoomFor lanes room
     pub last : get_elem? places lanes ≡ some (Room room)

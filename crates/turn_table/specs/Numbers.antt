@@ -17,6 +17,11 @@ abbrev pub greatest : List ℕ → ℕ
 greatest [] = 0
 greatest (x ∷ xs) = max x (greatest xs)
 
+-- the numbers below one, the greatest first
+abbrev pub all_below : ℕ → List ℕ
+all_below zero = []
+all_below (suc n) = n ∷ all_below n
+
 -- count numbers, from this one up
 abbrev pub run_from : ℕ → ℕ → List ℕ
 run_from first zero = []

@@ -4,7 +4,7 @@ use Rattle.std.specs.Prelude.{◌≡◌, ◌≢◌, ℕ, ◌+◌, ◌<◌, None,
 use Rattle.atomic_table.specs.Seated.{TableId}
 use Rattle.turn_table.specs.declared.place.Sizes.{Sizes}
 use Rattle.turn_table.specs.declared.place.TurnView.{TurnView}
-use Rattle.turn_table.specs.Numbers.{has, Has, without_number, greatest, run_from}
+use Rattle.turn_table.specs.Numbers.{all_below, has, Has, without_number, greatest, run_from}
 
 -- a table: what no other table shares with it, the count of its lanes, and how many numbers its
 -- seats stand for
@@ -41,6 +41,9 @@ StandsFor seat = Has seat.numbers
 abbrev pub StandsForAll : Seated → Type 0
 StandsForAll seat = (number : ℕ) → number < seat.seats → StandsFor seat number
 
+abbrev pub HasAllTurns : Lanes → Seated → Type 0
+HasAllTurns lanes seat = (lane : ℕ) → lane < lanes.lanes → HasTurn seat lane
+
 abbrev pub StandsForTwo : Seated → Type 0
 StandsForTwo seat = (one other : ℕ) × (one ≢ other) × StandsFor seat one × StandsFor seat other
 
@@ -63,6 +66,10 @@ first_seat lanes count = record {
   numbers = run_from 0 count;
   misses = [];
 }
+
+-- the seat of all numbers, which has all turns
+abbrev pub seat_of_all : Lanes → Seated
+seat_of_all lanes = record (first_seat lanes lanes.seats) { turns = all_below lanes.lanes }
 
 abbrev pub with_turn : ℕ → Seated → Seated
 with_turn lane seat = record seat { turns = lane ∷ seat.turns }

@@ -5,13 +5,13 @@ use Rattle.turn_table.specs.declared.place.TablePlace.{TablePlace}
 use Rattle.turn_table.specs.declared.place.TablePlace.TheVariants.{Empty, Value}
 use Rattle.turn_table.specs.declared.place.Sizes.{Sizes}
 use Rattle.turn_table.specs.declared.place.TurnView.{TurnView}
-use Rattle.turn_table.specs.Numbers.{Has, without_number, greatest, run_from}
+use Rattle.turn_table.specs.Numbers.{all_below, Has, without_number, greatest, run_from}
 use Rattle.turn_table.specs.Seated.{missed}
 
--- the first seat stands for all numbers
+-- the first seat stands for all numbers, and has all turns
 abbrev pub first_view : Sizes → TurnView
 first_view sizes = record {
-  turns = [];
+  turns = all_below sizes.lanes;
   numbers = run_from 0 sizes.seats;
   misses = [];
   hand = None;

@@ -1,12 +1,14 @@
-use Rattle.std.proofs.Common.{rules, ◌≡◌, [], reverse, sym, ap, ◌∙◌}
-use Rattle.std.proofs.lemmas.List.{nil_from_length, reverse-reverse}
-use Rattle.turn_table.proofs.LaidLemmas.{all_laid}
+use Rattle.std.proofs.Common.{◌≡◌, ◌++◌, ◌∷◌, [], replicate, ap, ◌∙◌, arith}
+use Rattle.turn_table.specs.declared.place.TablePlace.TheVariants.{Empty, Room}
 use Rattle.turn_table.proofs.make.lay_out.Goals as goal
 
 pub returns : goal.returns
 returns g c =
-    let left = c.pop.new.self in
-    let empty : left.items ≡ [] = nil_from_length left.items (sym left.ok.0 ∙ search rules) in
-    all_laid c.args.values.items _ c.loop-value.values left c.loop-value.places c.push_reserved-2.new.self
-    (ap reverse c.reverse.ensures.items ∙ reverse-reverse c.args.values.items) c.loop-value.invariant
-    (search rules) empty c.pop.ensures.capacity c.push_reserved-2.ensures.items
+    let all : c.loop-lane.lane ≡ c.args.lanes = omega (arith, c.loop-lane.invariant.0, c.loop-lane-test.false) in
+    record {
+      room = c.args.room;
+      is_room = record { empty = c.requires.empty; fits = c.requires.fits };
+      are =
+          c.push_reserved-2.ensures.items
+          ∙ ap (λ ps. ps ++ Room c.args.room ∷ []) (c.loop-lane.invariant.1 ∙ ap (λ n. replicate n Empty) all);
+    }
