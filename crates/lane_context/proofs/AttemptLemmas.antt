@@ -1,7 +1,7 @@
 -- One attempt of a worker at a lane.
 use Rattle.std.proofs.Common.{◌≡◌, ℕ, suc, ◌+◌, ◌≤◌, Bool, true, false, cond, List, [], ◌∷◌, Option, Some, None, inl, inr, refl, sym, ap, subst, ◌∙◌, arith}
 use Rattle.std.proofs.lemmas.Bool.{eq-eqb}
-use Rattle.std.specs.Prelude.{◌==◌, not, if◌then◌else◌}
+use Rattle.std.specs.Prelude.{not, if◌then◌else◌}
 use Rattle.turn_table.specs.Numbers.{without_number}
 use Rattle.turn_table.specs.Seated.{IsSeatOf, Lanes, Seated, with_turn, without_turn}
 use Rattle.lane_context.specs.declared.one.One.{One}
@@ -9,8 +9,8 @@ use Rattle.lane_context.specs.declared.one.One.TheVariants as one
 use Rattle.lane_context.specs.declared.run_end.RunEnd.{RunEnd}
 use Rattle.lane_context.specs.declared.run_end.RunEnd.TheVariants as end
 use Rattle.lane_context.specs.Answers.{is_done, is_fault, is_nothing}
-use Rattle.lane_context.specs.Attempts.{Gives, HadTurn, HasTried, HoldsTurns, KeepsAfterFault, WorkerAt}
-use Rattle.lane_context.specs.LaneValues.{HasWorked, HearsOf, IsBaton, LaneCameTo, LaneValue, Terms, Tries, home_of}
+use Rattle.lane_context.specs.Attempts.{Gives, HasTried, HoldsTurns, KeepsAfterFault, WorkerAt}
+use Rattle.lane_context.specs.LaneValues.{HasCome, HasWorked, HearsOf, IsBaton, LaneCameTo, LaneValue, Terms, Tries, home_of}
 use Rattle.lane_context.specs.Workers.{WorkerView}
 
 none_left : (lane : ℕ) (turns : List ℕ) → turns ≡ [] → without_number lane (lane ∷ turns) ≡ []
@@ -25,17 +25,26 @@ given_back lane old took new none taken given =
     given ∙ ap (without_turn lane) taken
     ∙ ap (λ turns. record old { turns = turns }) (none_left lane old.turns none ∙ sym none)
 
+-- an answer of nothing is that one, and no fault
+pub nothing_is : (answer : One) → is_nothing answer ≡ true → answer ≡ one.Nothing
+nothing_is (one.Ran op mark) is = absurd (cc is)
+nothing_is one.Turned is = absurd (cc is)
+nothing_is one.Nothing is = refl
+nothing_is one.Stopped is = absurd (cc is)
+nothing_is one.Fault is = absurd (cc is)
+nothing_is (one.Missing op) is = absurd (cc is)
+
 -- attempts one after another
 module _ {H X : Type 0} (t : Terms H X) where
-  pub first_work : (answer : One) (before after : LaneValue H X) → LaneCameTo t answer before after →
-      HasWorked t 1 answer before after
-  first_work answer before after came =
+  pub first_come : (answer : One) (before after : LaneValue H X) → LaneCameTo t answer before after →
+      HasCome t 1 answer before after
+  first_come answer before after came =
       record { count = 0; few = omega arith; earlier = before; worked = refl; came = came }
 
-  pub more_work : (most : ℕ) (answer next : One) (before mid after : LaneValue H X) →
-      HasWorked t most answer before mid → is_done answer ≡ true → LaneCameTo t next mid after →
-      HasWorked t (most + 1) next before after
-  more_work most answer next before mid after it done came =
+  pub more_come : (most : ℕ) (answer next : One) (before mid after : LaneValue H X) →
+      HasCome t most answer before mid → is_done answer ≡ true → LaneCameTo t next mid after →
+      HasCome t (most + 1) next before after
+  more_come most answer next before mid after it done came =
       record {
         count = suc it.count;
         few = omega (arith, it.few);
@@ -44,15 +53,36 @@ module _ {H X : Type 0} (t : Terms H X) where
         came = came;
       }
 
-  pub less_work : (few most : ℕ) (answer : One) (before after : LaneValue H X) → HasWorked t few answer before after →
-      few ≤ most → HasWorked t most answer before after
-  less_work few most answer before after it less =
+  less_come : (few most : ℕ) (answer : One) (before after : LaneValue H X) → HasCome t few answer before after →
+      few ≤ most → HasCome t most answer before after
+  less_come few most answer before after it less =
       record {
         count = it.count;
         few = omega (arith, it.few, less);
         earlier = it.earlier;
         worked = it.worked;
         came = it.came;
+      }
+
+  pub has_worked : (few most : ℕ) (answer : One) (before after : LaneValue H X) → HasCome t few answer before after →
+      few ≤ most → HasWorked t most answer before after
+  has_worked few most answer before after it less =
+      record { last = after; reached = less_come few most answer before after it less; rest = inl refl }
+
+  -- the one behind the last came to nothing
+  pub has_rested : (few most : ℕ) (answer next : One) (before last after : LaneValue H X) →
+      HasCome t few answer before last → few + 1 ≤ most → 1 ≤ few → is_done answer ≡ true → is_nothing next ≡ true →
+      LaneCameTo t next last after → HasWorked t most answer before after
+  has_rested few most answer next before last after it less some done none came =
+      record {
+        last = last;
+        reached = less_come few most answer before last it (omega (arith, less));
+        rest =
+            inr (
+              omega (arith, less, some),
+              done,
+              subst (λ a. LaneCameTo t a last after) (nothing_is next none) came,
+            );
       }
 
 module _ {H X : Type 0} (t : Tries H X) (lane : ℕ) (answer : One) (turns left : Seated)
@@ -134,14 +164,13 @@ module _ {H X : Type 0} (t : Tries H X) (lane : ℕ) (answer : One) (old new : W
   free_after (inr had) works =
       (subst (λ b. Gives t lane b had.after old.turns new.turns kept) works had.given).1
 
--- an answer of nothing is that one, and no fault
-pub nothing_is : (answer : One) → is_nothing answer ≡ true → answer ≡ one.Nothing
-nothing_is (one.Ran op mark) is = absurd (cc is)
-nothing_is one.Turned is = absurd (cc is)
-nothing_is one.Nothing is = refl
-nothing_is one.Stopped is = absurd (cc is)
-nothing_is one.Fault is = absurd (cc is)
-nothing_is (one.Missing op) is = absurd (cc is)
-
 pub no_fault : (answer : One) → is_nothing answer ≡ true → is_fault answer ≡ false
 no_fault answer is = ap is_fault (nothing_is answer is)
+
+-- who keeps no lane has no turn
+pub free_turns : {H X : Type 0} (kept : Option (LaneValue H X)) (o : Option Seated) (seat : Seated) → kept ≡ None →
+    Some seat ≡ o → HoldsTurns kept o → seat.turns ≡ []
+free_turns None None seat free same holds = absurd (cc same)
+free_turns None (Some other) seat free same holds =
+    let it : other ≡ seat = cc same in subst (λ (s : Seated). s.turns ≡ []) it holds
+free_turns (Some value) o seat free same holds = absurd (cc free)

@@ -1,6 +1,6 @@
 -- The opener's loops over lanes and workers.
 use Rattle.std.proofs.Common.{◌≡◌, ◌≢◌, ◌⊎◌, inl, inr, ⊎_elim, ℕ, zero, suc, ◌+◌, ◌<◌, List, [], ◌∷◌, Some, set, refl, sym, ap, subst, ◌∙◌, arith}
-use Rattle.std.specs.Prelude.{slice_get}
+use Rattle.std.specs.Prelude.{map, slice_get}
 use Rattle.std.proofs.lemmas.Bool.{cases_lt}
 use Rattle.session_script.specs.Script.{ScriptModel}
 use Rattle.lane_clock.specs.declared.step.ClockStep.TheVariants.{Join}
@@ -159,3 +159,11 @@ module _ {T : Type 0} (seat : T → SeatView) (script : ScriptModel) where
               let apart : k ≢ i = λ same. absurd (omega (arith, same, behind)) in
               get_set_other news i k now apart ∙ before.rest k (omega (arith, behind));
         }
+
+-- what stays of the one that is changed stays of all
+pub map_set_same : {T S : Type 0} (f : T → S) (all : List T) (i : ℕ) (one now : T) → slice_get all i ≡ Some one →
+    f now ≡ f one → map f (set all i now) ≡ map f all
+map_set_same f [] i one now at same = refl
+map_set_same f (x ∷ xs) zero one now at same =
+    let it : x ≡ one = cc in ap (λ p. p ∷ map f xs) (same ∙ ap f (sym it))
+map_set_same f (x ∷ xs) (suc i) one now at same = ap (λ ps. f x ∷ ps) (map_set_same f xs i one now at same)

@@ -180,7 +180,7 @@ restarted_event script before first number held =
     drawn_last [] event.Restart change.Same held.drawn before.pen first.pen (λ n. refl) held.gone in
     record { last = last; only = event_last script before.pen.seat first.pen.seat number last refl }
 
-weighing_draws : (found : Found) (looks : List Looked) → step_count draw_count (steps_in (weighing_labels found looks)) ≡ 0
+pub weighing_draws : (found : Found) (looks : List Looked) → step_count draw_count (steps_in (weighing_labels found looks)) ≡ 0
 weighing_draws found looks =
     let none = ap (λ xs. step_count draw_count (steps_in xs)) (sym (append-nil (map look_label looks))) in
     omega (arith, none, looks_draws looks [])

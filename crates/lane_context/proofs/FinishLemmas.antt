@@ -11,14 +11,17 @@ use Rattle.history_rules.specs.FromOutside.{has_fault}
 use Rattle.lane_clock.specs.declared.found.Found.{Found}
 use Rattle.lane_clock.specs.declared.step.ClockStep.{ClockStep}
 use Rattle.lane_clock.specs.Closing.{Closed}
+use Rattle.lane_clock.specs.Knowledge.{StartOf}
 use Rattle.lane_clock.specs.Seats.{ClockId, SeatView, copy_seat, own}
 use Rattle.lane_map.specs.LaneNumbers.{reactor_lane}
+use Rattle.lane_map.proofs.NumberLemmas as lane_numbers
 use Rattle.lane_context.specs.declared.log.LogEntry.{LogEntry}
 use Rattle.lane_context.specs.Batons.{IsLane, LaneView, opener_known}
 use Rattle.lane_context.specs.Cuts.{EventsAreCuts}
 use Rattle.lane_context.specs.Drops.{drops_of}
 use Rattle.lane_context.specs.Finishing.{AreClosed, IsOver, pens_of}
 use Rattle.lane_context.specs.Knowing.{joined_count}
+use Rattle.lane_context.specs.KnownFaults.{KnowsFault}
 use Rattle.lane_context.specs.Labels.{events_in}
 use Rattle.lane_context.specs.LaneLog.{IsLaneLog}
 use Rattle.lane_context.specs.Logs.{AreLogs, LogsView, all_events, session_layout}
@@ -32,6 +35,7 @@ use Rattle.lane_context.specs.Stand.{Stand, stand_of}
 use Rattle.lane_context.specs.TakingIn.{IsTakenIn}
 use Rattle.lane_context.specs.WorkerLog.{IsWorkerLog}
 use Rattle.lane_context.specs.Workers.{IsWorker, WorkerView}
+use Rattle.lane_context.proofs.FaultLemmas.{fault_shown}
 use Rattle.lane_context.proofs.GrowingLemmas.{log_grows}
 use Rattle.lane_context.proofs.MeetingLemmas.{copied_steps}
 use Rattle.lane_context.proofs.WorkerLemmas.{still_worker}
@@ -183,19 +187,37 @@ module _ (names : SessionNames) (clock : ClockId) (lanes : List LaneView) (worke
     own_last : own shut.opener.pen.seat ≡ lists o
     own_last = ap lists shut.is.number
 
+    -- a failure of the reactor that the opener knew is in the log of its lane
+    fault_logged : KnowsFault script first.pen.seat →
+        has_fault (events_in (get_or entries (reactor_lane script) [])) ≡ true
+    fault_logged stops =
+        let n : ℕ = reactor_lane script in
+        let counted = lane_numbers.lane_count script in
+        let less : n < lane_count script = omega (arith, counted) in
+        let within : n < length lanes = omega (arith, less, left.size) in
+        let is : IsLane names clock (get_or lanes n none_lane) = left.are n none_lane within in
+        let number : (get_or lanes n none_lane).lane ≡ n = left.numbers n none_lane within in
+        let taken : IsTakenIn script shut.opener (get_or lanes n none_lane).pen.seat =
+        subst (λ (pen : PenView). IsTakenIn script shut.opener pen.seat) (lane_pen n less)
+        (shut.taken.taken n no_pen (omega (arith, less, pen_count))) in
+        let steps : lists n ≡ own (get_or lanes n none_lane).pen.seat =
+        sym (sym taken.all ∙ ap lists (is.number ∙ number)) in
+        ap (λ log. has_fault (events_in log))
+        (entry_is n (omega (arith, less)) ∙ ap (λ (pen : PenView). pen.log) (lane_pen n less))
+        ∙ fault_shown names clock (get_or lanes n none_lane) (lists_of first.pen.seat n) is number
+        (subst (λ xs. StartOf (lists_of first.pen.seat n) xs) steps (shut.taken.remembers n)) stops
+
     -- the session is over
-    is_over : (reactor : List LogEntry) → get_or entries (reactor_lane script) [] ≡ reactor →
-        IsOver script first.stand reactor →
+    is_over : IsOver script first →
         ((stand_of script (lists o)).closings ≡ length script.rounds)
         ⊎ (has_fault (events_in (get_or entries (reactor_lane script) [])) ≡ true)
-    is_over reactor same over =
+    is_over over =
         ⊎_elim
         (λ (all : first.stand.closings ≡ length script.rounds).
         inl
         (ap (λ (steps : List ClockStep). (stand_of script steps).closings) (sym own_last)
         ∙ ap (λ (s : Stand). s.closings) (sym shut.is.stand_is) ∙ ap (λ (s : Stand). s.closings) shut.taken.stand ∙ all))
-        (λ (failed : has_fault (events_in reactor) ≡ true).
-        inr (ap (λ log. has_fault (events_in log)) same ∙ failed))
+        (λ (stops : KnowsFault script first.pen.seat). inr (fault_logged stops))
         over
 
     abbrev logs_by : (ℕ → List ClockStep) → List Event → LogsView
@@ -208,12 +230,11 @@ module _ (names : SessionNames) (clock : ClockId) (lanes : List LaneView) (worke
           drops = drops;
         }
 
-    pub are_logs : (drops : List Event) (reactor : List LogEntry) → clock.plan ≡ session_layout script →
-        EventsAreCuts script (lists_of first.pen.seat) → get_or entries (reactor_lane script) [] ≡ reactor →
-        IsOver script first.stand reactor →
+    pub are_logs : (drops : List Event) → clock.plan ≡ session_layout script →
+        EventsAreCuts script (lists_of first.pen.seat) → IsOver script first →
         drops ≡ drops_of names (all_events (logs_by (lists_of known) drops)) →
         AreLogs names (logs_by (lists_of known) drops)
-    are_logs drops reactor plan cuts same over dropped =
+    are_logs drops plan cuts over dropped =
         let by : lists_of known ≡ lists = ap lists_of shut.same ∙ copied_all shut.opener.pen.seat in
         subst (λ (ls : ℕ → List ClockStep). AreLogs names (logs_by ls drops)) (sym by)
         (record {
@@ -231,7 +252,7 @@ module _ (names : SessionNames) (clock : ClockId) (lanes : List LaneView) (worke
           opener =
               subst (λ log. IsOpenerLog script lists log) (sym last_entry) shut.is.log;
           cuts = shut.taken.cuts cuts;
-          over = is_over reactor same over;
+          over = is_over over;
           drops = dropped;
         })
       where

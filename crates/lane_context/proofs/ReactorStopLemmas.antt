@@ -105,7 +105,7 @@ module _ (names : SessionNames) (opener : List ClockStep) (lane : ℕ) (last : l
   part_goes_on parts (missing place note) may works =
       All-from_recursion IsNoStop (steps_in (labels_in names.script lane (missing place note))) (refl, tt)
 
-  all_go_on : (parts : List Part) → AreParts names opener lane parts → are_broken parts ≡ false →
+  pub all_go_on : (parts : List Part) → AreParts names opener lane parts → are_broken parts ≡ false →
       NoneStops (steps_after names opener lane parts)
   all_go_on [] are works = All-nil IsNoStop
   all_go_on (part ∷ parts) are works =

@@ -1,7 +1,7 @@
 -- Calls of `poll_one` and `run`.
-use Rattle.std.proofs.Common.{◌≡◌, ◌≢◌, ◌⊎◌, inl, inr, ℕ, ◌<◌, Bool, true, false, Option, Some, None, refl, sym, ap, subst, ◌∙◌}
+use Rattle.std.proofs.Common.{◌≡◌, inl, inr, ℕ, Bool, false, Option, Some, None, refl, sym, ap, subst, ◌∙◌}
 use Rattle.std.specs.Prelude.{◌||◌, ◌==◌, not, is_some, IfSome}
-use Rattle.turn_table.specs.Seated.{Lanes, Seated}
+use Rattle.turn_table.specs.Seated.{Lanes}
 use Rattle.lane_clock.specs.declared.found.Found.{Found}
 use Rattle.lane_context.specs.declared.one.One.{One}
 use Rattle.lane_context.specs.declared.one.One.TheVariants as one
@@ -82,7 +82,7 @@ came_last t lanes answer old new tried = record { before = old; since = on_same 
 pub ended_on : {H X : Type 0} (old mid new : WorkerState H X) (now : RunEnd) → GoesOn old mid →
     new ≡ with_end mid now → GoesOn old new
 ended_on old mid new now on kept =
-    subst (GoesOn old) (sym kept) (record { seat = on.seat; misses = on.misses })
+    subst (GoesOn old) (sym kept) (record { seat = on.seat; misses = on.misses; numbers = on.numbers })
 
 pub has_run : {H X : Type 0} (t : Tries H X) (lanes : ℕ) (now answer : RunEnd) (old mid ended new : WorkerState H X) →
     GoesOn old mid → EndsFor t lanes now mid ended → new ≡ with_end ended now → answer ≡ now →
@@ -90,3 +90,8 @@ pub has_run : {H X : Type 0} (t : Tries H X) (lanes : ℕ) (now answer : RunEnd)
 has_run t lanes now answer old mid ended new on why kept same =
     subst (λ a. HasRun t lanes a old new) (sym same)
     record { ended = ended; why = ends_on t lanes now old mid ended on why; kept = kept }
+
+-- a call that ends by a fault met it at its last attempt
+pub met_fault : {H X : Type 0} (t : Tries H X) (lanes : ℕ) (now : RunEnd) (old new : WorkerState H X) →
+    EndsFor t lanes now old new → now ≡ end.Fault → new.last ≡ Some end.Fault
+met_fault t lanes now old new why is = (subst (λ e. EndsFor t lanes e old new) is why).last.came.last

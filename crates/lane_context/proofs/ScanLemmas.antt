@@ -1,33 +1,30 @@
 -- Attempts at lanes one after another.
-use Rattle.std.proofs.Common.{◌≡◌, ◌≢◌, ◌⊎◌, inl, inr, ⊎_elim, ℕ, ◌+◌, ◌<◌, ◌≤◌, Bool, true, false, cond, List, [], ◌∷◌, ◌++◌, Option, Some, None, refl, sym, ap, subst, ◌∙◌, arith}
+use Rattle.std.proofs.Common.{◌≡◌, ◌≢◌, inl, inr, ⊎_elim, ℕ, ◌+◌, ◌<◌, ◌≤◌, Bool, true, false, cond, List, [], ◌∷◌, ◌++◌, Option, Some, None, refl, sym, ap, subst, ◌∙◌, arith}
 use Rattle.std.proofs.lemmas.Bool.{cases_lt}
 use Rattle.std.proofs.lemmas.Bool.Decides.{eqb_tells}
 use Rattle.std.proofs.lemmas.List.{append-nil, append_assoc}
 use Rattle.std.specs.Prelude.{◌==◌}
 use Rattle.turn_table.specs.Numbers.{has}
-use Rattle.turn_table.specs.Seated.{Seated, with_miss, with_turn}
+use Rattle.turn_table.specs.Seated.{Seated}
 use Rattle.lane_clock.specs.declared.found.Found.{Found}
-use Rattle.lane_clock.specs.declared.step.ClockStep.{ClockStep}
 use Rattle.lane_clock.specs.declared.step.ClockStep.TheVariants.{Join, Load}
-use Rattle.lane_clock.specs.declared.step.Known.{Known}
-use Rattle.lane_clock.specs.Knowledge.{StartOf, counts, steps_at}
-use Rattle.lane_clock.specs.Seats.{Remembers, SeatView, copy_seat, own}
+use Rattle.lane_clock.specs.Knowledge.{counts}
+use Rattle.lane_clock.specs.Seats.{SeatView, copy_seat, own}
 use Rattle.lane_clock.specs.Steps.{draw_count, step_count}
 use Rattle.lane_clock.proofs.KeepLemmas.{start_same, start_trans}
 use Rattle.lane_context.specs.declared.one.One.{One}
 use Rattle.lane_context.specs.declared.one.One.TheVariants as one
 use Rattle.lane_context.specs.Answers.{is_fault, is_nothing}
-use Rattle.lane_context.specs.Attempts.{Gives, HadTurn, HasAttempted, HasTried, WorkerAt, WorkerState}
-use Rattle.lane_context.specs.Labels.{silent, steps_in}
+use Rattle.lane_context.specs.Attempts.{Gives, HasAttempted, HasTried, WorkerAt, WorkerState}
+use Rattle.lane_context.specs.Labels.{Labelled, entries_in, silent, steps_in}
 use Rattle.lane_context.specs.LaneValues.{HearsOf, LaneValue, Tries, handlers, reactor}
-use Rattle.lane_context.specs.Meeting.{lists_of}
-use Rattle.lane_context.specs.Pens.{HasGone, PenView}
-use Rattle.lane_context.specs.Scanning.{CameBehind, GoesOn, Grows, HasLooked, HavePassed, Looks, HasLookedRound, HasScanned, Scans, SeatGoesOn, TriedAmong, TriedLast, misses_of, none_passed, one_passed}
+use Rattle.lane_context.specs.Receipts.{SeatHasGone}
+use Rattle.lane_context.specs.Scanning.{CameBehind, GoesOn, Grows, HasLooked, HavePassed, Looks, HasLookedRound, HasScanned, Scans, SeatGoesOn, TriedAmong, TriedLast, misses_of, none_passed, numbers_of, one_passed}
 use Rattle.lane_context.specs.Workers.{HasHeard, HasRead, WorkerView}
 use Rattle.lane_context.proofs.AttemptLemmas.{nothing_is}
 use Rattle.lane_context.proofs.MeetingLemmas.{met_number}
 use Rattle.lane_context.proofs.PenLemmas.{step_count-append}
-use Rattle.lane_context.proofs.SteppingLemmas.{stepped_known, stepped_number}
+use Rattle.lane_context.proofs.RememberingLemmas.{gone_number, gone_remembers}
 
 same_list : (xs ys : List ℕ) → xs ≡ ys → Grows xs ys
 same_list xs ys same = ([], sym same ∙ sym (append-nil xs))
@@ -38,7 +35,7 @@ grows_on xs ys zs first second = (
   second.1 ∙ ap (λ front. front ++ second.0) first.1 ∙ append_assoc xs first.0 second.0,
 )
 
-seat_same : (w : WorkerView) → SeatGoesOn w w
+pub seat_same : (w : WorkerView) → SeatGoesOn w w
 seat_same w =
     record {
       remembers = λ n. start_same _ _ refl;
@@ -49,7 +46,7 @@ seat_same w =
       stopped = refl;
     }
 
-seat_and_on : (a b c : WorkerView) → SeatGoesOn a b → SeatGoesOn b c → SeatGoesOn a c
+pub seat_and_on : (a b c : WorkerView) → SeatGoesOn a b → SeatGoesOn b c → SeatGoesOn a c
 seat_and_on a b c first second =
     record {
       remembers = λ n. start_trans _ _ _ (first.remembers n) (second.remembers n);
@@ -61,13 +58,14 @@ seat_and_on a b c first second =
     }
 
 pub on_same : {H X : Type 0} (w : WorkerState H X) → GoesOn w w
-on_same w = record { seat = seat_same w.seat; misses = same_list _ _ refl }
+on_same w = record { seat = seat_same w.seat; misses = same_list _ _ refl; numbers = refl }
 
 pub on_and_on : {H X : Type 0} (a b c : WorkerState H X) → GoesOn a b → GoesOn b c → GoesOn a c
 on_and_on a b c first second =
     record {
       seat = seat_and_on a.seat b.seat c.seat first.seat second.seat;
       misses = grows_on _ _ _ first.misses second.misses;
+      numbers = second.numbers ∙ first.numbers;
     }
 
 -- taking in what another knows is no draw
@@ -92,53 +90,42 @@ hears_on (handlers None) a b heard = absurd heard
 hears_on (reactor (Some view)) a b heard = seat_heard view.lane.pen.seat view.lane.base a b heard
 hears_on (reactor None) a b heard = absurd heard
 
-loaded_number : (load : Found) (old new : PenView) → HasGone (silent (Load load) ∷ []) old new →
-    new.seat.number ≡ old.seat.number
-loaded_number load old new gone = ap (λ (s : SeatView). s.number) gone.seat ∙ stepped_number old.seat (Load load ∷ [])
-
--- a pen that made a load remembers all
-loaded_remembers : (load : Found) (old new : PenView) → HasGone (silent (Load load) ∷ []) old new →
-    Remembers old.seat new.seat
-loaded_remembers load old new gone n =
-    ⊎_elim
-    (λ (same : ((n == old.seat.number) ≡ true) × (n ≡ old.seat.number)).
-    subst (λ m. StartOf (lists_of old.seat m) (lists_of new.seat m)) (sym same.1) (
-      Load load ∷ [],
-      subst (λ m. lists_of new.seat m ≡ own old.seat ++ Load load ∷ []) (loaded_number load old new gone) gone.steps,
-    ))
-    (λ (differ : ((n == old.seat.number) ≡ false) × (n ≢ old.seat.number)).
-    start_same _ _
-    (sym (ap (λ (s : SeatView). lists_of s n) gone.seat
-    ∙ ap (λ (k : Known). k.steps) (stepped_known old.seat (Load load ∷ []) n differ.1))))
-    (eqb_tells n old.seat.number)
+-- and neither are steps of its own without a draw
+pub seat_gone : (labels : List Labelled) (a b : WorkerView) → SeatHasGone labels a b →
+    step_count draw_count (steps_in labels) ≡ 0 → entries_in labels ≡ [] → SeatGoesOn a b
+seat_gone labels a b it none silently =
+    let drawn : step_count draw_count (own b.pen.seat)
+    ≡ step_count draw_count (own a.pen.seat) + step_count draw_count (steps_in labels) =
+    ap (step_count draw_count) it.gone.steps
+    ∙ step_count-append draw_count (own a.pen.seat) (steps_in labels) in
+    record {
+      remembers = gone_remembers labels a.pen b.pen it.gone;
+      number = gone_number labels a.pen b.pen it.gone;
+      draws = omega (arith, drawn, none);
+      log = it.gone.log ∙ ap (λ entries. a.pen.log ++ entries) silently ∙ append-nil a.pen.log;
+      drew = it.drew;
+      stopped = it.stopped;
+    }
 
 seat_read : (a b : WorkerView) (found : Found) → HasRead a b found → SeatGoesOn a b
 seat_read a b found read =
-    let drawn : step_count draw_count (own b.pen.seat) ≡ step_count draw_count (own a.pen.seat) + 0 =
-    ap (step_count draw_count) read.gone.steps
-    ∙ step_count-append draw_count (own a.pen.seat) (Load found ∷ []) in
-    record {
-      remembers = loaded_remembers found a.pen b.pen read.gone;
-      number = loaded_number found a.pen b.pen read.gone;
-      draws = omega (arith, drawn);
-      log = read.gone.log ∙ append-nil a.pen.log;
-      drew = read.drew;
-      stopped = read.stopped;
-    }
+    seat_gone (silent (Load found) ∷ []) a b
+    (record { gone = read.gone; round = read.round; drew = read.drew; stopped = read.stopped }) refl refl
+
+-- the worker goes on as its seat does, where its seat at the table stays
+pub goes_on : {H X : Type 0} (a b : WorkerState H X) → SeatGoesOn a.seat b.seat → b.turns ≡ a.turns → GoesOn a b
+goes_on a b on turns =
+    record { seat = on; misses = same_list _ _ (ap misses_of (sym turns)); numbers = ap numbers_of turns }
 
 pub looked_on : {H X : Type 0} (a b : WorkerState H X) (found : Found) → HasLooked a b found → GoesOn a b
-looked_on a b found looked =
-    record {
-      seat = seat_read a.seat b.seat found looked.read;
-      misses = same_list _ _ (ap misses_of (sym looked.turns));
-    }
+looked_on a b found looked = goes_on a b (seat_read a.seat b.seat found looked.read) looked.turns
 
 missed_more : (b : Bool) (lane : ℕ) (misses : List ℕ) → Grows misses (cond b misses (misses ++ lane ∷ []))
 missed_more true lane misses = same_list _ _ refl
 missed_more false lane misses = (lane ∷ [], refl)
 
 module _ {H X : Type 0} (t : Tries H X) (lane : ℕ) (answer : One) where
-  tried_seat : (old new : WorkerAt) (kept : Option (LaneValue H X)) → HasTried t lane answer old new kept →
+  pub tried_seat : (old new : WorkerAt) (kept : Option (LaneValue H X)) → HasTried t lane answer old new kept →
       SeatGoesOn old.seat new.seat
   tried_seat old new kept (inl held) = subst (SeatGoesOn old.seat) (sym held.seat) (seat_same old.seat)
   tried_seat old new kept (inr had) =
@@ -157,6 +144,16 @@ module _ {H X : Type 0} (t : Tries H X) (lane : ℕ) (answer : One) where
       by_case false given = same_list _ _ (ap (λ (s : Seated). s.misses) (sym given.0))
       by_case true given = same_list _ _ (ap (λ (s : Seated). s.misses) (sym given.0))
 
+  tried_numbers : (old new : WorkerAt) (kept : Option (LaneValue H X)) → HasTried t lane answer old new kept →
+      new.turns.numbers ≡ old.turns.numbers
+  tried_numbers old new kept (inl held) = ap (λ (s : Seated). s.numbers) held.missed
+  tried_numbers old new kept (inr had) = by_case (is_fault answer) had.given
+    where
+      by_case : (b : Bool) → Gives t lane b had.after old.turns new.turns kept →
+          new.turns.numbers ≡ old.turns.numbers
+      by_case false given = ap (λ (s : Seated). s.numbers) given.0
+      by_case true given = ap (λ (s : Seated). s.numbers) given.0
+
   pub attempted_on : (old new : WorkerState H X) → HasAttempted t lane answer old new → GoesOn old new
   attempted_on old new it =
       record {
@@ -164,6 +161,7 @@ module _ {H X : Type 0} (t : Tries H X) (lane : ℕ) (answer : One) where
         misses =
             subst (λ o. Grows (misses_of o) (misses_of new.turns)) (sym it.from_is)
             (subst (λ o. Grows it.from.misses (misses_of o)) (sym it.to_is) (tried_misses _ _ _ it.tried));
+        numbers = ap numbers_of it.to_is ∙ tried_numbers _ _ _ it.tried ∙ sym (ap numbers_of it.from_is);
       }
 
 module _ {H X : Type 0} (t : Tries H X) (from : ℕ) (old : WorkerState H X) where

@@ -14,7 +14,7 @@ use Rattle.lane_clock.specs.declared.step.ClockStep.{ClockStep}
 use Rattle.lane_clock.specs.declared.step.ClockStep.TheVariants.{Draw, Join}
 use Rattle.lane_clock.specs.Knowledge.{StartOf, counts}
 use Rattle.lane_clock.specs.Seats.{Owns, SeatView, own}
-use Rattle.lane_clock.proofs.KeepLemmas.{start_trans}
+use Rattle.lane_clock.proofs.KeepLemmas.{start_same, start_trans}
 use Rattle.lane_context.specs.declared.log.LogEntry.{LogEntry}
 use Rattle.lane_context.specs.Batons.{opener_known}
 use Rattle.lane_context.specs.Cuts.{EventsAreCuts}
@@ -128,6 +128,8 @@ taken_more script first old new pens pen joined owns less apart before =
           All-push (λ (pen : PenView). IsTakenIn script new pen.seat) pens pen
           (each_later script old new pen.seat joined pens apart before.taken)
           (joined_now script old new pen.seat joined owns less);
+      remembers =
+          λ n. start_trans _ _ (lists_of new.pen.seat n) (before.remembers n) (joined.met.met.remembers n);
       log = joined.met.log ∙ before.log;
       stand = joined.stand ∙ before.stand;
       cuts = λ cuts. joined_cuts script old new pen.seat joined (before.cuts cuts);
@@ -136,7 +138,13 @@ taken_more script first old new pens pen joined owns less apart before =
 -- none at first
 pub taken_none : (script : ScriptModel) (first : OpenerView) → AreTakenIn script [] first first
 taken_none script first =
-    record { taken = λ k d less. absurd (omega arith); log = refl; stand = refl; cuts = λ cuts. cuts }
+    record {
+      taken = λ k d less. absurd (omega arith);
+      remembers = λ n. start_same _ _ refl;
+      log = refl;
+      stand = refl;
+      cuts = λ cuts. cuts;
+    }
 
 -- a list that is gone through: one element more is behind us
 pub moved_on : {T : Type 0} (all front rest next : List T) (one : T) → all ≡ front ++ rest → rest ≡ one ∷ next →

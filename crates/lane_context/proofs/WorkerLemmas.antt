@@ -1,5 +1,5 @@
 -- A worker after it stops the context, reads the clock word, or takes in what the opener knew.
-use Rattle.std.proofs.Common.{◌≡◌, ◌≢◌, ◌⊎◌, inl, inr, ⊎_elim, ℕ, ◌+◌, ◌≤◌, Bool, true, false, cond, zero, suc, List, [], ◌∷◌, ◌++◌, None, length, ne_eqb, refl, sym, ap, subst, ◌∙◌, arith}
+use Rattle.std.proofs.Common.{◌≡◌, ◌≢◌, ◌⊎◌, inl, inr, ⊎_elim, ℕ, ◌+◌, ◌≤◌, Bool, true, false, cond, zero, suc, List, [], ◌∷◌, ◌++◌, Option, None, length, ne_eqb, refl, sym, ap, subst, ◌∙◌, arith}
 use Rattle.std.specs.Prelude.{◌&&◌, ◌==◌, not}
 use Rattle.std.proofs.lemmas.Bool.{eq-eqb, eqb-true}
 use Rattle.std.proofs.lemmas.Bool.Decides.{eqb_tells}
@@ -8,6 +8,7 @@ use Rattle.asio_types.specs.declared.event.Event.TheVariants as event
 use Rattle.session_script.specs.Script.{ScriptModel}
 use Rattle.lane_clock.specs.declared.found.Change.TheVariants as change
 use Rattle.lane_clock.specs.declared.found.Found.{Found}
+use Rattle.lane_clock.specs.declared.note.Note.{Note}
 use Rattle.lane_clock.specs.declared.step.ClockStep.{ClockStep}
 use Rattle.lane_clock.specs.declared.step.ClockStep.TheVariants.{Draw, Load, Place, Put, Look, Join}
 use Rattle.lane_clock.specs.declared.step.Known.{Known}
@@ -20,6 +21,7 @@ use Rattle.lane_context.specs.Batons.{opener_known}
 use Rattle.lane_context.specs.Knowing.{joined_count}
 use Rattle.lane_context.specs.Labels.{shows, silent, entries_in, steps_in}
 use Rattle.lane_context.specs.Meeting.{PenHasMet, lists_of}
+use Rattle.lane_context.specs.OpenerLog.{IsRestingStep}
 use Rattle.lane_context.specs.Openers.{round_after}
 use Rattle.lane_context.specs.Pens.{HasGone, MayGo, PenView}
 use Rattle.lane_context.specs.SeatNumbers.{opener_seat}
@@ -47,7 +49,7 @@ closings_by script stand found zero = by_test (wants_restart script stand)
     by_test false = omega arith
 closings_by script stand found (suc opening) = omega arith
 
-closings_rise : (script : ScriptModel) (steps : List ClockStep) (stand : Stand) →
+pub closings_rise : (script : ScriptModel) (steps : List ClockStep) (stand : Stand) →
     stand.closings ≤ (stand_from script stand steps).closings
 closings_rise script [] stand = omega arith
 closings_rise script (Draw change found ∷ steps) stand =
@@ -216,13 +218,26 @@ module _ (script : ScriptModel) (clock : ClockId) (old : WorkerView) (is : IsWor
       old.round true true refl (omega (arith, few_now may))
       (omega (arith, is.room, gone.room)) (omega (arith, drawn, is.draws)) (omega (arith, placed, is.places))
 
+  -- a load or a look draws nothing and takes nothing in
+  worker_rests : (pen : PenView) (step : ClockStep) → IsRestingStep step →
+      joined_count (opener_seat script) (step ∷ []) ≡ 0 → step_count draw_count (step ∷ []) ≡ 0 →
+      step_count place_count (step ∷ []) ≡ 0 → HasGone (silent step ∷ []) old.pen pen →
+      IsWorker script clock (record { pen = pen; round = old.round; drew = old.drew; stopped = old.stopped })
+  worker_rests pen step rests quiet no_draw no_place gone =
+      let drawn = ap (step_count draw_count) gone.steps ∙ step_count-append draw_count (own old.pen.seat) (step ∷ []) in
+      let placed = ap (step_count place_count) gone.steps ∙ step_count-append place_count (own old.pen.seat) (step ∷ []) in
+      worker_steps pen (waiting step) gone quiet rests old.round old.drew old.stopped refl is.few
+      (omega (arith, is.room, gone.room)) (omega (arith, drawn, no_draw, is.draws))
+      (omega (arith, placed, no_place, is.places))
+
   pub worker_read : (pen : PenView) (found : Found) → HasGone (silent (Load found) ∷ []) old.pen pen →
       IsWorker script clock (record { pen = pen; round = old.round; drew = old.drew; stopped = old.stopped })
-  worker_read pen found gone =
-      let drawn = ap (step_count draw_count) gone.steps ∙ step_count-append draw_count (own old.pen.seat) _ in
-      let placed = ap (step_count place_count) gone.steps ∙ step_count-append place_count (own old.pen.seat) _ in
-      worker_steps pen (waiting (Load found)) gone refl tt old.round old.drew old.stopped refl is.few
-      (omega (arith, is.room, gone.room)) (omega (arith, drawn, is.draws)) (omega (arith, placed, is.places))
+  worker_read pen found gone = worker_rests pen (Load found) tt refl refl refl gone
+
+  pub worker_looks : (pen : PenView) (lane place : ℕ) (held : Option Note) →
+      HasGone (silent (Look lane place held) ∷ []) old.pen pen →
+      IsWorker script clock (record { pen = pen; round = old.round; drew = old.drew; stopped = old.stopped })
+  worker_looks pen lane place held gone = worker_rests pen (Look lane place held) tt refl refl refl gone
 
   pub worker_asked : IsWorker script clock (record old { stopped = true })
   worker_asked =

@@ -1,15 +1,11 @@
 -- A worker as contracts see it, and its attempts to do something at lanes (Asio reference,
 -- io_context::poll_one; turns are this project's own).
-use Rattle.std.specs.Prelude.{◌≡◌, ◌≢◌, ◌⊎◌, ℕ, ◌+◌, ◌<◌, ◌≤◌, Bool, true, false, List, [], ◌∷◌, Option, Some, None, if◌then◌else◌}
+use Rattle.std.specs.Prelude.{◌≡◌, ◌⊎◌, ℕ, ◌≤◌, Bool, true, false, [], ◌∷◌, Option, Some, None, if◌then◌else◌}
 use Rattle.std.specs.Global.{Vec}
 use Rattle.std.specs.Prelude.{vec_capacity}
 use Rattle.session_script.specs.Script.{ScriptModel}
 use Rattle.strand_core.specs.declared.posted.Posted.{Posted}
 use Rattle.turn_table.specs.Seated.{HasTurn, IsSeatOf, Lanes, Seated, with_miss, with_turn}
-use Rattle.lane_clock.specs.Knowledge.{StartOf}
-use Rattle.lane_clock.specs.Seats.{Remembers, own}
-use Rattle.lane_clock.specs.Steps.{draw_count, place_count, step_count}
-use Rattle.lane_clock.specs.declared.found.Found.{Found}
 use Rattle.lane_context.specs.declared.one.One.{One}
 use Rattle.lane_context.specs.declared.one.One.TheVariants as one
 use Rattle.lane_context.specs.declared.run_end.RunEnd.{RunEnd}
@@ -17,7 +13,7 @@ use Rattle.lane_context.specs.declared.run_end.RunEnd.TheVariants as end
 use Rattle.lane_context.specs.Answers.{is_fault}
 use Rattle.lane_context.specs.LaneValues.{HasWorked, HearsOf, IsBaton, LaneValue, Tries, home_of}
 use Rattle.lane_context.specs.Polling.{most_made}
-use Rattle.lane_context.specs.Workers.{HasRead, WorkerView, is_set}
+use Rattle.lane_context.specs.Workers.{WorkerView}
 
 pub record WorkerState (H X : Type 0) : Type 0 where
   -- its seat of the clock, with its log

@@ -58,3 +58,8 @@ pub record HasDrawnLast (before after : SeatView) : Type 0 where
   pub quiet : (n : ℕ) → joined_count n front ≡ 0
   pub number : after.number ≡ before.number
   pub others : (n : ℕ) → n ≢ before.number → lists_of after n ≡ lists_of before n
+
+-- the opener knows all that each of a list does
+abbrev pub KnowsAllOf : {T : Type 0} → (T → SeatView) → OpenerView → List T → Type 0
+KnowsAllOf {T} seat opener all =
+    (k : ℕ) (one : T) → slice_get all k ≡ Some one → Remembers (seat one) opener.pen.seat

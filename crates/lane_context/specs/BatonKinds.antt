@@ -1,5 +1,4 @@
 -- What a lane's box holds, as contracts see it.
-use Rattle.std.specs.Prelude.{Option}
 use Rattle.lane_context.specs.declared.baton.BatonKind.{BatonKind}
 use Rattle.lane_context.specs.declared.baton.BatonKind.TheVariants.{Handlers, Reactor}
 use Rattle.lane_context.specs.LaneValues.{LaneValue, handlers, reactor}

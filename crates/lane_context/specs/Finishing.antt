@@ -4,7 +4,6 @@ use Rattle.std.specs.Prelude.{◌≡◌, ◌⊎◌, ◌≤◌, ℕ, true, false,
 use Rattle.asio_types.specs.Faults.{Rose}
 use Rattle.asio_types.specs.declared.event.Event.{Event}
 use Rattle.session_script.specs.Script.{ScriptModel}
-use Rattle.history_rules.specs.FromOutside.{has_fault}
 use Rattle.history_rules.specs.State.{ReactorHalf}
 use Rattle.reactor_trait.specs.Reactor.{Outside, ReactorState}
 use Rattle.proactor_core.specs.Proactor.{sent_to_peer}
@@ -13,19 +12,18 @@ use Rattle.lane_clock.specs.Closing.{Closed}
 use Rattle.lane_clock.specs.Seats.{ClockId, SeatView, copy_seat}
 use Rattle.lane_context.specs.declared.log.LogEntry.{LogEntry}
 use Rattle.lane_context.specs.Batons.{BatonView, LaneView}
-use Rattle.lane_context.specs.Labels.{events_in}
+use Rattle.lane_context.specs.KnownFaults.{KnowsFault}
 use Rattle.lane_context.specs.Logs.{LogsView}
 use Rattle.lane_context.specs.Meeting.{lists_of}
 use Rattle.lane_context.specs.Openers.{IsOpener, OpenerView}
 use Rattle.lane_context.specs.Pens.{PenView}
-use Rattle.lane_context.specs.Stand.{Stand}
 use Rattle.lane_context.specs.TakingIn.{AreTakenIn}
 use Rattle.lane_context.specs.Workers.{WorkerView}
 
--- all rounds are closed, or the reactor failed by its log
-abbrev pub IsOver : ScriptModel → Stand → List LogEntry → Type 0
-IsOver script stand reactor =
-    (stand.closings ≡ length script.rounds) ⊎ (has_fault (events_in reactor) ≡ true)
+-- all rounds are closed, or the opener knows that the reactor failed
+abbrev pub IsOver : ScriptModel → OpenerView → Type 0
+IsOver script opener =
+    (opener.stand.closings ≡ length script.rounds) ⊎ KnowsFault script opener.pen.seat
 
 -- the opener took in these pens, and closed the clock with all that it knew then
 pub record AreClosed (script : ScriptModel) (clock : ClockId) (pens : List PenView)

@@ -1,14 +1,14 @@
 -- The value of a lane as it lies in the table of turns, and what one attempt at it came to,
 -- whichever lane it is (Asio reference, io_context::poll_one).
-use Rattle.std.specs.Prelude.{◌≡◌, ℕ, zero, suc, ◌<◌, true, false, Option, Some, None}
+use Rattle.std.specs.Prelude.{◌≡◌, ◌⊎◌, ℕ, zero, suc, ◌<◌, true, Option, Some, None}
 use Rattle.op_handlers.specs.Marks.{Marks}
 use Rattle.reactor_trait.specs.Reactor.{Outside, ReactorState}
 use Rattle.lane_clock.specs.Seats.{ClockId}
 use Rattle.lane_context.specs.declared.one.One.{One}
+use Rattle.lane_context.specs.declared.one.One.TheVariants.{Nothing}
 use Rattle.lane_context.specs.Answers.{is_done}
-use Rattle.lane_context.specs.Batons.{BatonView, IsHandlerBaton, LaneView}
+use Rattle.lane_context.specs.Batons.{BatonView, IsHandlerBaton}
 use Rattle.lane_context.specs.Names.{SessionNames}
-use Rattle.lane_context.specs.Pens.{no_pen}
 use Rattle.lane_context.specs.Polling.{CameTo}
 use Rattle.lane_context.specs.ReactorPolling.{TurnCameTo}
 use Rattle.lane_context.specs.Turning.{IsReactorBaton, ReactorView}
@@ -57,17 +57,6 @@ home_of (handlers None) = 0
 home_of (reactor (Some view)) = view.lane.lane
 home_of (reactor None) = 0
 
--- a lane that is none
-abbrev pub no_lane : LaneView
-no_lane = record { lane = 0; pen = no_pen; place = 0; base = 0; running = false; missed = None }
-
--- the lane in its box
-abbrev pub lane_in : {H X : Type 0} → LaneValue H X → LaneView
-lane_in (handlers (Some view)) = view.lane
-lane_in (handlers None) = no_lane
-lane_in (reactor (Some view)) = view.lane
-lane_in (reactor None) = no_lane
-
 module _ {H X : Type 0} where
   -- it is one of this session's
   abbrev pub IsBaton : Terms H X → LaneValue H X → Type 0
@@ -100,13 +89,25 @@ module _ {H X : Type 0} where
       × LaneCameTo t one mid after
 
   -- an attempt that came to this, behind fewer than so many in which something was done
-  pub record HasWorked (t : Terms H X) (most : ℕ) (one : One) (before after : LaneValue H X)
+  pub record HasCome (t : Terms H X) (most : ℕ) (answer : One) (before after : LaneValue H X)
       : Type 0 where
     pub count : ℕ
     pub few : count < most
     pub earlier : LaneValue H X
     pub worked : WorkedOn t count before earlier
-    pub came : LaneCameTo t one earlier after
+    pub came : LaneCameTo t answer earlier after
+
+  -- and where something was done in it, at most one more, that came to nothing
+  abbrev pub Rests : Terms H X → ℕ → One → LaneValue H X → LaneValue H X → Type 0
+  Rests t most answer last after =
+      (after ≡ last)
+      ⊎ ((1 < most) × (is_done answer ≡ true) × LaneCameTo t Nothing last after)
+
+  pub record HasWorked (t : Terms H X) (most : ℕ) (answer : One) (before after : LaneValue H X)
+      : Type 0 where
+    pub last : LaneValue H X
+    pub reached : HasCome t most answer before last
+    pub rest : Rests t most answer last after
 
 -- it is filled
 abbrev pub IsFilled : {H X : Type 0} → LaneValue H X → Type 0

@@ -1,6 +1,6 @@
 -- Attempts at lanes one after another, up to the first that comes to something (Asio reference,
 -- io_context::poll_one).
-use Rattle.std.specs.Prelude.{◌≡◌, ℕ, ◌+◌, ◌<◌, ◌≤◌, Bool, true, false, List, [], ◌++◌, Option, Some, None}
+use Rattle.std.specs.Prelude.{◌≡◌, ℕ, ◌+◌, ◌<◌, Bool, true, false, List, [], ◌++◌, Option, Some, None}
 use Rattle.turn_table.specs.Seated.{Seated}
 use Rattle.lane_clock.specs.Seats.{Remembers, own}
 use Rattle.lane_clock.specs.Steps.{draw_count, step_count}
@@ -10,12 +10,17 @@ use Rattle.lane_context.specs.declared.one.One.TheVariants as one
 use Rattle.lane_context.specs.Answers.{is_nothing}
 use Rattle.lane_context.specs.Attempts.{HasAttempted, WorkerState}
 use Rattle.lane_context.specs.LaneValues.{Tries}
-use Rattle.lane_context.specs.Workers.{HasRead, WorkerView, is_set}
+use Rattle.lane_context.specs.Workers.{HasRead, WorkerView}
 
 -- what a seat at the table of turns missed
 abbrev pub misses_of : Option Seated → List ℕ
 misses_of None = []
 misses_of (Some seat) = seat.misses
+
+-- the numbers that it stands for
+abbrev pub numbers_of : Option Seated → List ℕ
+numbers_of None = []
+numbers_of (Some seat) = seat.numbers
 
 -- a worker's seat went on: it draws nothing, and forgets nothing
 pub record SeatGoesOn (old new : WorkerView) : Type 0 where
@@ -30,10 +35,11 @@ pub record SeatGoesOn (old new : WorkerView) : Type 0 where
 abbrev pub Grows : List ℕ → List ℕ → Type 0
 Grows old new = (more : List ℕ) × (new ≡ old ++ more)
 
--- and so did the worker, who knows all that it missed
+-- and so did the worker, who knows all that it missed, and whose seat at the table stays
 pub record GoesOn {H X : Type 0} (old new : WorkerState H X) : Type 0 where
   pub seat : SeatGoesOn old.seat new.seat
   pub misses : Grows (misses_of old.turns) (misses_of new.turns)
+  pub numbers : numbers_of new.turns ≡ numbers_of old.turns
 
 -- it read the clock word
 pub record HasLooked {H X : Type 0} (old new : WorkerState H X) (found : Found) : Type 0 where

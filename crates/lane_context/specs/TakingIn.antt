@@ -3,7 +3,7 @@
 use Rattle.std.specs.Prelude.{◌≡◌, List, All}
 use Rattle.session_script.specs.Script.{ScriptModel}
 use Rattle.lane_clock.specs.Knowledge.{StartOf}
-use Rattle.lane_clock.specs.Seats.{IsSourceOf, Keeps, Owns, SeatView, own}
+use Rattle.lane_clock.specs.Seats.{IsSourceOf, Keeps, Owns, Remembers, SeatView, own}
 use Rattle.lane_context.specs.Batons.{opener_known}
 use Rattle.lane_context.specs.Cuts.{EventsAreCuts}
 use Rattle.lane_context.specs.Meeting.{PenHasMet, lists_of}
@@ -32,6 +32,7 @@ pub record IsTakenIn (script : ScriptModel) (opener : OpenerView) (seat : SeatVi
 pub record AreTakenIn (script : ScriptModel) (pens : List PenView) (old new : OpenerView)
     : Type 0 where
   pub taken : All (λ pen. IsTakenIn script new pen.seat) pens
+  pub remembers : Remembers old.pen.seat new.pen.seat
   pub log : new.pen.log ≡ old.pen.log
   pub stand : new.stand ≡ old.stand
   pub cuts : EventsAreCuts script (lists_of old.pen.seat) → EventsAreCuts script (lists_of new.pen.seat)

@@ -4,6 +4,7 @@ ghost use Rattle.lane_clock.specs.Seats.{Owns, SeatView, copy_seat, own};
 ghost use Rattle.lane_map.specs.LaneNumbers.{reactor_lane};
 ghost use Rattle.lane_context.specs.Attending.{IsHeard};
 ghost use Rattle.lane_context.specs.Benches.{IsInRound};
+ghost use Rattle.lane_context.specs.Besides.{Besides};
 ghost use Rattle.lane_context.specs.Cuts.{HaveStarted, NoneStops};
 ghost use Rattle.lane_context.specs.Meeting.{PenHasMet};
 ghost use Rattle.lane_context.specs.Openers.{HasTakenIn, HaveMet, in_round, round_after};
@@ -30,6 +31,9 @@ pub(crate) trait Attendee<N: LaneSession> {
     /// How many notes of its lane were executed or taken; none of a worker, who has no lane.
     ghost place: { Self → ℕ };
 
+    /// What a worker has besides its seat; nothing, of a lane.
+    ghost rest: { Self → Besides };
+
     /// Tells the opener what it did.
     fn report(&mut self, opener: &mut Opener<N>, clock: &LaneClock)
         requires clock { clock.now ≡ N.clock }
@@ -45,6 +49,7 @@ pub(crate) trait Attendee<N: LaneSession> {
         ensures met { HaveMet N.names.script opener.old opener.new (seat self.old) (seat self.new) }
         ensures owns { Owns (seat self.old) (seat self.old).number }
         ensures place { place self.new ≡ place self.old }
+        ensures rest { rest self.new ≡ rest self.old }
         ensures round { IsInRound N.names.script opener.new.stand (base self.new) (running self.new) };
 }
 

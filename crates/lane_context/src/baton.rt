@@ -4,6 +4,7 @@ ghost use Rattle.lane_context.specs.LaneValues.{HasWorked, HearsOf, IsBaton, Lan
 ghost use Rattle.lane_context.specs.Polling.{most_made};
 
 use crate::handler_baton::{BatonPolled, HandlerBaton};
+use crate::hinting::hinted_lane;
 use crate::one::One;
 use crate::reactor_baton::{ReactorBaton, ReactorBatonPolled};
 use crate::session::LaneSession;
@@ -42,11 +43,33 @@ impl<'a, X: Reactor, H: CompletionHandler, N: LaneSession> Model for Baton<'a, X
     ghost invariant = { λ b. IsFilled (value_of b.kind) };
 }
 
-/// What an attempt at a lane leaves: its baton, the room for calls, and what it came to.
+/// What an attempt at a lane leaves: its baton, the room for calls, what it came to, and the lane at
+/// which there may be something to do next.
 pub(crate) struct BatonCame<'a, X: Reactor, H: CompletionHandler, N: LaneSession> {
     pub(crate) baton: Baton<'a, X, H, N>,
     pub(crate) made: Vec<Posted>,
     pub(crate) one: One,
+    pub(crate) hint: Option<u32>,
+}
+
+impl<'a, X: Reactor, H: CompletionHandler, N: LaneSession> BatonCame<'a, X, H, N> {
+    /// With this answer and this hint in place of its own.
+    fn after(self, one: One, hint: Option<u32>) -> BatonCame<'a, X, H, N>
+        ensures { result ≡ record self.entry { one = one; hint = hint } }
+    {
+        let BatonCame {
+            baton,
+            made,
+            one: _,
+            hint: _,
+        } = self;
+        BatonCame {
+            baton,
+            made,
+            one,
+            hint,
+        }
+    }
 }
 
 impl<'a, X: Reactor, H: CompletionHandler, N: LaneSession> Baton<'a, X, H, N> {
@@ -81,6 +104,7 @@ impl<'a, X: Reactor, H: CompletionHandler, N: LaneSession> Baton<'a, X, H, N> {
                     mut made,
                     one,
                 } = baton.poll(clock, script, map, made);
+                let hint = hinted_lane(script, map, made.as_slice());
                 made.clear();
                 slot.put_in(baton);
                 let kind = BatonKind::Handlers(slot);
@@ -88,6 +112,7 @@ impl<'a, X: Reactor, H: CompletionHandler, N: LaneSession> Baton<'a, X, H, N> {
                     baton: Baton { kind },
                     made,
                     one,
+                    hint,
                 }
             }
             BatonKind::Reactor(mut slot) => {
@@ -99,12 +124,14 @@ impl<'a, X: Reactor, H: CompletionHandler, N: LaneSession> Baton<'a, X, H, N> {
                     baton: Baton { kind },
                     made,
                     one,
+                    hint: None,
                 }
             }
         }
     }
 
-    /// Polls the lane while something is done there, so many times at most. `made` is the room for
+    /// Polls the lane while something is done there, so many times at most; where then nothing is
+    /// found, the answer is the one before. `made` is the room for
     /// calls.
     pub(crate) fn work(
         self,
@@ -136,9 +163,14 @@ impl<'a, X: Reactor, H: CompletionHandler, N: LaneSession> Baton<'a, X, H, N> {
             let BatonCame {
                 baton,
                 made,
-                one: _,
+                one: last,
+                hint,
             } = came;
-            came = baton.poll(clock, script, map, made);
+            let next = baton.poll(clock, script, map, made);
+            if next.one.is_nothing() {
+                return next.after(last, hint);
+            }
+            came = next;
         }
         came
     }

@@ -2,6 +2,7 @@
 ghost use Rattle.std.specs.Prelude.{◌≡◌, length};
 ghost use Rattle.lane_map.specs.LaneNumbers.{reactor_lane};
 ghost use Rattle.lane_context.specs.Attending.{AreHeard, HasGoneOn, HaveAttended};
+ghost use Rattle.lane_context.specs.Besides.{rests_of};
 ghost use Rattle.lane_context.specs.Benches.{AreInRound, AreLanes, HaveAllStarted, ReactorGoesOn, places_of};
 ghost use Rattle.lane_context.specs.Cuts.{NoneStops};
 ghost use Rattle.lane_context.specs.Meeting.{lists_of};
@@ -44,6 +45,7 @@ pub(crate) fn attend_all<N: LaneSession, T: Attendee<N>>(
         (length all.old) }
     ensures round { AreInRound T.base T.running N.names.script opener.new.stand all.new
         (length all.old) }
+    ensures rest { rests_of T.rest all.new ≡ rests_of T.rest all.old }
 {
     for one in all.iter_mut() {
         one.attend(opener, clock, script);

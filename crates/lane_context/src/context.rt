@@ -27,7 +27,7 @@ use turn_table::{TurnSeat, TurnTable};
 pub struct Context<'a, X: Reactor, H: CompletionHandler, N: LaneSession> {
     pub(crate) clock: LaneClock,
     pub(crate) script: &'a Script,
-    pub(crate) map: LaneMap<'a>,
+    pub(crate) map: &'a LaneMap<'a>,
     pub(crate) turns: TurnTable<Baton<'a, X, H, N>>,
 }
 
@@ -35,6 +35,7 @@ impl<'a, X: Reactor, H: CompletionHandler, N: LaneSession> Model for Context<'a,
     ghost use Rattle.turn_table.specs.Seated.{Lanes};
     ghost use Rattle.std.specs.Prelude.{◌≡◌};
     ghost use Rattle.lane_map.specs.LaneNumbers.{cells_of};
+    ghost use Rattle.lane_context.specs.Logs.{session_layout};
     ghost use Rattle.lane_context.specs.SeatNumbers.{lane_count};
 
     ghost Value = { Lanes };
@@ -43,19 +44,21 @@ impl<'a, X: Reactor, H: CompletionHandler, N: LaneSession> Model for Context<'a,
 
     ghost invariant = { λ c. record {
       clock : c.clock ≡ N.clock;
+      plan : N.clock.plan ≡ session_layout N.names.script;
       cells : N.clock.plan.cells ≡ cells_of N.names.script;
       script : c.script.now ≡ N.names.script;
-      map : c.map ≡ N.names.script;
+      map : c.map.now ≡ N.names.script;
       lanes : c.turns.lanes ≡ lane_count N.names.script;
     } };
 }
 
 /// What an attempt at a lane leaves: the lane that the worker keeps after a fault, the room for
-/// calls, and what it came to.
+/// calls, what it came to, and the lane at which there may be something to do next.
 struct Attempt<'a, X: Reactor, H: CompletionHandler, N: LaneSession> {
     kept: Option<Baton<'a, X, H, N>>,
     made: Vec<Posted>,
     one: One,
+    hint: Option<u32>,
 }
 
 impl<'a, X: Reactor, H: CompletionHandler, N: LaneSession> Context<'a, X, H, N> {
@@ -88,6 +91,7 @@ impl<'a, X: Reactor, H: CompletionHandler, N: LaneSession> Context<'a, X, H, N> 
                 kept: None,
                 made,
                 one,
+                hint: None,
             };
         };
         baton.is_one();
@@ -96,7 +100,8 @@ impl<'a, X: Reactor, H: CompletionHandler, N: LaneSession> Context<'a, X, H, N> 
             mut baton,
             made,
             one,
-        } = baton.work(&self.clock, self.script, &self.map, made, most);
+            hint,
+        } = baton.work(&self.clock, self.script, self.map, made, most);
         baton.is_one();
         baton.tell(&self.clock, seat);
         if one.is_fault() {
@@ -104,6 +109,7 @@ impl<'a, X: Reactor, H: CompletionHandler, N: LaneSession> Context<'a, X, H, N> 
                 kept: Some(baton),
                 made,
                 one,
+                hint,
             };
         }
         self.turns.give_turn(turns, lane, baton);
@@ -111,6 +117,7 @@ impl<'a, X: Reactor, H: CompletionHandler, N: LaneSession> Context<'a, X, H, N> 
             kept: None,
             made,
             one,
+            hint,
         }
     }
 
@@ -131,13 +138,12 @@ impl<'a, X: Reactor, H: CompletionHandler, N: LaneSession> Context<'a, X, H, N> 
         let Some(made) = worker.made.take() else {
             unreachable!()
         };
-        let Attempt { kept, made, one } = self.try_lane(
-            &mut worker.seat,
-            &mut turns,
+        let Attempt {
+            kept,
             made,
-            lane,
-            most,
-        );
+            one,
+            hint,
+        } = self.try_lane(&mut worker.seat, &mut turns, made, lane, most);
         match mem::replace(&mut worker.kept, kept) {
             None => {}
             Some(_other) => unreachable!(),
@@ -145,7 +151,7 @@ impl<'a, X: Reactor, H: CompletionHandler, N: LaneSession> Context<'a, X, H, N> 
         worker.turns = Some(turns);
         worker.made = Some(made);
         worker.last = last_after(one, worker.last);
-        worker.cursor = lane.saturating_add(1);
+        worker.cursor = hint.unwrap_or(lane.saturating_add(1));
         one
     }
 

@@ -2,8 +2,9 @@
 //! event, and each takes that in (Asio reference, io_context::run, ::poll, ::restart; asio::post).
 ghost use Rattle.std.specs.Prelude.{◌≡◌, [], IsFalse, IsTrue, length, true};
 ghost use Rattle.lane_map.specs.LaneNumbers.{cells_of, reactor_lane};
-ghost use Rattle.lane_context.specs.Attending.{AreHeard, HasGoneOn};
+ghost use Rattle.lane_context.specs.Attending.{AreHeard, HasGoneOn, KnowsAllOf};
 ghost use Rattle.lane_context.specs.Benches.{AreInRound, AreLanes, AreStartedAt, AreWorkers, HasHeld, HaveAllMet, ReactorGoesOn, places_of};
+ghost use Rattle.lane_context.specs.Besides.{rests_of};
 ghost use Rattle.lane_context.specs.Cuts.{EventsAreCuts, NoneStops};
 ghost use Rattle.lane_context.specs.Meeting.{lists_of};
 ghost use Rattle.lane_context.specs.OpenerEvents.{HasClosed, HasOpened, HasRestarted, HasWaited};
@@ -67,9 +68,39 @@ fn attend_bench<N: LaneSession, B: Attendee<N>, W: Attendee<N>>(
         (length lanes.new) }
     ensures worker_rounds { AreInRound W.base W.running N.names.script opener.new.stand workers.new
         (length workers.new) }
+    ensures rest { rests_of W.rest workers.new ≡ rests_of W.rest workers.old }
 {
     attend_all(opener, clock, script, lanes);
     attend_all(opener, clock, script, workers);
+}
+
+/// All meet where no event closes the round, since the reactor failed: the opener takes in what each
+/// lane and worker knows, and each of them what the opener knows.
+pub(crate) fn meet_all<N: LaneSession, B: Attendee<N>, W: Attendee<N>>(
+    opener: &mut Opener<N>,
+    clock: &LaneClock,
+    script: &Script,
+    lanes: &mut [B],
+    workers: &mut [W],
+)
+    requires clock { clock.now ≡ N.clock }
+    requires script { script.now ≡ N.names.script }
+    requires lanes { AreLanes B.seat N.names.script lanes.old }
+    requires workers { AreWorkers W.seat N.names.script workers.old }
+    requires cuts { EventsAreCuts N.names.script (lists_of opener.old.pen.seat) }
+    ensures on { HasGoneOn opener.old opener.new }
+    ensures cuts { EventsAreCuts N.names.script (lists_of opener.new.pen.seat) }
+    ensures known { KnowsAllOf W.seat opener.new workers.old }
+    ensures lanes { AreLanes B.seat N.names.script lanes.new }
+    ensures workers { AreWorkers W.seat N.names.script workers.new }
+    ensures worker_rounds { AreInRound W.base W.running N.names.script opener.new.stand workers.new
+        (length workers.new) }
+    ensures rest { rests_of W.rest workers.new ≡ rests_of W.rest workers.old }
+{
+    hear_all(opener, clock, workers);
+    hear_all(opener, clock, lanes);
+    opener.is_one();
+    attend_bench(opener, clock, script, lanes, workers);
 }
 
 /// Makes the calls of `open`, as the first event: all lanes and workers take it in.
@@ -97,6 +128,7 @@ pub(crate) fn open_all<N: LaneSession, B: Attendee<N>, W: Attendee<N>>(
         (length lanes.new) }
     ensures worker_rounds { AreInRound W.base W.running N.names.script opener.new.stand workers.new
         (length workers.new) }
+    ensures rest { rests_of W.rest workers.new ≡ rests_of W.rest workers.old }
 {
     hear_all(opener, clock, workers);
     hear_all(opener, clock, lanes);
@@ -130,6 +162,7 @@ pub(crate) fn restart_all<N: LaneSession, B: Attendee<N>, W: Attendee<N>>(
         (length lanes.new) }
     ensures worker_rounds { AreInRound W.base W.running N.names.script opener.new.stand workers.new
         (length workers.new) }
+    ensures rest { rests_of W.rest workers.new ≡ rests_of W.rest workers.old }
 {
     hear_bench(opener, clock, script, lanes, workers);
     opener.is_one();
@@ -169,6 +202,8 @@ pub(crate) fn close_all<N: LaneSession, B: LaneAttendee<N>, W: Attendee<N>>(
         opener.new.stand lanes.new (length lanes.new) }
     ensures worker_rounds { IsTrue result → AreInRound W.base W.running N.names.script
         opener.new.stand workers.new (length workers.new) }
+    ensures rest { rests_of W.rest workers.new ≡ rests_of W.rest workers.old }
+    ensures same { IsFalse result → workers.new ≡ workers.old }
 {
     hear_bench(opener, clock, script, lanes, workers);
     opener.is_one();

@@ -1,17 +1,19 @@
 //! The end of a session without a lock.
-ghost use Rattle.std.specs.Prelude.{◌≡◌, ◌+◌, ◌<◌, ◌≤◌, [], All, ℕ, IfSome, false, length, map, slice_get, slice_index_or, vec_capacity};
+ghost use Rattle.std.specs.Prelude.{◌≡◌, ◌+◌, ◌<◌, ◌≤◌, [], All, ℕ, IfSome, length, map, slice_get, slice_index_or, vec_capacity};
 ghost use Rattle.lane_clock.specs.Seats.{Owns};
 ghost use Rattle.lane_map.specs.LaneNumbers.{reactor_lane};
 ghost use Rattle.lane_context.specs.Cuts.{EventsAreCuts};
+ghost use Rattle.lane_context.specs.EndingRooms.{HasLeavingRoom};
 ghost use Rattle.lane_context.specs.Finishing.{AreClosed, IsGivenBack, IsOver, logs_in};
 ghost use Rattle.lane_context.specs.Logs.{AreLogs, session_layout};
 ghost use Rattle.lane_context.specs.Meeting.{lists_of};
 ghost use Rattle.lane_context.specs.Openers.{IsOpener};
 ghost use Rattle.lane_context.specs.Pens.{PenView};
-ghost use Rattle.lane_context.specs.SeatNumbers.{lane_count, opener_seat, seat_count, worker_count};
+ghost use Rattle.lane_context.specs.SeatNumbers.{lane_count, opener_seat, worker_count};
 ghost use Rattle.lane_context.specs.Turning.{log_half};
 
 use crate::discarding::discard_left;
+use crate::ending_room::LeavingRoom;
 use crate::handler_baton::HandlerBaton;
 use crate::log::LogEntry;
 use crate::logs::Logs;
@@ -23,10 +25,9 @@ use crate::reactor_baton::ReactorBaton;
 use crate::session::LaneSession;
 use crate::taking_in::take_in_all;
 use crate::worker_seat::WorkerSeat;
-use asio_types::Event;
 use lane_clock::{Found, LaneClock, LaneCopy, LaneSeat};
 use lane_map::{LaneMap, lanes_have_cells};
-use op_handlers::{CompletionHandler, Handler};
+use op_handlers::CompletionHandler;
 use reactor_trait::Reactor;
 use session_script::Script;
 
@@ -94,15 +95,6 @@ pub(crate) struct Ending<'a, X: Reactor, H: CompletionHandler, N: LaneSession> {
     pub(crate) workers: Vec<WorkerSeat<N>>,
 }
 
-/// The room for what a session leaves, with two marks for each act that aren't set.
-pub(crate) struct EndingRoom<'a, H = Handler> {
-    pub(crate) left: LanesLeft<'a, H>,
-    pub(crate) logs: Vec<Vec<LogEntry>>,
-    pub(crate) drops: Vec<Event>,
-    pub(crate) called: Vec<bool>,
-    pub(crate) begun: Vec<bool>,
-}
-
 /// Destroys all handlers that are left, by rising number, closes the clock, and gives the logs and
 /// the reactor back (Asio reference, io_context::~io_context). Takes no memory but the room.
 pub(crate) fn finish<'a, X: Reactor, H: CompletionHandler, N: LaneSession>(
@@ -110,7 +102,7 @@ pub(crate) fn finish<'a, X: Reactor, H: CompletionHandler, N: LaneSession>(
     script: &'a Script,
     lanes: &LaneMap<'a>,
     ending: Ending<'a, X, H, N>,
-    room: EndingRoom<'a, H>,
+    room: LeavingRoom<'a, H>,
 ) -> (Logs, X)
     requires clock { clock ≡ N.clock }
     requires plan { clock.plan ≡ session_layout N.names.script }
@@ -123,21 +115,8 @@ pub(crate) fn finish<'a, X: Reactor, H: CompletionHandler, N: LaneSession>(
     requires work_numbers { (k : ℕ) → IfSome (slice_get ending.workers.items k)
         (λ worker. worker.pen.seat.number ≡ lane_count N.names.script + k) }
     requires cuts { EventsAreCuts N.names.script (lists_of ending.opener.pen.seat) }
-    requires over { IsOver N.names.script ending.opener.stand ending.reactor.lane.pen.log }
-    requires no_pens { room.left.pens.items ≡ [] }
-    requires no_misses { room.left.missed.items ≡ [] }
-    requires no_hands { room.left.hands.items ≡ [] }
-    requires no_logs { room.logs.items ≡ [] }
-    requires no_drops { room.drops.items ≡ [] }
-    requires pen_room { opener_seat N.names.script ≤ vec_capacity room.left.pens }
-    requires miss_room { lane_count N.names.script ≤ vec_capacity room.left.missed }
-    requires hand_room { reactor_lane N.names.script ≤ vec_capacity room.left.hands }
-    requires log_room { seat_count N.names.script ≤ vec_capacity room.logs }
-    requires drop_room { length script.now.acts ≤ vec_capacity room.drops }
-    requires none_called { All (λ is. is ≡ false) room.called.items }
-    requires none_begun { All (λ is. is ≡ false) room.begun.items }
-    requires calls { length room.called.items ≡ length script.now.acts }
-    requires begins { length room.begun.items ≡ length script.now.acts }
+    requires over { IsOver N.names.script ending.opener }
+    requires room { HasLeavingRoom N.names.script room }
     ensures logs { AreLogs N.names (logs_in result.0) }
     ensures reactor { IsGivenBack (log_half N.names
         (slice_index_or result.0.entries (reactor_lane N.names.script) []))
@@ -151,7 +130,7 @@ pub(crate) fn finish<'a, X: Reactor, H: CompletionHandler, N: LaneSession>(
         reactor,
         workers,
     } = ending;
-    let EndingRoom {
+    let LeavingRoom {
         left,
         logs,
         drops,

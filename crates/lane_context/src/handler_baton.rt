@@ -113,6 +113,10 @@ impl<'a, H: CompletionHandler, N: LaneSession> Attendee<N> for HandlerBaton<'a, 
 
     ghost place = { λ b. b.lane.place };
 
+    ghost use Rattle.lane_context.specs.Besides.{nothing_besides};
+
+    ghost rest = { λ b. nothing_besides };
+
     fn report(&mut self, opener: &mut Opener<N>, clock: &LaneClock) {
         opener.hear(clock, &mut self.lane.pen);
     }

@@ -94,6 +94,13 @@ impl<'a, X: Reactor, N: LaneSession> ReactorBaton<'a, X, N> {
         let _lane = &self.lane;
     }
 
+    /// Whether the reactor has failed.
+    pub(crate) fn is_failed(&self) -> bool
+        ensures { result ≡ self.now.proactor.tables.failed }
+    {
+        self.proactor.failed()
+    }
+
     /// The number of its lane.
     pub(crate) fn lane_number(&self) -> u32
         ensures { result ≡ self.now.lane.lane }
@@ -119,6 +126,10 @@ impl<'a, X: Reactor, N: LaneSession> Attendee<N> for ReactorBaton<'a, X, N> {
     ghost running = { λ b. b.lane.running };
 
     ghost place = { λ b. b.lane.place };
+
+    ghost use Rattle.lane_context.specs.Besides.{nothing_besides};
+
+    ghost rest = { λ b. nothing_besides };
 
     fn report(&mut self, opener: &mut Opener<N>, clock: &LaneClock) {
         opener.hear(clock, &mut self.lane.pen);

@@ -1,5 +1,5 @@
 //! A box whose value is taken out and put back.
-ghost use Rattle.std.specs.Prelude.{◌≡◌, IfOk, IsSome, None, Some};
+ghost use Rattle.std.specs.Prelude.{◌≡◌, IfOk, IsSome, None, Some, length, replicate};
 
 use asio_types::NoMemory;
 use std::alloc::Global;
@@ -8,6 +8,7 @@ use std::mem;
 
 /// One box for a value that goes out and in: nothing is allocated but when it is made. Contracts see
 /// the value, if it is in.
+#[derive(Drop)]
 pub(crate) struct Slot<T> {
     inside: Box<Option<T>>,
 }
@@ -34,6 +35,17 @@ impl<T> Slot<T> {
         }
     }
 
+    /// Lets go of a box with nothing in it.
+    pub(crate) fn free(self)
+        requires { self ≡ None }
+    {
+        let Slot { inside } = self;
+        match Box::into_inner(inside) {
+            None => {}
+            Some(_value) => unreachable!(),
+        }
+    }
+
     /// Takes the value out.
     pub(crate) fn take_out(&mut self) -> T
         requires { IsSome self.old }
@@ -41,6 +53,18 @@ impl<T> Slot<T> {
         ensures empty { self.new ≡ None }
     {
         match self.inside.take() {
+            Some(value) => value,
+            None => unreachable!(),
+        }
+    }
+
+    /// The value, without its box.
+    pub(crate) fn into_inner(self) -> T
+        requires { IsSome self }
+        ensures { self ≡ Some result }
+    {
+        let Slot { inside } = self;
+        match Box::into_inner(inside) {
             Some(value) => value,
             None => unreachable!(),
         }
@@ -67,4 +91,32 @@ impl<T> Slot<T> {
             None => unreachable!(),
         }
     }
+}
+
+/// So many boxes with nothing in them.
+pub(crate) fn empty_slots<T>(alloc: Global, count: u32) -> Result<Vec<Slot<T>>, NoMemory>
+    ensures { IfOk result (λ slots. slots.items ≡ replicate count None) }
+{
+    let mut slots = Vec::with_capacity(alloc, count as usize)?;
+    for _ in 0..count {
+        match Slot::empty(alloc) {
+            Ok(slot) => slots.push_reserved(slot),
+            Err(refused) => {
+                free_slots(slots);
+                return Err(refused);
+            }
+        }
+    }
+    Ok(slots)
+}
+
+/// Lets go of boxes with nothing in them.
+pub(crate) fn free_slots<T>(slots: Vec<Slot<T>>)
+    requires { slots.items ≡ replicate (length slots.items) None }
+{
+    let mut rest = slots;
+    while let Some(slot) = rest.pop() {
+        slot.free();
+    }
+    rest.destroy_empty();
 }

@@ -1,4 +1,6 @@
-ghost use Rattle.std.specs.Prelude.{◌≡◌};
+ghost use Rattle.std.specs.Prelude.{◌≡◌, Some};
+ghost use Rattle.lane_context.specs.declared.run_end.RunEnd.TheVariants.{Fault};
+ghost use Rattle.lane_context.specs.KnownFaults.{KnowsAfterFault, has_faulted};
 ghost use Rattle.lane_context.specs.Runs.{is_barred, last_end, with_end};
 ghost use Rattle.lane_context.specs.Scanning.{GoesOn, HasLooked};
 ghost use Rattle.lane_context.specs.Workers.{Stops, is_set, may_draw_stop};
@@ -32,6 +34,7 @@ pub struct Worker<'a, X: Reactor, H: CompletionHandler, N: LaneSession> {
 
 impl<'a, X: Reactor, H: CompletionHandler, N: LaneSession> Model for Worker<'a, X, H, N> {
     ghost use Rattle.lane_context.specs.Attempts.{HoldsTurns, IsCallRoom, KeepsAfterFault, WorkerState};
+    ghost use Rattle.lane_context.specs.KnownFaults.{KnowsAfterFault};
 
     ghost Value = { WorkerState H X };
 
@@ -41,6 +44,7 @@ impl<'a, X: Reactor, H: CompletionHandler, N: LaneSession> Model for Worker<'a, 
       turns : HoldsTurns w.kept w.turns;
       last : KeepsAfterFault w.kept w.last;
       room : IsCallRoom N.names.script w.made;
+      knows : KnowsAfterFault N.names.script w.last w.seat.pen.seat;
     } };
 }
 
@@ -87,8 +91,20 @@ impl<'a, X: Reactor, H: CompletionHandler, N: LaneSession> Worker<'a, X, H, N> {
         self.seat.is_running()
     }
 
-    /// Keeps how a call ended; after a fault that stays.
+    /// Whether its last call ended by a fault of the reactor; then it knows that.
+    pub(crate) fn has_faulted(&self) -> bool
+        ensures is { result ≡ has_faulted self.now.last }
+        ensures knows { KnowsAfterFault N.names.script self.now.last self.now.seat.pen.seat }
+    {
+        match self.last {
+            Some(RunEnd::Fault) => true,
+            _ => false,
+        }
+    }
+
+    /// Keeps how a call ended; after a fault that stays. A fault it had met before.
     pub(crate) fn ends(&mut self, end: RunEnd) -> RunEnd
+        requires fault { end ≡ Fault → self.old.last ≡ Some Fault }
         ensures same { result ≡ end }
         ensures kept { self.new ≡ with_end self.old end }
     {

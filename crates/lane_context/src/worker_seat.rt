@@ -20,12 +20,12 @@ use std::marker::{Model, PhantomData};
 #[derive(Drop)]
 pub(crate) struct WorkerSeat<N: LaneSession> {
     pub(crate) pen: Pen,
-    round: RoundNow,
+    pub(crate) round: RoundNow,
     // whether it drew a stop in this round
-    drew: bool,
+    pub(crate) drew: bool,
     // whether it was asked to stop since the last restart
-    stopped: bool,
-    names: PhantomData<N>,
+    pub(crate) stopped: bool,
+    pub(crate) names: PhantomData<N>,
 }
 
 impl<N: LaneSession> Model for WorkerSeat<N> {
@@ -77,25 +77,6 @@ impl<N: LaneSession> WorkerSeat<N> {
         ensures { HasRead self.old self.new result }
     {
         self.pen.load(clock)
-    }
-
-    /// The outstanding work.
-    pub(crate) fn work(&mut self, clock: &LaneClock) -> u64
-        requires clock { clock.now ≡ N.clock }
-        ensures { (found : Found) × HasRead self.old self.new found × (result ≡ found.work) }
-    {
-        self.read(clock).work
-    }
-
-    /// Whether the context is stopped (Asio reference, io_context::stopped): the stops aren't those
-    /// of the last restart, or this worker was asked to stop since then.
-    pub(crate) fn stopped(&mut self, clock: &LaneClock) -> bool
-        requires clock { clock.now ≡ N.clock }
-        ensures { (found : Found) × HasRead self.old self.new found
-            × (result ≡ is_set self.old found) }
-    {
-        let found = self.read(clock);
-        self.stopped || found.stops != self.round.base
     }
 
     /// Whether the stop word counts as set, by what was read.
@@ -169,6 +150,10 @@ impl<N: LaneSession> Attendee<N> for WorkerSeat<N> {
     ghost running = { λ w. w.round.running };
 
     ghost place = { λ w. 0 };
+
+    ghost use Rattle.lane_context.specs.Besides.{nothing_besides};
+
+    ghost rest = { λ w. nothing_besides };
 
     fn report(&mut self, opener: &mut Opener<N>, clock: &LaneClock) {
         opener.hear(clock, &mut self.pen);

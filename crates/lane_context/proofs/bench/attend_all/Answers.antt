@@ -1,7 +1,7 @@
-use Rattle.std.proofs.Common.{◌≡◌, ◌<◌, Some, get_or, length, arith}
+use Rattle.std.proofs.Common.{◌≡◌, ◌<◌, Some, get_or, length, refl, ◌∙◌, arith}
 use Rattle.std.specs.Prelude.{slice_get}
 use Rattle.std.proofs.lemmas.Option.{slice_get-get_or}
-use Rattle.lane_context.proofs.AttendingLemmas.{more_attended, none_attended, on_and_on, on_heard, on_same}
+use Rattle.lane_context.proofs.AttendingLemmas.{map_set_same, more_attended, none_attended, on_and_on, on_heard, on_same}
 use Rattle.lane_context.proofs.BenchLemmas.{more_in_round, none_in_round, still_heard}
 use Rattle.lane_context.proofs.bench.attend_all.Goals as goal
 
@@ -22,6 +22,7 @@ loop-one-init g c =
       round =
           none_in_round g.T.Attendee.base g.T.Attendee.running g.N.LaneSession.names.script c.args.opener.now.stand
           c.args.all.now;
+      rest = refl;
     }
 
 pub loop-one-preserved : goal.loop-one-preserved
@@ -43,4 +44,7 @@ loop-one-preserved g c =
           more_in_round g.T.Attendee.base g.T.Attendee.running g.N.LaneSession.names.script c.loop-one.opener.stand
           c.attend.new.opener.stand c.loop-one.all i one c.attend.new.self c.attend.ensures.met.heard.stand at
           c.loop-one.invariant.round c.attend.ensures.round;
+      rest =
+          map_set_same g.T.Attendee.rest c.loop-one.all i one c.attend.new.self at c.attend.ensures.rest
+          ∙ c.loop-one.invariant.rest;
     }

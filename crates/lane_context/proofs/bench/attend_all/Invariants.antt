@@ -1,5 +1,7 @@
+use Rattle.std.proofs.Common.{◌≡◌}
 use Rattle.lane_context.specs.Attending.{HasGoneOn, HaveAttended}
 use Rattle.lane_context.specs.Benches.{AreInRound}
+use Rattle.lane_context.specs.Besides.{rests_of}
 use Rattle.lane_context.proofs.bench.attend_all.Given as goal
 
 abbrev pub invariant-loop-one : goal.invariant-loop-one
@@ -9,4 +11,5 @@ invariant-loop-one g l = record {
       l.one-index;
   round : AreInRound g.T.Attendee.base g.T.Attendee.running g.N.LaneSession.names.script l.opener.stand l.all
       l.one-index;
+  rest : rests_of g.T.Attendee.rest l.all ≡ rests_of g.T.Attendee.rest l.initial.all;
 }

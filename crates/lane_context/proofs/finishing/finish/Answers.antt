@@ -13,7 +13,7 @@ use Rattle.lane_context.specs.Labels.{events_in}
 use Rattle.lane_context.specs.Logs.{AreLogs}
 use Rattle.lane_context.specs.Meeting.{lists_of}
 use Rattle.lane_context.specs.Pens.{PenView}
-use Rattle.lane_context.specs.Turning.{ReactorView, log_half}
+use Rattle.lane_context.specs.Turning.{log_half}
 use Rattle.lane_context.proofs.EndingLemmas.{baton_entry, baton_number, have_left, pens_clocks, pens_numbers, pens_own, reactor_entry}
 use Rattle.lane_context.proofs.FinishLemmas.{HaveLeft, are_logs, pen_count}
 use Rattle.lane_context.proofs.GivingBackLemmas.{given_back}
@@ -82,7 +82,7 @@ discard_left-drops-requires-clause-first g c =
     (subst (λ drops.
     IsDiscarding g.N.LaneSession.names g.H.CompletionHandler.marks
     (flat_map events_in (map (λ log. log.items) c.close_all-entries.result.entries.items)) 0
-    c.part_all-pens.result.hands.items drops) (sym c.requires.no_drops)
+    c.part_all-pens.result.hands.items drops) (sym c.requires.room.no_drops)
     (subst (λ (hands : List (Option (Held g.row.H.Denot))).
     IsDiscarding g.N.LaneSession.names g.H.CompletionHandler.marks
     (flat_map events_in (map (λ log. log.items) c.close_all-entries.result.entries.items)) 0 hands [])
@@ -130,10 +130,8 @@ returns-clause-logs g c =
     c.args.ending.workers.items (left_of g first) c.args.ending.opener
     (map (λ log. log.items) c.close_all-entries.result.entries.items) c.close_all-entries.result.known
     c.close_all-entries.result.last (shut_of g at) c.discard_left-drops.result.items
-    c.args.ending.reactor.lane.pen.log
     (ap (λ (clock : ClockId). clock.plan) (sym c.requires.clock) ∙ c.requires.plan)
     c.requires.cuts
-    (last_log g at ∙ ap (λ (r : ReactorView g.row.X.Denot). r.lane.pen.log) c.reactor.view_is)
     c.requires.over
     (c.discard_left-drops.ensures
     ∙ ap (λ logs. drops_of g.N.LaneSession.names (flat_map events_in (map (λ log. log.items) logs)))

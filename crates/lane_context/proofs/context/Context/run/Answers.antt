@@ -1,5 +1,5 @@
 use Rattle.lane_context.specs.LaneValues.{terms, tries}
-use Rattle.lane_context.proofs.RunLemmas.{ended_on, has_run}
+use Rattle.lane_context.proofs.RunLemmas.{ended_on, has_run, met_fault}
 use Rattle.lane_context.proofs.ScanLemmas.{on_and_on}
 use Rattle.lane_context.proofs.context.Context.run.Goals as goal
 
@@ -29,4 +29,15 @@ loop-preserved g c =
           on_and_on c.args.worker.now c.loop.worker c.run_round.new.worker c.loop.invariant.on c.in_default.ensures.on;
       turns = c.in_default.ensures.turns;
       free = c.in_default.ensures.free;
+    }
+
+pub ends-requires-in-Some-run_round : goal.ends-requires-in-Some-run_round
+ends-requires-in-Some-run_round g c =
+    let t =
+    tries (terms g.N.LaneSession.names g.H.CompletionHandler.marks g.X.Reactor.state g.X.Reactor.told g.X.Reactor.faults
+    g.N.LaneSession.faults g.N.LaneSession.clock) 16 in
+    record {
+      fault =
+          met_fault t c.args.self.now.lanes c.in-Some-run_round.end c.loop.worker c.run_round.new.worker
+          c.in-Some-run_round.ensures.ended;
     }

@@ -1,0 +1,14 @@
+use Rattle.std.proofs.Common.{subst, sym}
+use Rattle.lane_context.specs.Benches.{AreLanes}
+use Rattle.lane_context.specs.LaneOf.{seat_of}
+use Rattle.lane_context.specs.LaneValues.{terms}
+use Rattle.lane_context.proofs.MeetAllLemmas.{failure_on}
+use Rattle.lane_context.proofs.context.Context.try_on_bench.Goals as goal
+
+pub returns-then-hear_failure-clause-tried : goal.returns-then-hear_failure-clause-tried
+returns-then-hear_failure-clause-tried g c =
+    let t =
+    terms g.N.LaneSession.names g.H.CompletionHandler.marks g.X.Reactor.state g.X.Reactor.told g.X.Reactor.faults
+    g.N.LaneSession.faults g.N.LaneSession.clock in
+    failure_on t c.args.opener.now c.hear_failure.new.opener c.meet_all.new.opener
+    (c.hear_failure.ensures.failed c.if-hear_failure.true) c.meet_all.ensures.on

@@ -1,0 +1,29 @@
+use Rattle.std.proofs.Common.{◌≤◌, false, arith, ap, subst, sym, ◌∙◌}
+use Rattle.session_script.specs.Script.{ScriptModel}
+use Rattle.lane_clock.specs.Steps.{most_draws}
+use Rattle.lane_context.specs.declared.standing.RoundNow.{RoundNow}
+use Rattle.lane_context.specs.Openers.{round_of}
+use Rattle.lane_context.specs.Rooms.{IsNewPen, worker_room}
+use Rattle.lane_context.specs.SeatNumbers.{IsWorkerSeat}
+use Rattle.lane_context.specs.Stand.{first_stand}
+use Rattle.lane_context.specs.Workers.{IsWorker}
+use Rattle.lane_context.proofs.FirstLemmas.{worker_begins}
+use Rattle.lane_context.proofs.first_seats.first_worker.Goals as goal
+
+pub invariant_of-result : goal.invariant_of-result
+invariant_of-result g c =
+    let names = g.N.LaneSession.names in
+    let clock = g.N.LaneSession.clock in
+    let number = c.args.pen.seat.number in
+    subst (λ (round : RoundNow).
+    IsWorker names.script clock (record { pen = c.args.pen; round = round; drew = false; stopped = false }))
+    (sym
+    (c.requires.round
+    ∙ ap (λ (script : ScriptModel). round_of script (first_stand script)) c.requires.script))
+    (worker_begins clock number (worker_room names.script) c.args.pen
+    (subst (λ (script : ScriptModel). IsNewPen clock number (worker_room script) c.args.pen) c.requires.script
+    c.requires.pen)
+    names
+    (subst (λ (script : ScriptModel). IsWorkerSeat script number) c.requires.script c.requires.worker)
+    (omega arith)
+    (subst (λ (script : ScriptModel). worker_room script ≤ most_draws) c.requires.script c.rooms_fit.ensures.workers))

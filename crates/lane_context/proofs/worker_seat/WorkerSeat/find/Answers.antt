@@ -1,0 +1,16 @@
+use Rattle.lane_context.proofs.ReceiptLemmas.{found_none_yet, has_found, other_more}
+use Rattle.lane_context.proofs.worker_seat.WorkerSeat.find.Goals as goal
+
+pub loop-place-init : goal.loop-place-init
+loop-place-init g c = found_none_yet c.args.lane c.args.op c.args.self.now
+
+pub loop-place-preserved : goal.loop-place-preserved
+loop-place-preserved g c =
+    other_more c.args.lane c.loop-place.place c.args.op c.look-held.result c.args.self.now c.loop-place.self
+    c.look-held.new.self c.loop-place.invariant c.look-held.ensures c.in_default.ensures.other
+
+pub returns-in-Some : goal.returns-in-Some
+returns-in-Some g c =
+    has_found c.args.lane c.loop-place.place c.args.op c.look-held.result c.in-Some.receipt c.args.self.now
+    c.loop-place.self c.look-held.new.self c.loop-place.invariant c.look-held.ensures c.in-Some.ensures.note
+    c.in-Some.ensures.place c.in-Some.ensures.op
