@@ -1,15 +1,10 @@
 -- Between two parts of every lane nothing runs, no call is open, and the reactor rests.
-use Rattle.std.proofs.Common.{◌≡◌, ℕ, ◌<◌, Bool, true, false, List, [], None, Some, length, refl, sym, subst, ◌∙◌, arith}
+use Rattle.std.proofs.Common.{◌≡◌, ℕ, ◌<◌, Bool, true, false, List, [], None, Some, length, refl, sym, subst, arith}
 use Rattle.std.proofs.lemmas.List.Elements.{All-from_get_or}
 use Rattle.std.proofs.lemmas.Option.{slice_get_within}
-use Rattle.asio_types.specs.declared.code.Class.{Class}
-use Rattle.session_script.specs.Acts.{bodies_of}
 use Rattle.session_script.specs.Lanes.{lane_of}
-use Rattle.session_script.specs.Script.{Place, ScriptModel, is_op, is_operation, opening_of, parent_of}
-use Rattle.session_script.specs.WellFormed.{HasParent, IsWellFormed, has_branch}
-use Rattle.session_script.specs.declared.act.Act.{Act}
-use Rattle.session_script.specs.declared.act.Act.TheVariants as act
-use Rattle.session_script.proofs.PlacingLemmas.{act_fits, has_parent}
+use Rattle.session_script.specs.Script.{Place, ScriptModel, is_op, opening_of, parent_of}
+use Rattle.session_script.specs.WellFormed.{IsWellFormed}
 use Rattle.history_rules.specs.Calls.{is_open}
 use Rattle.history_rules.specs.Rounds.{NoCallIsOpen, NothingRuns, is_running, is_unspent}
 use Rattle.history_rules.specs.State.{ContextState, call_at, fresh, phase_at}
@@ -17,8 +12,6 @@ use Rattle.history_rules.specs.declared.phase.ActPhase.{ActPhase}
 use Rattle.history_rules.specs.declared.phase.ActPhase.TheVariants as phase
 use Rattle.lane_clock.specs.History.{ClockEvent}
 use Rattle.lane_map.specs.LaneNumbers.{home_lane}
-use Rattle.lane_map.proofs.NumberLemmas.{lane_count as lanes_counted, number_within}
-use Rattle.lane_map.proofs.PlaceLemmas.{lanes_are_known}
 use Rattle.lane_map.proofs.RankLemmas.{op_within}
 use Rattle.lane_context.specs.Labels.{Labelled}
 use Rattle.lane_context.specs.Logs.{LogsView}
@@ -28,39 +21,9 @@ use Rattle.history_merge.specs.Among.{IsPlaceOn, LaneIsIdle, is_underway}
 use Rattle.history_merge.proofs.AlikeLemmas.{is_not, never}
 use Rattle.history_merge.proofs.AmongLemmas.{IsGoing, going_ends}
 use Rattle.history_merge.proofs.LabellingLemmas.{AreLabels}
+use Rattle.history_merge.proofs.LaneOfLemmas.{caller_op, home_counted}
 use Rattle.history_merge.proofs.SoLemmas.{IsSo, state_so}
 use Rattle.history_merge.proofs.StageLemmas.{left_at}
-
--- an act that has branches is an operation
-branch_op : (it : Act) (class : Class) → has_branch (bodies_of it) class ≡ true → is_operation it ≡ true
-branch_op (act.Expires timer after) class is = absurd (cc)
-branch_op (act.ExpiresAt timer at) class is = absurd (cc)
-branch_op (act.Cancel timer) class is = absurd (cc)
-branch_op (act.CancelOne timer) class is = absurd (cc)
-branch_op (act.Emit slot types) class is = absurd (cc)
-branch_op (act.Close stream) class is = absurd (cc)
-branch_op (act.Release guard) class is = absurd (cc)
-branch_op act.Stop class is = absurd (cc)
-branch_op other class is = refl
-
-pub caller_op : (script : ScriptModel) (n : ℕ) (at : ℕ × Class) → IsWellFormed script → parent_of script n ≡ Some at →
-    is_op script at.0 ≡ true
-caller_op script n at well under =
-    let parent : HasParent script.acts n (Some at) = subst (HasParent script.acts n) under (has_parent script n well) in
-    let entry = parent.1 in
-    let is : is_op script at.0 ≡ is_operation entry.0.act = rw entry.1 refl in
-    is ∙ branch_op entry.0.act at.1 entry.2
-
--- each operation has its lane among the lanes
-pub home_counted : (script : ScriptModel) (n : ℕ) → IsWellFormed script → is_op script n ≡ true →
-    home_lane script n < lane_count script
-home_counted script n well op =
-    let within = op_within script n op in
-    let count = lanes_counted script in
-    let less =
-    number_within script n (lane_of script n) within
-    (lanes_are_known script (λ n. has_parent script n well) (λ n. act_fits script n well) n within) in
-    omega (arith, count, less)
 
 running_unspent : (of : ActPhase) → is_running of ≡ true → is_unspent of ≡ true
 running_unspent (phase.Running class progress) is = refl
@@ -81,7 +44,7 @@ module _ (names : SessionNames) (well : IsWellFormed names.script) (logs : LogsV
 
   pub lane_idle : (o : ℕ) → is_op names.script o ≡ true → LaneIsIdle names.script (lane_of names.script o) context
   lane_idle o op =
-      let within = home_counted script o well op in
+      let within = home_counted script well o (op_within script o op) in
       going_ends script well names.told (lane_of script o) context
       (subst (λ events. IsGoing script names.told (lane_of script o) events context.acts)
       (left (home_lane script o) within) (so.going o op within))
@@ -110,7 +73,7 @@ module _ (names : SessionNames) (well : IsWellFormed names.script) (logs : LogsV
         omega (arith, within, back)
     not_open n (Some at) under opens =
         never (is_open (call_at context n))
-        ((lane_idle at.0 (caller_op script n at well under)).back n
+        ((lane_idle at.0 (caller_op script well n at under)).back n
         (subst (IsPlaceOn script (lane_of script at.0)) (sym under) refl)) opens
 
     pub no_call_open : NoCallIsOpen context

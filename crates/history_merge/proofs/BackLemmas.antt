@@ -31,8 +31,8 @@ use Rattle.lane_context.specs.SeatNumbers.{lane_count, opener_seat}
 use Rattle.lane_context.specs.WorkerLog.{MayFollowStopped, WorkerPart, stopped, waiting}
 use Rattle.history_merge.proofs.AlikeLemmas.{never}
 use Rattle.history_merge.proofs.LabellingLemmas.{AreLabels}
-use Rattle.history_merge.proofs.PairedLemmas.{times, times-append}
 use Rattle.history_merge.proofs.PartLemmas.{Follow, all_made, labels_worker}
+use Rattle.history_merge.proofs.TimesLemmas.{times, times-append}
 
 -- the call of an act and its back
 abbrev is_call : ℕ → Posted → Bool

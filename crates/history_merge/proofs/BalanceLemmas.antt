@@ -1,5 +1,5 @@
 -- As many operations are pending as the reactor has to complete, each once: each event keeps it, unless the reactor fails.
-use Rattle.std.proofs.Common.{◌≡◌, ◌≢◌, ◌⊎◌, ℕ, ◌+◌, ◌<◌, Bool, true, false, cond, not, List, Some, None, inl, inr, length, refl, sym, ap, ◌∙◌, arith, get_or-set_same, get_or-set_other}
+use Rattle.std.proofs.Common.{◌≡◌, ◌≢◌, ◌⊎◌, ℕ, ◌+◌, ◌<◌, Bool, true, false, cond, not, List, Some, None, inl, inr, length, refl, sym, ap, subst, ◌∙◌, arith, get_or-set_same, get_or-set_other}
 use Rattle.std.specs.Prelude.{◌&&◌, ◌||◌, ◌==◌, slice_index_or, slice_set}
 use Rattle.std.specs.Option.{unwrap_or}
 use Rattle.std.proofs.Math.ListN.{length-set}
@@ -31,7 +31,7 @@ use Rattle.book_context.proofs.CountingLemmas.{counted, counted-range}
 use Rattle.book_context.proofs.RestLemmas.{is_within}
 use Rattle.book_context.proofs.SettledLemmas.{awaited}
 use Rattle.book_context.proofs.StateLemmas.{act_at-other, act_at-same}
-use Rattle.reactor_turns.specs.Ahead.{IsHalfOf, IsOpenRequest}
+use Rattle.reactor_turns.specs.Ahead.{IsHalfOf, IsOpenRequest, LeavesRoom, MayShow as MayTurn}
 use Rattle.reactor_turns.specs.Standing.{is_awaited, stands}
 use Rattle.reactor_turns.proofs.AheadLemmas.{event_leaves}
 use Rattle.reactor_turns.proofs.PendingLemmas.{pending-take}
@@ -41,7 +41,9 @@ use Rattle.reactor_turns.proofs.SummingLemmas.{one_if}
 use Rattle.reactor_turns.proofs.TakenLemmas.{done-taken, last-taken, take-taken, tick-taken}
 use Rattle.history_merge.proofs.AskLemmas.{IsNoDrop, request_there, told_taken}
 use Rattle.history_merge.proofs.EachActLemmas.{Each}
+use Rattle.history_merge.proofs.EachLabelLemmas.{is_of_turn}
 use Rattle.history_merge.proofs.FrameLemmas.{length-after}
+use Rattle.history_merge.proofs.HalfLemmas.{reactor_stays}
 use Rattle.history_merge.proofs.KindLemmas.{AreOfKind, kinds_kept}
 use Rattle.history_merge.proofs.NextCallLemmas.{uncalled_next}
 use Rattle.history_merge.proofs.OrderlyLemmas.{IsExpected, IsInOrder}
@@ -142,31 +144,40 @@ module _ (script : ScriptModel) (well : IsWellFormed script) (told : Bool) (s : 
   abbrev after : Event → State
   after shown = after_event script told s shown
 
+  -- what the reactor shows next it may show by its half alone
+  turn_may : (shown : Event) → is_of_turn shown ≡ true → MayHappen script told s shown → MayTurn script told s.reactor shown
+  turn_may (event.Take a) is may =
+      let parts = and_parts (is_request (phase_at s.context a)) (not (was_taken s.reactor a)) may.untaken in
+      open_request script s kinds a parts.0 (not_false (was_taken s.reactor a) parts.1)
+  turn_may (event.Done o given size) is may = may.next
+  turn_may (event.Tick now) is may = record {
+    pending = may.idle.pending;
+    told = may.idle.turn.told;
+    drained = may.idle.turn.drained;
+    next = may.next;
+  }
+  turn_may event.Last is may = record {
+    pending = may.idle.pending;
+    told = may.idle.turn.told;
+    drained = may.idle.turn.drained;
+    next = may.next;
+  }
+  turn_may event.Fault is may = may.once
+  turn_may other is may = absurd (cc)
+
+  -- and then one less is ahead
+  pub turn_leaves : (shown : Event) → is_of_turn shown ≡ true → MayHappen script told s shown →
+      LeavesRoom script s.reactor (reactor_after script told s.reactor shown)
+  turn_leaves shown is may = event_leaves script told s.reactor shown well half (turn_may shown is may)
+
   -- the reactor's half fits the script after each event
   pub half_kept : (shown : Event) → MayHappen script told s shown →
       IsHalfOf script (reactor_after script told s.reactor shown)
-  half_kept (event.Take a) may =
-      let parts = and_parts (is_request (phase_at s.context a)) (not (was_taken s.reactor a)) may.untaken in
-      (event_leaves script told s.reactor (event.Take a) well half
-      (open_request script s kinds a parts.0 (not_false (was_taken s.reactor a) parts.1))).is_half
-  half_kept (event.Done o given size) may =
-      (event_leaves script told s.reactor (event.Done o given size) well half may.next).is_half
-  half_kept (event.Tick now) may =
-      (event_leaves script told s.reactor (event.Tick now) well half (record {
-        pending = may.idle.pending;
-        told = may.idle.turn.told;
-        drained = may.idle.turn.drained;
-        next = may.next;
-      })).is_half
-  half_kept event.Last may =
-      (event_leaves script told s.reactor event.Last well half (record {
-        pending = may.idle.pending;
-        told = may.idle.turn.told;
-        drained = may.idle.turn.drained;
-        next = may.next;
-      })).is_half
-  half_kept event.Fault may = (event_leaves script told s.reactor event.Fault well half may.once).is_half
-  half_kept other may = half
+  half_kept shown may = by_turn (is_of_turn shown) refl
+    where
+      by_turn : (b : Bool) → is_of_turn shown ≡ b → IsHalfOf script (reactor_after script told s.reactor shown)
+      by_turn true is = (turn_leaves shown is may).is_half
+      by_turn false isnt = subst (IsHalfOf script) (sym (reactor_stays script told s.reactor shown isnt)) half
 
   abbrev test : ℕ → ActPhase → Bool
   test n of = is_requested of

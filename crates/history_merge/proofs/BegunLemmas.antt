@@ -1,5 +1,5 @@
 -- A handler that has begun was shown to begin.
-use Rattle.std.proofs.Common.{◌≡◌, ℕ, ◌+◌, ◌<◌, ◌≤◌, Bool, true, false, cond, List, [], ◌∷◌, ◌++◌, None, Some, inl, inr, length, refl, sym, ap, ◌∙◌, arith}
+use Rattle.std.proofs.Common.{◌≡◌, ℕ, ◌+◌, ◌<◌, ◌≤◌, Bool, true, false, cond, List, [], ◌∷◌, None, Some, inl, inr, length, refl, sym, ap, ◌∙◌, arith}
 use Rattle.std.specs.Option.{unwrap_or}
 use Rattle.std.proofs.lemmas.Bool.{cases_eq, eq-eqb, ne_eqb}
 use Rattle.asio_types.specs.Faults.{most_faults}
@@ -31,15 +31,11 @@ use Rattle.history_merge.proofs.FrameLemmas.{begun_act}
 use Rattle.history_merge.proofs.NextCallLemmas.{fresh_next}
 use Rattle.history_merge.proofs.OrderlyLemmas.{IsExpected, IsInOrder}
 use Rattle.history_merge.proofs.TestLemmas.{IsSame, back_same, base_same, begin_same, call_same, phase_same, stop_same}
+use Rattle.history_merge.proofs.TimesLemmas.{times}
 
 -- how often an operation begins
 abbrev pub begins_of : ℕ → List Event → ℕ
-begins_of act [] = 0
-begins_of act (shown ∷ events) = one_if (is_begin_of act shown) + begins_of act events
-
-pub begins_of-append : (act : ℕ) (xs ys : List Event) → begins_of act (xs ++ ys) ≡ begins_of act xs + begins_of act ys
-begins_of-append act [] ys = omega arith
-begins_of-append act (x ∷ xs) ys = let rest = begins_of-append act xs ys in omega (arith, rest)
+begins_of act events = times (is_begin_of act) events
 
 begun_step : (n : ℕ) (step : Step) (of : ActPhase) → has_begun (progressed step of) ≡ has_begun of
 begun_step n step (phase.Running class progress) = refl

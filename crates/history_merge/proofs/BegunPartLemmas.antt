@@ -8,22 +8,20 @@ use lib.ListN.{get_elem?}
 use Rattle.asio_types.specs.declared.event.Event.{Event}
 use Rattle.asio_types.specs.declared.event.Event.TheVariants as event
 use Rattle.session_script.specs.Script.{ScriptModel}
-use Rattle.history_rules.specs.State.{ReactorHalf}
 use Rattle.strand_core.specs.Execution.{events_of}
-use Rattle.strand_core.specs.declared.posted.Posted.{Posted}
 use Rattle.lane_clock.specs.declared.found.Change.{Change}
 use Rattle.lane_clock.specs.declared.found.Found.{Found}
 use Rattle.lane_clock.specs.declared.note.Note.{Note}
 use Rattle.lane_clock.specs.declared.step.ClockStep.{ClockStep}
 use Rattle.lane_clock.specs.declared.step.ClockStep.TheVariants.{Draw, Load, Place, Put, Look, Join}
-use Rattle.lane_map.specs.LaneNumbers.{asked_lane, cells_of, home_lane, reactor_lane}
-use Rattle.lane_context.specs.Labels.{AreDrawn, IsDrawn, Labelled, allots, begins, call_note, dispatches, ends, entries_in, events_in, none_drawn, one_drawn, posts, returns, shows, silent, stops_context}
+use Rattle.lane_map.specs.LaneNumbers.{cells_of, reactor_lane}
+use Rattle.lane_context.specs.Labels.{Labelled, allots, entries_in, events_in, shows, silent}
 use Rattle.lane_context.specs.LaneLog.{AreParts, IsIdleStep, MayFollow}
 use Rattle.lane_context.specs.Names.{SessionNames}
-use Rattle.lane_context.specs.Parts.{Part, TurnEnd, TurnPart, TurnStart, end_labels, executed, failed, fails, fault_label, idle, labels_in, labels_of, looks_empty, missing, next_place, passes, places_used, start_labels, takes, tells, turned}
-use Rattle.lane_context.specs.ReactorTurns.{AreTold, EndsTurn, done_labels, done_note, none_told, one_told}
+use Rattle.lane_context.specs.Parts.{Part, TurnPart, TurnStart, end_labels, executed, failed, fault_label, idle, labels_in, labels_of, looks_empty, missing, next_place, passes, places_used, start_labels, takes, turned}
 use Rattle.history_merge.proofs.DrawnLemmas.{drawn_shown}
-use Rattle.history_merge.proofs.PartLemmas.{Every, at_left, at_right, every-append, every_at}
+use Rattle.history_merge.proofs.EachLabelLemmas.{HoldsOf, calls_each, end_each, is_of_execution, is_of_turn}
+use Rattle.history_merge.proofs.PartLemmas.{Every, at_left, at_right, every_at}
 
 -- no load and no look
 abbrev pub IsBehindLoad : Labelled → Type 0
@@ -36,43 +34,12 @@ IsBehindLoad (silent (Join counts)) = Unit {0}
 IsBehindLoad (shows shown changes found) = Unit {0}
 IsBehindLoad (allots act lane place) = Unit {0}
 
-put_behind : (within : Bool) (lane place : ℕ) (note : Note) →
-    Every IsBehindLoad (cond within (silent (Put lane place note) ∷ []) [])
-put_behind true lane place note = (tt, tt)
-put_behind false lane place note = tt
-
-module _ (script : ScriptModel) where
-  call_behind : {made : Posted} {labels : List Labelled} → IsDrawn script made labels → Every IsBehindLoad labels
-  call_behind begins = (tt, tt)
-  call_behind (posts {act} {place} {found} isnt outside) =
-      (tt, (tt, put_behind (nat_lt place (slice_index (cells_of script) (asked_lane script act))) _ place (call_note act)))
-  call_behind (dispatches isnt within) = (tt, tt)
-  call_behind (stops_context is) = (tt, (tt, tt))
-  call_behind returns = (tt, tt)
-  call_behind ends = (tt, tt)
-
-  calls_behind : {calls : List Posted} {labels : List Labelled} → AreDrawn script calls labels → Every IsBehindLoad labels
-  calls_behind none_drawn = tt
-  calls_behind (one_drawn {calls} {call = one} {labels} {made} before now) =
-      every-append IsBehindLoad labels made (calls_behind before) (call_behind now)
-
-  told_behind : (told : Bool) (from : ReactorHalf) {labels : List Labelled} → AreTold script told from labels →
-      Every IsBehindLoad labels
-  told_behind told from none_told = tt
-  told_behind told from (one_told {labels} op with_code size place found before may) =
-      every-append IsBehindLoad labels (done_labels script op with_code size place found) (told_behind told from before) (
-        tt,
-        (
-          tt,
-          put_behind (nat_lt place (slice_index (cells_of script) (home_lane script op))) _ place
-              (done_note op with_code size),
-        ),
-      )
-
-  end_behind : (told : Bool) (from : ReactorHalf) (end : TurnEnd) → EndsTurn script told from end →
-      Every IsBehindLoad (end_labels end)
-  end_behind told from (tells labels) is = told_behind told from is.told_so
-  end_behind told from (fails found) is = (tt, tt)
+holds_behind : (test : Event → Bool) → HoldsOf test IsBehindLoad
+holds_behind test = record {
+  events = λ shown is changes found. tt;
+  places = λ act lane place. tt;
+  puts = λ lane place note. tt;
+}
 
 -- these three labels stand one behind another: a look that saw a note, a load and a draw
 pub record IsStart (labels : List Labelled) (i lane place : ℕ) (note : Note) (load : Found) (shown : Event)
@@ -184,7 +151,8 @@ module _ (names : SessionNames) (opener : List ClockStep) (lane : ℕ) where
       Begins script lane (next_place parts) (places_used part) (labels_in script lane part)
   part_begins parts (idle step) may = one_step step (idle_begins parts step may)
   part_begins parts (executed part) may =
-      looks_first part.place (Some part.note) part.load part.labels (calls_behind script may.drawn)
+      looks_first part.place (Some part.note) part.load part.labels
+      (calls_each IsBehindLoad script (holds_behind is_of_execution) may.drawn)
       (λ note shown changes found same at.
       let one : part.note ≡ note = cc in
       let first =
@@ -192,7 +160,8 @@ module _ (names : SessionNames) (opener : List ClockStep) (lane : ℕ) where
       (drawn_shown script may.drawn ∙ ap (events_of script) may.whole.is) in
       inl (first ∙ ap (λ (n : Note). event.Begin n.op n.code n.size) one))
   part_begins parts (turned part) may =
-      turn_begins parts (places_used (turned part)) part part.start (end_labels part.end) may.reactor may.next (end_behind script names.told _ part.end may.ends)
+      turn_begins parts (places_used (turned part)) part part.start (end_labels part.end) may.reactor may.next
+      (end_each IsBehindLoad script (holds_behind is_of_turn) names.told _ part.end may.ends)
   part_begins parts (failed part) may =
       empty_begins parts 0 part.place part.load (fault_label part.drawn ∷ []) may.next (tt, tt)
       (nat_lt part.place (slice_index (cells_of script) lane)) refl

@@ -1,5 +1,5 @@
 -- In what is legal and expected each act is called once.
-use Rattle.std.proofs.Common.{◌≡◌, ℕ, ◌+◌, ◌<◌, ◌≤◌, Bool, true, false, List, [], ◌∷◌, ◌++◌, None, Some, inl, inr, length, refl, sym, ap, subst, ◌∙◌, arith}
+use Rattle.std.proofs.Common.{◌≡◌, ℕ, ◌+◌, ◌<◌, ◌≤◌, Bool, true, false, List, [], ◌∷◌, None, Some, inl, inr, length, refl, sym, ap, subst, ◌∙◌, arith}
 use Rattle.std.specs.List.{slice_set}
 use Rattle.std.specs.Option.{unwrap_or}
 use Rattle.std.proofs.lemmas.Bool.{cases_eq, eq-eqb, ne_eqb}
@@ -34,6 +34,7 @@ use Rattle.history_merge.proofs.KindLemmas.{called_returned, called_stopping}
 use Rattle.history_merge.proofs.NextCallLemmas.{uncalled_next}
 use Rattle.history_merge.proofs.OrderlyLemmas.{IsActInOrder, IsExpected, IsInOrder}
 use Rattle.history_merge.proofs.SoloLemmas.{all_fresh}
+use Rattle.history_merge.proofs.TimesLemmas.{times}
 
 -- each event may happen where it comes, and is expected there
 abbrev pub AreExpected : ScriptModel → Bool → State → List Event → Type 0
@@ -44,12 +45,7 @@ AreExpected script told s (shown ∷ events) =
 
 -- how often an act is called
 abbrev pub calls_of : ℕ → List Event → ℕ
-calls_of act [] = 0
-calls_of act (shown ∷ events) = one_if (is_call_of act shown) + calls_of act events
-
-pub calls_of-append : (act : ℕ) (xs ys : List Event) → calls_of act (xs ++ ys) ≡ calls_of act xs + calls_of act ys
-calls_of-append act [] ys = omega arith
-calls_of-append act (x ∷ xs) ys = let rest = calls_of-append act xs ys in omega (arith, rest)
+calls_of act events = times (is_call_of act) events
 
 -- an act that was called stays so
 pub record StaysCalled (n : ℕ) (x y : ActState) : Type 0 where

@@ -32,10 +32,11 @@ use Rattle.history_merge.proofs.OpenerLemmas.{stand_at}
 use Rattle.history_merge.proofs.OpenerPartLemmas.{opener_at}
 use Rattle.history_merge.proofs.PartLemmas.{IsMadeAt}
 use Rattle.history_merge.proofs.RestingLemmas.{IsResting}
+use Rattle.history_merge.proofs.RoundEventLemmas.{IsNoRound}
 use Rattle.history_merge.proofs.SoLemmas.{IsSo, state_so}
 use Rattle.history_merge.proofs.StageLemmas.{left_at}
 use Rattle.history_merge.proofs.StillReactorLemmas.{reactor_rests}
-use Rattle.history_merge.proofs.StoodLemmas.{HasStand, IsNoRound, base_is, closed_behind, closed_part, closed_stood, has_stand, labels_of_part, open_shows, restart_first, restart_part, restart_shows, restart_stood, round_is_open}
+use Rattle.history_merge.proofs.StoodLemmas.{HasStand, base_is, closed_behind, closed_part, closed_stood, has_stand, labels_of_part, open_shows, restart_first, restart_part, restart_shows, restart_stood, round_is_open}
 use Rattle.history_merge.proofs.StopLemmas.{Halts, halts_of}
 use Rattle.history_merge.proofs.WordLemmas.{counts_of}
 

@@ -1,5 +1,5 @@
 -- Places in a state, which stops from outside aren't counted for, beside places in the list of events.
-use Rattle.std.proofs.Common.{◌≡◌, ℕ, zero, suc, ◌+◌, ◌<◌, ◌≤◌, Bool, true, false, List, [], ◌∷◌, ◌++◌, None, Some, inl, inr, length, take, sym, ap, ◌∙◌, arith}
+use Rattle.std.proofs.Common.{◌≡◌, ℕ, zero, suc, ◌+◌, ◌<◌, ◌≤◌, Bool, true, false, List, [], ◌∷◌, None, Some, inl, inr, length, take, sym, ap, ◌∙◌, arith}
 use Rattle.std.proofs.lemmas.Bool.{cases_lt}
 use mathlib.Core.Option.{some, some-injective, some-ne-none}
 use lib.ListN.{get_elem?}
@@ -12,6 +12,7 @@ use Rattle.history_rules.specs.State.{State}
 use Rattle.book_context.proofs.CountLemmas.{one_more-is}
 use Rattle.reactor_turns.proofs.SummingLemmas.{one_if}
 use Rattle.history_merge.proofs.FrameLemmas.{RoundPart, part-after, round_after, round_part}
+use Rattle.history_merge.proofs.TimesLemmas.{times}
 
 -- all events are counted but stops from outside
 abbrev pub is_counted : Event → Bool
@@ -20,12 +21,7 @@ is_counted (event.Stop (Some a)) = true
 is_counted _ = true
 
 abbrev pub counted_in : List Event → ℕ
-counted_in [] = 0
-counted_in (shown ∷ events) = one_if (is_counted shown) + counted_in events
-
-pub counted-append : (xs ys : List Event) → counted_in (xs ++ ys) ≡ counted_in xs + counted_in ys
-counted-append [] ys = omega arith
-counted-append (x ∷ xs) ys = let rest = counted-append xs ys in omega (arith, rest)
+counted_in events = times is_counted events
 
 least_one : (b : Bool) → one_if b ≤ 1
 least_one true = omega arith

@@ -1,10 +1,13 @@
 -- What holds of each act of a list beside that of another, where acts change.
-use Rattle.std.proofs.Common.{◌≡◌, ℕ, List, inl, inr, length, sym, subst, arith}
+use Rattle.std.proofs.Common.{◌≡◌, ℕ, List, Some, None, inl, inr, length, sym, subst, arith}
 use Rattle.std.specs.List.{slice_index_or, slice_set}
 use Rattle.std.proofs.lemmas.Bool.{cases_eq, cases_lt}
 use Rattle.std.proofs.lemmas.List.{get_or-set_same, get_or-set_other, set_past}
-use Rattle.history_rules.specs.State.{fresh}
+use Rattle.session_script.specs.Script.{Place}
+use Rattle.history_rules.specs.Calls.{progressed, with_progress}
+use Rattle.history_rules.specs.State.{ContextState, act_at, fresh, phase_at}
 use Rattle.history_rules.specs.declared.phase.ActState.{ActState}
+use Rattle.history_rules.specs.declared.phase.Step.{Step}
 
 -- the act at a number
 abbrev pub act_in : List ActState → ℕ → ActState
@@ -54,3 +57,12 @@ module _ (P : ℕ → ActState → ActState → Type 0) where
         subst (λ n. P n (act_in xs n) (act_in (slice_set ys a y) n)) (sym same) (right_here xs ys a y (each a) new)
     | inr other ↦ subst (P n (act_in xs n)) (sym (get_or-set_other ys a n y fresh other)) (each n)
   ]
+
+  -- and where a body comes further
+  pub progress_each : ((n : ℕ) (step : Step) (x y : ActState) → P n x y → P n x (record y { phase = progressed step y.phase })) →
+      (place : Place) (step : Step) (xs : List ActState) (t : ContextState) → Each xs t.acts →
+      Each xs (with_progress place step t).acts
+  progress_each keeps None step xs t each = each
+  progress_each keeps (Some at) step xs t each =
+      right_set xs t.acts at.0 (record (act_at t at.0) { phase = progressed step (phase_at t at.0) }) each
+      (keeps at.0 step (act_in xs at.0) (act_at t at.0) (each at.0))

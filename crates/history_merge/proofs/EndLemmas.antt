@@ -48,7 +48,7 @@ use Rattle.history_merge.proofs.ExactLemmas.{left_exact}
 use Rattle.history_merge.proofs.HalfLemmas.{half_is}
 use Rattle.history_merge.proofs.HistoryLemmas.{AreLabelled, shown_in}
 use Rattle.history_merge.proofs.LabellingLemmas.{AreLabels}
-use Rattle.history_merge.proofs.LeftLemmas.{home_counted}
+use Rattle.history_merge.proofs.LaneOfLemmas.{home_counted}
 use Rattle.history_merge.proofs.MarkedLemmas.{has_marks, none_outside}
 use Rattle.history_merge.proofs.MergedLemmas.{all_drawn, any_ordered, merged_is}
 use Rattle.history_merge.proofs.MissingLemmas.{none_missing}
@@ -163,7 +163,7 @@ module _ (names : SessionNames) (well : IsWellFormed names.script) (logs : LogsV
     abbrev all_shown : List Event
     all_shown = shown_in labels whole
 
-    labelled : AreLabelled labels whole
+    pub labelled : AreLabelled labels whole
     labelled = labelled_at names logs labels logged are whole (tail_refl whole)
 
     none_left : (lane : ℕ) (within : lane < lane_count script) → left_at names logs labels are whole lane within ≡ []
@@ -213,7 +213,7 @@ module _ (names : SessionNames) (well : IsWellFormed names.script) (logs : LogsV
         logged.over
 
     -- the handlers that are left are those that the logs say
-    room : length all_shown < most_faults
+    pub room : length all_shown < most_faults
     room =
         let size = all_drawn names logs labels logged are in
         let parts = logged.closed.parts in
@@ -224,7 +224,7 @@ module _ (names : SessionNames) (well : IsWellFormed names.script) (logs : LogsV
         ap (list_any test) (sym (merged_is names logs labels logged are events merging))
         ∙ sym (any_ordered test logs.entries logs.last.clock merging.drawn merging.ordered)
 
-    are_left : (n : ℕ) → is_unspent (phase_at s.context n) ≡ is_left names (all_events logs) n
+    pub are_left : (n : ℕ) → is_unspent (phase_at s.context n) ≡ is_left names (all_events logs) n
     are_left n = elim (cases_lt n (length script.acts)) [
       | inl within ↦
           left_exact script well names.told all_shown room so.expected

@@ -1,8 +1,7 @@
 -- What was called and what has begun is what the events show: so the handlers that are left are those that were called
 -- and didn't begin.
 use Rattle.std.proofs.Common.{◌≡◌, ◌≢◌, ◌⊎◌, ℕ, ◌+◌, ◌<◌, ◌≤◌, Bool, true, false, List, [], ◌∷◌, inl, inr, ⊎_elim, length, refl, sym, ap, ◌∙◌, arith}
-use Rattle.std.specs.Prelude.{◌&&◌, ◌||◌, nat_lt, not}
-use Rattle.std.specs.List.{list_any}
+use Rattle.std.specs.Prelude.{◌&&◌, nat_lt, not}
 use Rattle.std.proofs.lemmas.Bool.{eq-eqb, lt-ltb}
 use Rattle.asio_types.specs.Faults.{most_faults}
 use Rattle.asio_types.specs.declared.event.Event.{Event}
@@ -32,25 +31,7 @@ use Rattle.history_merge.proofs.EventOrderLemmas.{acts_later, in_order}
 use Rattle.history_merge.proofs.KindLemmas.{AreOfKind}
 use Rattle.history_merge.proofs.OrderlyLemmas.{IsCallOf, IsExpected, IsInOrder}
 use Rattle.history_merge.proofs.SoloLemmas.{all_fresh}
-
--- whether one passes is whether any is counted
-any_call : (act : ℕ) (events : List Event) → list_any (is_call_of act) events ≡ nat_lt 0 (calls_of act events)
-any_call act [] = refl
-any_call act (shown ∷ events) = first (is_call_of act shown) (any_call act events)
-  where
-    first : (b : Bool) → list_any (is_call_of act) events ≡ nat_lt 0 (calls_of act events) →
-        (b || list_any (is_call_of act) events) ≡ nat_lt 0 (one_if b + calls_of act events)
-    first true rest = sym (lt-ltb 0 (one_if true + calls_of act events) (omega arith))
-    first false rest = rest ∙ ap (nat_lt 0) (let same : calls_of act events ≡ one_if false + calls_of act events = omega arith in same)
-
-any_begin : (act : ℕ) (events : List Event) → list_any (is_begin_of act) events ≡ nat_lt 0 (begins_of act events)
-any_begin act [] = refl
-any_begin act (shown ∷ events) = first (is_begin_of act shown) (any_begin act events)
-  where
-    first : (b : Bool) → list_any (is_begin_of act) events ≡ nat_lt 0 (begins_of act events) →
-        (b || list_any (is_begin_of act) events) ≡ nat_lt 0 (one_if b + begins_of act events)
-    first true rest = sym (lt-ltb 0 (one_if true + begins_of act events) (omega arith))
-    first false rest = rest ∙ ap (nat_lt 0) (let same : begins_of act events ≡ one_if false + begins_of act events = omega arith in same)
+use Rattle.history_merge.proofs.TimesLemmas.{any_times}
 
 one_tells : (b : Bool) (n : ℕ) → one_if b ≡ n → b ≡ nat_lt 0 n
 one_tells true n is = sym (lt-ltb 0 n (omega (arith, is)))
@@ -151,7 +132,7 @@ module _ (script : ScriptModel) (well : IsWellFormed script) (told : Bool) (even
         called_once script well told n within (first_state script told) events (first_order script told) (omega (arith, room))
         are in
         one_tells (was_called (call_at last.context n)) (calls_of n events) (omega (arith, before, most, least))
-        ∙ sym (any_call n events)
+        ∙ sym (any_times (is_call_of n) events)
 
     begun_is : (n : ℕ) → has_begun (phase_at last.context n) ≡ shows_begin n events
     begun_is n =
@@ -160,7 +141,7 @@ module _ (script : ScriptModel) (well : IsWellFormed script) (told : Bool) (even
         let exact =
         begun_exact script well told n (first_state script told) events (first_order script told) (omega (arith, room)) are in
         one_tells (has_begun (phase_at last.context n)) (begins_of n events) (omega (arith, before, exact))
-        ∙ sym (any_begin n events)
+        ∙ sym (any_times (is_begin_of n) events)
 
     -- so these handlers are left
     pub left_exact : (n : ℕ) → n < length script.acts → IsInOrder script last.context → AreOfKind script last.context.acts →

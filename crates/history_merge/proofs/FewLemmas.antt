@@ -1,6 +1,6 @@
 -- A legal history has few stops: one failure, as many ends of rounds as rounds, one stop for each act that stops the
 -- context, and of each worker one stop from outside a round.
-use Rattle.std.proofs.Common.{◌≡◌, ℕ, ◌+◌, ◌<◌, ◌≤◌, Bool, true, false, List, [], ◌∷◌, ◌++◌, None, Some, length, refl, ap, arith}
+use Rattle.std.proofs.Common.{◌≡◌, ℕ, ◌+◌, ◌<◌, ◌≤◌, Bool, true, false, List, [], ◌∷◌, None, Some, length, refl, ap, arith}
 use Rattle.asio_types.specs.Faults.{one_more}
 use Rattle.asio_types.specs.declared.event.Event.{Event}
 use Rattle.asio_types.specs.declared.event.Event.TheVariants as event
@@ -17,16 +17,7 @@ use Rattle.history_merge.proofs.RestingLemmas.{take_works}
 use Rattle.history_merge.proofs.StopLemmas.{Halts, halts_from, halts_of, halts_with, no_halts}
 use Rattle.history_rules.specs.Time.{at_last, at_time}
 use Rattle.reactor_turns.proofs.ClockLemmas.{settled-clock, time-done}
-
--- how many events pass a test
-abbrev pub passing : (Event → Bool) → List Event → ℕ
-passing test [] = 0
-passing test (shown ∷ events) = one_if (test shown) + passing test events
-
-pub passing-append : (test : Event → Bool) (xs ys : List Event) →
-    passing test (xs ++ ys) ≡ passing test xs + passing test ys
-passing-append test [] ys = omega arith
-passing-append test (x ∷ xs) ys = let rest = passing-append test xs ys in omega (arith, rest)
+use Rattle.history_merge.proofs.TimesLemmas.{times}
 
 abbrev pub is_ended : Event → Bool
 is_ended event.Ended = true
@@ -53,7 +44,7 @@ halts_kind other halts = omega arith
 stops_from : (halts : Halts) (events : List Event) →
     (halts_from halts events).stops
     ≡ halts.stops
-    + (passing is_act_stop events + passing is_outside_stop events + passing is_fault events + passing is_ended events)
+    + (times is_act_stop events + times is_outside_stop events + times is_fault events + times is_ended events)
 stops_from halts [] = omega arith
 stops_from halts (shown ∷ events) =
     let rest = stops_from (halts_with shown halts) events in
@@ -62,7 +53,7 @@ stops_from halts (shown ∷ events) =
 
 pub stops_are : (events : List Event) →
     (halts_of events).stops
-    ≡ passing is_act_stop events + passing is_outside_stop events + passing is_fault events + passing is_ended events
+    ≡ times is_act_stop events + times is_outside_stop events + times is_fault events + times is_ended events
 stops_are events = let all = stops_from no_halts events in omega (arith, all)
 
 -- a round ends but as long as one is left
@@ -71,7 +62,7 @@ module _ (script : ScriptModel) (well : IsWellFormed script) (told : Bool) where
       (context_after script s shown).closings ≡ (round_after shown (round_part s)).closings
   closings_are s shown = ap (λ (part : RoundPart). part.closings) (part-after script s shown)
 
-  one_closed : (c : ℕ) → c < length script.rounds → one_more c ≡ c + 1
+  pub one_closed : (c : ℕ) → c < length script.rounds → one_more c ≡ c + 1
   one_closed c left =
       let few = rounds-below script.version in
       let most = well.round_count in
@@ -101,7 +92,7 @@ module _ (script : ScriptModel) (well : IsWellFormed script) (told : Bool) where
 
   pub few_ended : (s : State) (events : List Event) → IsLegalFrom script told s events →
       s.context.closings ≤ length script.rounds →
-      passing is_ended events + s.context.closings ≤ length script.rounds
+      times is_ended events + s.context.closings ≤ length script.rounds
   few_ended s [] legal most = omega (arith, most)
   few_ended s (shown ∷ events) legal most =
       let next = ended_next s shown legal.0 most in
@@ -141,7 +132,7 @@ module _ (script : ScriptModel) (well : IsWellFormed script) (told : Bool) where
   most_one false = omega arith
 
   pub few_faults : (s : State) (events : List Event) → IsLegalFrom script told s events →
-      passing is_fault events + one_if s.reactor.failed ≤ 1
+      times is_fault events + one_if s.reactor.failed ≤ 1
   few_faults s [] legal = let one = most_one s.reactor.failed in omega (arith, one)
   few_faults s (shown ∷ events) legal =
       let next = fault_next s shown legal.0 in

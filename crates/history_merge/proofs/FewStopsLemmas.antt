@@ -1,6 +1,6 @@
 -- The stops of a session are few: they fit the clock word.
-use Rattle.std.proofs.Common.{◌≡◌, ◌≢◌, ℕ, zero, suc, ◌+◌, ◌-◌, ◌*◌, ◌<◌, ◌≤◌, ◌^◌, Bool, true, false, cond, List, [], ◌∷◌, ◌++◌, Option, None, Some, inl, inr, length, map, take, refl, sym, ap, subst, arith}
-use Rattle.std.specs.Prelude.{◌&&◌, ◌==◌, nat_lt, not, slice_get, slice_index}
+use Rattle.std.proofs.Common.{◌≡◌, ◌≢◌, ℕ, zero, suc, ◌+◌, ◌*◌, ◌<◌, ◌≤◌, ◌^◌, Bool, true, false, cond, List, [], ◌∷◌, ◌++◌, Option, None, Some, inl, inr, length, map, refl, sym, ap, subst, arith}
+use Rattle.std.specs.Prelude.{◌&&◌, ◌==◌, not, slice_get}
 use Rattle.std.specs.List.{All}
 use Rattle.std.proofs.Math.Dec.{eqb}
 use Rattle.std.proofs.lemmas.Bool.{cases_eq, cases_lt, eq-eqb, ne_eqb}
@@ -23,19 +23,18 @@ use Rattle.history_rules.specs.FromOutside.{is_outside_stop}
 use Rattle.history_rules.specs.Kinds.{is_act}
 use Rattle.history_rules.specs.Legal.{IsLegalSoFar, MayHappen}
 use Rattle.history_rules.specs.State.{first_state}
-use Rattle.strand_core.specs.declared.posted.Posted.{Posted}
 use Rattle.lane_clock.specs.declared.found.Change.{Change}
 use Rattle.lane_clock.specs.declared.found.Found.{Found}
 use Rattle.lane_clock.specs.declared.step.ClockStep.{ClockStep}
 use Rattle.lane_clock.specs.History.{ClockEvent, IsSoundHistory, steps_under}
 use Rattle.lane_clock.proofs.MomentLemmas.{Tail, sound_tail}
-use Rattle.lane_map.specs.LaneNumbers.{asked_lane, cells_of, reactor_lane}
+use Rattle.lane_map.specs.LaneNumbers.{cells_of, reactor_lane}
 use Rattle.lane_map.proofs.NumberLemmas.{cell_count, lane_count as lanes_counted}
-use Rattle.lane_context.specs.Labels.{AreDrawn, IsDrawn, Labelled, allots, begins, call_note, dispatches, ends, none_drawn, one_drawn, posts, returns, shows, silent, stops_context}
+use Rattle.lane_context.specs.Labels.{Labelled, allots, shows, silent}
 use Rattle.lane_context.specs.LaneLog.{MayFollow}
 use Rattle.lane_context.specs.Logs.{AreLogs, LogsView, session_layout}
 use Rattle.lane_context.specs.Names.{SessionNames}
-use Rattle.lane_context.specs.OpenerLog.{ClosedPart, Closes, Looked, MayFollowOpened, OpenerPart, closed, look_label, opened, opener_labels, resting, restarted}
+use Rattle.lane_context.specs.OpenerLog.{ClosedPart, Closes, MayFollowOpened, OpenerPart, closed, look_label, opened, opener_labels, resting, restarted}
 use Rattle.lane_context.specs.Parts.{Part, executed, failed, idle, labels_in, missing, turned}
 use Rattle.lane_context.specs.SeatNumbers.{lane_count, most_workers, opener_seat}
 use Rattle.lane_context.specs.WorkerLog.{MayFollowStopped, WorkerPart, stand_known, stopped, stops_drawn, waiting}
@@ -45,18 +44,18 @@ use Rattle.reactor_turns.proofs.SummingLemmas.{one_if, summed, summed-both}
 use Rattle.history_merge.proofs.AlikeLemmas.{never}
 use Rattle.history_merge.proofs.BodyLaneLemmas.{IsOwn}
 use Rattle.history_merge.proofs.CalledLemmas.{AreExpected}
-use Rattle.history_merge.proofs.FewLemmas.{few_ended, few_faults, is_act_stop, passing, passing-append, stops_are}
+use Rattle.history_merge.proofs.EachLabelLemmas.{calls_each, is_of_execution, looks_each}
+use Rattle.history_merge.proofs.FewLemmas.{few_ended, few_faults, is_act_stop, stops_are}
 use Rattle.history_merge.proofs.HistoryLemmas.{AreLabelled, label_of, shown_by, shown_in}
 use Rattle.history_merge.proofs.LabellingLemmas.{AreLabels}
 use Rattle.history_merge.proofs.OpenedLemmas.{legal_at}
-use Rattle.history_merge.proofs.PairedLemmas.{times, times-append}
 use Rattle.history_merge.proofs.PartLemmas.{Every, Follow, all_made, every-append, every_at, every_made, every_so, labels_worker}
 use Rattle.history_merge.proofs.PlacedLemmas.{is_led_by, led_once, total, total_sums}
-use Rattle.history_merge.proofs.PolledQuietLemmas.{reactor_shows}
-use Rattle.history_merge.proofs.ShowsLemmas.{IsOfExecution, IsOfTurn, Shows, executed_shows, failed_shows, put_shows, shows_so, turned_shows}
+use Rattle.history_merge.proofs.ShowsLemmas.{IsOfExecution, IsOfTurn, Shows, executed_shows, failed_shows, holds_shown, reactor_shows, shows_so, turned_shows}
 use Rattle.history_merge.proofs.SinceLemmas.{legal_first}
 use Rattle.history_merge.proofs.SoFarLemmas.{made_so_far, state_at}
 use Rattle.history_merge.proofs.StopLemmas.{halts_of}
+use Rattle.history_merge.proofs.TimesLemmas.{no_times, take_times, times, times-append}
 
 -- the label shows an event that passes a test
 abbrev shows_that : (Event → Bool) → Labelled → Bool
@@ -65,15 +64,15 @@ shows_that test (shows shown changes found) = test shown
 shows_that test (allots act lane place) = false
 
 passing_total : (labels : ℕ → List Labelled) (test : Event → Bool) (es : List ClockEvent) →
-    passing test (shown_in labels es) ≡ total labels (λ n label. shows_that test label) es
+    times test (shown_in labels es) ≡ total labels (λ n label. shows_that test label) es
 passing_total labels test [] = refl
 passing_total labels test (e ∷ es) =
     let rest = passing_total labels test es in
-    let both = passing-append test (shown_in labels es) (shown_by (label_of labels es e)) in
+    let both = times-append test (shown_in labels es) (shown_by (label_of labels es e)) in
     let one = by_label (label_of labels es e) in
     omega (arith, rest, both, one)
   where
-    by_label : (label : Labelled) → passing test (shown_by label) ≡ one_if (shows_that test label)
+    by_label : (label : Labelled) → times test (shown_by label) ≡ one_if (shows_that test label)
     by_label (silent step) = refl
     by_label (shows shown changes found) = omega arith
     by_label (allots act lane place) = refl
@@ -92,18 +91,19 @@ summed_ones f (suc n) each =
     let rest = summed_ones f n (λ m less. each m (omega (arith, less))) in
     let here = each n (omega arith) in omega (arith, rest, here)
 
-summed_between : (f : ℕ → ℕ) (a n : ℕ) → ((m : ℕ) → m < a → f m ≡ 0) → ((m : ℕ) → m < n → f m ≤ 64) →
-    summed f n ≤ 64 * (n - a)
-summed_between f a zero none each = omega arith
-summed_between f a (suc n) none each =
-    let rest = summed_between f a n none (λ m less. each m (omega (arith, less))) in
-    elim (cases_lt n a) [
-      | inl before ↦ let here = none n before in omega (arith, rest, here)
-      | inr behind ↦ let here = each n (omega arith) in omega (arith, rest, here, behind)
-    ]
+-- where the first numbers give nothing, and so many behind them at most k each
+summed_behind : (f : ℕ → ℕ) (a k n b : ℕ) → n ≤ a + b → ((m : ℕ) → m < a → f m ≡ 0) → ((m : ℕ) → m < n → f m ≤ k) →
+    summed f n ≤ b * k
+summed_behind f a k zero b less none each = omega arith
+summed_behind f a k (suc n) zero less none each =
+    let rest = summed_behind f a k n 0 (omega (arith, less)) none (λ m below. each m (omega (arith, below))) in
+    let here = none n (omega (arith, less)) in omega (arith, rest, here)
+summed_behind f a k (suc n) (suc b) less none each =
+    let rest = summed_behind f a k n b (omega (arith, less)) none (λ m below. each m (omega (arith, below))) in
+    let here = each n (omega arith) in omega (arith, rest, here)
 
 -- an act that passes a test is there
-act_there : (test : Act → Bool) (script : ScriptModel) (a : ℕ) → is_act test script a ≡ true → a < length script.acts
+pub act_there : (test : Act → Bool) (script : ScriptModel) (a : ℕ) → is_act test script a ≡ true → a < length script.acts
 act_there test script a is = by_entry (slice_get script.acts a) refl
   where
     by_entry : (found : Option Entry) → slice_get script.acts a ≡ found → a < length script.acts
@@ -143,33 +143,17 @@ execution_inside : (script : ScriptModel) (op : ℕ) (given : Code) (size : ℕ)
 execution_inside script op given size shown (inl is) = ap is_outside_stop is
 execution_inside script op given size shown (inr own) = own_inside script (lane_of script op) shown own
 
+called_inside : (shown : Event) → is_of_execution shown ≡ true → IsInside shown
+called_inside (event.Stop (Some a)) is = refl
+called_inside (event.Stop None) is = absurd (cc)
+called_inside other is = refl
+
 turn_inside : (shown : Event) → IsOfTurn shown → IsInside shown
 turn_inside (event.Stop (Some a)) is = refl
 turn_inside (event.Stop None) is = absurd (cc)
 turn_inside other is = refl
 
 module _ (script : ScriptModel) where
-  call_inside : {made : Posted} {labels : List Labelled} → IsDrawn script made labels → Every (Shows IsInside) labels
-  call_inside begins = (refl, tt)
-  call_inside (posts {act} {place} {found} isnt outside) = (
-    refl,
-    (tt, put_shows IsInside (nat_lt place (slice_index (cells_of script) (asked_lane script act))) _ place (call_note act)),
-  )
-  call_inside (dispatches isnt within) = (refl, tt)
-  call_inside (stops_context is) = (refl, (refl, tt))
-  call_inside returns = (refl, tt)
-  call_inside ends = (refl, tt)
-
-  calls_inside : {calls : List Posted} {labels : List Labelled} → AreDrawn script calls labels →
-      Every (Shows IsInside) labels
-  calls_inside none_drawn = tt
-  calls_inside (one_drawn {calls} {call = one} {labels} {made} before now) =
-      every-append (Shows IsInside) labels made (calls_inside before) (call_inside now)
-
-  looks_inside : (looks : List Looked) → Every (Shows IsInside) (map look_label looks)
-  looks_inside [] = tt
-  looks_inside (look ∷ looks) = (tt, looks_inside looks)
-
   closes_inside : (lists : ℕ → List ClockStep) (earlier : List OpenerPart) (part : ClosedPart) (shown : Event) →
       Closes script lists earlier part shown → IsInside shown
   closes_inside lists earlier part event.Ended closes = refl
@@ -180,11 +164,12 @@ module _ (script : ScriptModel) where
   opener_inside : (lists : ℕ → List ClockStep) (earlier : List OpenerPart) (part : OpenerPart) →
       MayFollowOpened script lists earlier part → Every (Shows IsInside) (opener_labels part)
   opener_inside lists earlier (resting step) may = (tt, tt)
-  opener_inside lists earlier (opened calls labels) may = calls_inside may.drawn
+  opener_inside lists earlier (opened calls labels) may =
+      calls_each (Shows IsInside) script (holds_shown is_of_execution IsInside called_inside) may.drawn
   opener_inside lists earlier (restarted drawn) may = (refl, tt)
   opener_inside lists earlier (closed part) may = (
     tt,
-    every-append (Shows IsInside) (map look_label part.looks) _ (looks_inside part.looks)
+    every-append (Shows IsInside) (map look_label part.looks) _ (looks_each (Shows IsInside) (λ look. tt) part.looks)
         (closes_inside lists earlier part part.shown may.closes, tt),
   )
 
@@ -192,18 +177,6 @@ none_outside : (label : Labelled) → Shows IsInside label → shows_that is_out
 none_outside (silent step) is = refl
 none_outside (shows shown changes found) is = is
 none_outside (allots act lane place) is = refl
-
-pub take_times : (test : Labelled → Bool) (xs : List Labelled) (k : ℕ) → times test (take k xs) ≤ times test xs
-take_times test xs zero = omega arith
-take_times test [] (suc k) = omega arith
-take_times test (x ∷ xs) (suc k) = let rest = take_times test xs k in omega (arith, rest)
-
-no_times : (test : Labelled → Bool) (xs : List Labelled) →
-    ((i : ℕ) (x : Labelled) → get_elem? xs i ≡ some x → test x ≡ false) → times test xs ≡ 0
-no_times test [] each = refl
-no_times test (x ∷ xs) each =
-    let rest = no_times test xs (λ i y at. each (suc i) y at) in
-    let here = ap one_if (each 0 x refl) in omega (arith, rest, here)
 
 -- a worker stops the context once a round
 module _ (script : ScriptModel) (opener : List ClockStep) where
@@ -286,7 +259,7 @@ module _ (names : SessionNames) (well : IsWellFormed names.script) (logs : LogsV
       omega (arith, none, less)
 
   each_most : (es : List ClockEvent) (n : ℕ) → n < opener →
-      times (shows_that is_outside_stop) (made_so_far labels es n) ≤ 64
+      times (shows_that is_outside_stop) (made_so_far labels es n) ≤ length script.rounds
   each_most es n before = elim (cases_lt n (lane_count script)) [
     | inl lane ↦ let none = lane_none n lane es in omega (arith, none)
     | inr behind ↦
@@ -296,13 +269,12 @@ module _ (names : SessionNames) (well : IsWellFormed names.script) (logs : LogsV
         let same = ap (times (shows_that is_outside_stop)) made.are in
         let first = most.0 in
         let second = most.1 in
-        let rounds = rounds-below script.version in
-        let count = well.round_count in
-        omega (arith, less, same, first, second, rounds, count)
+        omega (arith, less, same, first, second)
   ]
 
-  outside_most : (es : List ClockEvent) → IsSoundHistory guards seats es → AreLabelled labels es →
-      passing is_outside_stop (shown_in labels es) ≤ 64 * 17
+  -- at most 17 workers stop the context from outside, once a round
+  pub outside_most : (es : List ClockEvent) → IsSoundHistory guards seats es → AreLabelled labels es →
+      times is_outside_stop (shown_in labels es) ≤ 17 * length script.rounds
   outside_most es sound all =
       let count = passing_total labels is_outside_stop es in
       let sums = total_sums labels guards seats (λ n label. shows_that is_outside_stop label) es sound all in
@@ -313,10 +285,11 @@ module _ (names : SessionNames) (well : IsWellFormed names.script) (logs : LogsV
       omega (arith, cells) in
       let last : summed f seats ≡ summed f opener + f opener = ap (summed f) numbers in
       let none = opener_none es in
-      let most =
-      summed_between f (lane_count script) opener (λ m less. lane_none m less es) (λ m less. each_most es m less) in
       let few = workers_most script script.rounds well.rounds in
-      omega (arith, count, sums, last, none, most, few)
+      let most =
+      summed_behind f (lane_count script) (length script.rounds) opener 17 (omega (arith, few))
+      (λ m less. lane_none m less es) (λ m less. each_most es m less) in
+      omega (arith, count, sums, last, none, most)
 
   reactor_counted : reactor_lane names.script < lane_count names.script
   reactor_counted = let count = lanes_counted names.script in omega (arith, count)

@@ -37,7 +37,8 @@ use Rattle.history_merge.proofs.AlikeLemmas.{is_not, never}
 use Rattle.history_merge.proofs.AskedLemmas.{IsAskedPlace, asked_label}
 use Rattle.history_merge.proofs.CountedLemmas.{counted_in, is_counted}
 use Rattle.history_merge.proofs.DatesLemmas.{IsShownAt, IsTurnBefore, StandsTold, is_over, is_past, is_start, is_told}
-use Rattle.history_merge.proofs.HalfLemmas.{is_of_turn, off_turn}
+use Rattle.history_merge.proofs.EachLabelLemmas.{is_of_turn}
+use Rattle.history_merge.proofs.HalfLemmas.{off_turn}
 use Rattle.history_merge.proofs.HistoryLemmas.{AreLabelled, shown_in}
 use Rattle.history_merge.proofs.LabellingLemmas.{AreLabels}
 use Rattle.history_merge.proofs.NoteLemmas.{IsCallNote, IsDoneNote, IsNoted, call_note_op}

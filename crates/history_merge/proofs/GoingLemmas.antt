@@ -1,33 +1,28 @@
 -- A part of a lane that draws lies where a round is open, and its load found the stops that the round's restart found.
-use Rattle.std.proofs.Common.{◌≡◌, ℕ, ◌+◌, ◌-◌, ◌<◌, ◌≤◌, Bool, true, false, cond, List, [], ◌∷◌, ◌++◌, None, length, take, refl, sym, ap, subst, ◌∙◌, arith, length-append}
-use Rattle.std.specs.Prelude.{nat_lt, slice_index}
+use Rattle.std.proofs.Common.{◌≡◌, ℕ, ◌+◌, ◌-◌, ◌<◌, ◌≤◌, Bool, List, [], ◌∷◌, ◌++◌, length, take, refl, sym, ap, subst, ◌∙◌, arith, length-append}
 use Rattle.std.proofs.Math.Seq.{take-append_seam}
 use Rattle.std.proofs.lemmas.List.{append_assoc, length-map}
 use mathlib.Core.Option.{some}
 use lib.ListN.{get_elem?}
-use Rattle.session_script.specs.Script.{ScriptModel}
-use Rattle.history_rules.specs.State.{ReactorHalf}
-use Rattle.strand_core.specs.declared.posted.Posted.{Posted}
+use Rattle.asio_types.specs.declared.event.Event.{Event}
 use Rattle.lane_clock.specs.declared.found.Found.{Found}
-use Rattle.lane_clock.specs.declared.note.Note.{Note}
 use Rattle.lane_clock.specs.declared.step.ClockStep.{ClockStep}
 use Rattle.lane_clock.specs.declared.step.ClockStep.TheVariants.{Draw, Load, Place, Put, Look, Join}
 use Rattle.lane_clock.specs.History.{ClockEvent, steps_under}
 use Rattle.lane_clock.specs.Rule.{StepAt, by_load}
 use Rattle.lane_clock.proofs.KnownLemmas.{at_within}
 use Rattle.lane_clock.proofs.MomentLemmas.{Tail, tail_more}
-use Rattle.lane_map.specs.LaneNumbers.{asked_lane, cells_of, home_lane}
 use Rattle.lane_context.specs.Knowing.{known_steps}
-use Rattle.lane_context.specs.Labels.{AreDrawn, IsDrawn, Labelled, begins, call_note, dispatches, ends, none_drawn, one_drawn, posts, returns, shows, silent, step_of, steps_in, stops_context}
+use Rattle.lane_context.specs.Labels.{Labelled, shows, silent, step_of, steps_in}
 use Rattle.lane_context.specs.LaneLog.{FoundGoing, MayFollow}
 use Rattle.lane_context.specs.Logs.{AreLogs, LogsView, session_layout}
 use Rattle.lane_context.specs.Names.{SessionNames}
-use Rattle.lane_context.specs.Parts.{ExecutedPart, FailedPart, Part, TurnEnd, TurnPart, TurnStart, end_labels, executed, failed, fails, fault_label, labels_in, labels_of, looks_empty, looks_full, passes, start_labels, takes, tells, turned}
-use Rattle.lane_context.specs.ReactorTurns.{AreTold, EndsTurn, done_labels, done_note, none_told, one_told}
+use Rattle.lane_context.specs.Parts.{ExecutedPart, FailedPart, Part, TurnPart, TurnStart, end_labels, executed, failed, fault_label, labels_in, labels_of, looks_empty, looks_full, passes, start_labels, takes, turned}
 use Rattle.lane_context.specs.SeatNumbers.{lane_count, opener_seat}
 use Rattle.lane_context.specs.Stand.{stand_of}
 use Rattle.lane_context.proofs.PenLemmas.{steps-append}
 use Rattle.history_merge.proofs.CutLemmas.{IsRoundOf, known_stand, open_base, open_opened}
+use Rattle.history_merge.proofs.EachLabelLemmas.{HoldsOf, calls_each, empty_each, end_each, is_of_execution, is_of_turn}
 use Rattle.history_merge.proofs.HistoryLemmas.{label_of}
 use Rattle.history_merge.proofs.LabellingLemmas.{AreLabels}
 use Rattle.history_merge.proofs.PartLemmas.{Every, IsMadeAt, all_made, at_left, at_right, at_seam, every-append, every_at, label_of_step, lane_made, made-append, made_up_to, step_of_label}
@@ -44,48 +39,12 @@ IsNoJoin (Join counts) = ⊥
 abbrev pub IsAlone : Labelled → Type 0
 IsAlone label = IsNoJoin (step_of label)
 
-put_alone : (within : Bool) (lane place : ℕ) (note : Note) → Every IsAlone (cond within (silent (Put lane place note) ∷ []) [])
-put_alone true lane place note = (tt, tt)
-put_alone false lane place note = tt
-
-look_alone : (within : Bool) (lane place : ℕ) → Every IsAlone (cond within (silent (Look lane place None) ∷ []) [])
-look_alone true lane place = (tt, tt)
-look_alone false lane place = tt
-
-module _ (script : ScriptModel) where
-  call_alone : {made : Posted} {labels : List Labelled} → IsDrawn script made labels → Every IsAlone labels
-  call_alone begins = (tt, tt)
-  call_alone (posts {act} {place} {found} isnt outside) =
-      (tt, (tt, put_alone (nat_lt place (slice_index (cells_of script) (asked_lane script act))) _ place (call_note act)))
-  call_alone (dispatches isnt within) = (tt, tt)
-  call_alone (stops_context is) = (tt, (tt, tt))
-  call_alone returns = (tt, tt)
-  call_alone ends = (tt, tt)
-
-  calls_alone : {calls : List Posted} {labels : List Labelled} → AreDrawn script calls labels → Every IsAlone labels
-  calls_alone none_drawn = tt
-  calls_alone (one_drawn {calls} {call = one} {labels} {made} before now) =
-      every-append IsAlone labels made (calls_alone before) (call_alone now)
-
-  told_alone : (told : Bool) (from : ReactorHalf) {labels : List Labelled} → AreTold script told from labels →
-      Every IsAlone labels
-  told_alone told from none_told = tt
-  told_alone told from (one_told {labels} op with_code size place found before may) =
-      every-append IsAlone labels (done_labels script op with_code size place found) (told_alone told from before) (
-        tt,
-        (
-          tt,
-          put_alone (nat_lt place (slice_index (cells_of script) (home_lane script op))) _ place
-              (done_note op with_code size),
-        ),
-      )
-
-  end_alone : (told : Bool) (from : ReactorHalf) (end : TurnEnd) → EndsTurn script told from end → Every IsAlone (end_labels end)
-  end_alone told from (tells labels) is = told_alone told from is.told_so
-  end_alone told from (fails found) is = (tt, tt)
-
-  looks_alone : (lane place : ℕ) → Every IsAlone (looks_empty script lane place)
-  looks_alone lane place = look_alone (nat_lt place (slice_index (cells_of script) lane)) lane place
+holds_alone : (test : Event → Bool) → HoldsOf test IsAlone
+holds_alone test = record {
+  events = λ shown is changes found. tt;
+  places = λ act lane place. tt;
+  puts = λ lane place note. tt;
+}
 
 -- A part behind earlier ones that loads and draws: nothing is taken in by it, and its load found no stop of the round
 pub record IsDrawing (names : SessionNames) (opener : List ClockStep) (lane : ℕ) (earlier : List Part)
@@ -107,7 +66,7 @@ module _ (names : SessionNames) (opener : List ClockStep) (lane : ℕ) (earlier 
     back = part.labels;
     is = refl;
     going = may.going;
-    alone = (tt, (tt, calls_alone names.script may.drawn));
+    alone = (tt, (tt, calls_each IsAlone names.script (holds_alone is_of_execution) may.drawn));
   }
 
   turned_by : (part : TurnPart) (start : TurnStart) (end : List Labelled) → FoundGoing names opener lane earlier part.load →
@@ -130,7 +89,7 @@ module _ (names : SessionNames) (opener : List ClockStep) (lane : ℕ) (earlier 
     alone =
         every-append IsAlone
         (looks_empty names.script lane part.place ++ silent (Load part.load) ∷ shows shown _ part.drawn ∷ []) end
-        (every-append IsAlone (looks_empty names.script lane part.place) _ (looks_alone names.script lane part.place)
+        (every-append IsAlone (looks_empty names.script lane part.place) _ (empty_each IsAlone names.script lane part.place tt)
         (tt, (tt, tt))) alone;
   }
 
@@ -138,7 +97,7 @@ module _ (names : SessionNames) (opener : List ClockStep) (lane : ℕ) (earlier 
       IsDrawing names opener lane earlier (labels_in names.script lane (turned part))
   turned_draws part may =
       turned_by part part.start (end_labels part.end) may.going
-      (end_alone names.script names.told _ part.end may.ends)
+      (end_each IsAlone names.script (holds_alone is_of_turn) names.told _ part.end may.ends)
 
   pub failed_draws : (part : FailedPart) → MayFollow names opener lane earlier (failed part) →
       IsDrawing names opener lane earlier (labels_in names.script lane (failed part))
@@ -149,7 +108,7 @@ module _ (names : SessionNames) (opener : List ClockStep) (lane : ℕ) (earlier 
     is = refl;
     going = may.going;
     alone =
-        every-append IsAlone (looks_empty names.script lane part.place) _ (looks_alone names.script lane part.place)
+        every-append IsAlone (looks_empty names.script lane part.place) _ (empty_each IsAlone names.script lane part.place tt)
         (tt, (tt, tt));
   }
 

@@ -1,6 +1,5 @@
 -- The reactor's half of the state is that of the reactor's own entries, since no other number shows an event of a turn.
-use Rattle.std.proofs.Common.{◌≡◌, ◌≢◌, ℕ, Bool, true, false, cond, List, [], ◌∷◌, ◌++◌, inl, inr, map, refl, sym, ap, subst, ◌∙◌}
-use Rattle.std.specs.Prelude.{nat_lt, slice_index}
+use Rattle.std.proofs.Common.{◌≡◌, ◌≢◌, ℕ, Bool, true, false, List, [], ◌∷◌, ◌++◌, inl, inr, map, refl, sym, ap, subst, ◌∙◌, None, Some}
 use Rattle.std.proofs.lemmas.Bool.{cases_eq}
 use lib.ListN.{get_elem?}
 use mathlib.Core.Option.{some}
@@ -9,34 +8,23 @@ use Rattle.asio_types.specs.declared.event.Event.TheVariants as event
 use Rattle.session_script.specs.Script.{ScriptModel}
 use Rattle.history_rules.specs.Legal.{reactor_after}
 use Rattle.history_rules.specs.State.{ReactorHalf, State, first_reactor}
-use Rattle.strand_core.specs.declared.posted.Posted.{Posted}
-use Rattle.lane_clock.specs.declared.note.Note.{Note}
-use Rattle.lane_clock.specs.declared.step.ClockStep.TheVariants.{Put}
 use Rattle.lane_clock.specs.History.{ClockEvent}
-use Rattle.lane_map.specs.LaneNumbers.{asked_lane, cells_of, reactor_lane}
+use Rattle.lane_map.specs.LaneNumbers.{reactor_lane}
 use Rattle.lane_context.specs.declared.log.LogEntry.{LogEntry}
 use Rattle.lane_context.specs.Half.{half_from, half_of}
-use Rattle.lane_context.specs.Labels.{AreDrawn, IsDrawn, Labelled, allots, begins, call_note, dispatches, ends, entries_in, none_drawn, one_drawn, posts, returns, shows, silent, stops_context}
+use Rattle.lane_context.specs.Labels.{Labelled, allots, entries_in, shows, silent}
 use Rattle.lane_context.specs.LaneLog.{MayFollow}
 use Rattle.lane_context.specs.Logs.{LogsView}
 use Rattle.lane_context.specs.Names.{SessionNames}
-use Rattle.lane_context.specs.OpenerLog.{ClosedPart, Closes, Looked, MayFollowOpened, OpenerPart, closed, look_label, opened, opener_labels, resting, restarted}
+use Rattle.lane_context.specs.OpenerLog.{ClosedPart, Closes, MayFollowOpened, OpenerPart, closed, look_label, opened, opener_labels, resting, restarted}
 use Rattle.lane_context.specs.Parts.{Part, executed, failed, idle, labels_in, missing, turned}
 use Rattle.lane_context.specs.SeatNumbers.{opener_seat}
 use Rattle.lane_context.specs.WorkerLog.{MayFollowStopped, WorkerPart, stopped, waiting}
+use Rattle.history_merge.proofs.EachLabelLemmas.{HoldsOf, calls_each, is_of_execution, is_of_turn, looks_each}
 use Rattle.history_merge.proofs.HistoryLemmas.{AreLabelled, label_of}
 use Rattle.history_merge.proofs.LabellingLemmas.{AreLabels, each_label}
 use Rattle.history_merge.proofs.PartLemmas.{Every, every-append, every_all, every_so, labels_worker}
 use Rattle.history_merge.proofs.SoFarLemmas.{entries_here, entries_so_far, made_other, state_at, state_next, state_with}
-
--- an event of a turn of the reactor
-abbrev pub is_of_turn : Event → Bool
-is_of_turn (event.Take a) = true
-is_of_turn (event.Done o code size) = true
-is_of_turn (event.Tick now) = true
-is_of_turn event.Last = true
-is_of_turn event.Fault = true
-is_of_turn _ = false
 
 -- any other leaves the reactor
 pub reactor_stays : (script : ScriptModel) (told : Bool) (r : ReactorHalf) (shown : Event) → is_of_turn shown ≡ false →
@@ -54,29 +42,23 @@ IsOffTurn (silent step) = Unit {0}
 IsOffTurn (shows shown changes found) = is_of_turn shown ≡ false
 IsOffTurn (allots act lane place) = Unit {0}
 
-put_off : (within : Bool) (lane place : ℕ) (note : Note) → Every IsOffTurn (cond within (silent (Put lane place note) ∷ []) [])
-put_off true lane place note = (tt, tt)
-put_off false lane place note = tt
+off_execution : (shown : Event) → is_of_execution shown ≡ true → is_of_turn shown ≡ false
+off_execution (event.Stop (Some a)) is = refl
+off_execution (event.Stop None) is = absurd (cc)
+off_execution (event.Call a) is = refl
+off_execution (event.Back a) is = refl
+off_execution (event.Begin o code size) is = refl
+off_execution (event.End o mark) is = refl
+off_execution other is = absurd (cc)
+
+holds_off : HoldsOf is_of_execution IsOffTurn
+holds_off = record {
+  events = λ shown is changes found. off_execution shown is;
+  places = λ act lane place. tt;
+  puts = λ lane place note. tt;
+}
 
 module _ (script : ScriptModel) where
-  call_off : {made : Posted} {labels : List Labelled} → IsDrawn script made labels → Every IsOffTurn labels
-  call_off begins = (refl, tt)
-  call_off (posts {act} {place} {found} isnt outside) =
-      (refl, (tt, put_off (nat_lt place (slice_index (cells_of script) (asked_lane script act))) _ place (call_note act)))
-  call_off (dispatches isnt within) = (refl, tt)
-  call_off (stops_context is) = (refl, (refl, tt))
-  call_off returns = (refl, tt)
-  call_off ends = (refl, tt)
-
-  calls_off : {calls : List Posted} {labels : List Labelled} → AreDrawn script calls labels → Every IsOffTurn labels
-  calls_off none_drawn = tt
-  calls_off (one_drawn {calls} {call = one} {labels} {made} before now) =
-      every-append IsOffTurn labels made (calls_off before) (call_off now)
-
-  looks_off : (looks : List Looked) → Every IsOffTurn (map look_label looks)
-  looks_off [] = tt
-  looks_off (look ∷ looks) = (tt, looks_off looks)
-
   pub half_from-append : (told : Bool) (half : ReactorHalf) (xs ys : List LogEntry) →
       half_from script told half (xs ++ ys) ≡ half_from script told (half_from script told half xs) ys
   half_from-append told half [] ys = refl
@@ -107,7 +89,11 @@ module _ (names : SessionNames) (logs : LogsView) (labels : ℕ → List Labelle
   lane_off lane earlier (idle step) may = ((λ away. tt), tt)
   lane_off lane earlier (executed part) may = (
     (λ away. tt),
-    ((λ away. tt), every_so IsOffTurn (Apart lane) (λ label off away. off) part.labels (calls_off script may.drawn)),
+    (
+      (λ away. tt),
+      every_so IsOffTurn (Apart lane) (λ label off away. off) part.labels
+          (calls_each IsOffTurn script holds_off may.drawn),
+    ),
   )
   lane_off lane earlier (turned part) may =
       every_all (Apart lane) (λ label away. absurd (away may.reactor)) (labels_in script lane (turned part))
@@ -130,11 +116,11 @@ module _ (names : SessionNames) (logs : LogsView) (labels : ℕ → List Labelle
   opener_off : (earlier : List OpenerPart) (part : OpenerPart) → MayFollowOpened script logs.lists earlier part →
       Every IsOffTurn (opener_labels part)
   opener_off earlier (resting step) may = (tt, tt)
-  opener_off earlier (opened calls labels) may = calls_off script may.drawn
+  opener_off earlier (opened calls labels) may = calls_each IsOffTurn script holds_off may.drawn
   opener_off earlier (restarted drawn) may = (refl, tt)
   opener_off earlier (closed part) may = (
     tt,
-    every-append IsOffTurn (map look_label part.looks) _ (looks_off script part.looks)
+    every-append IsOffTurn (map look_label part.looks) _ (looks_each IsOffTurn (λ look. tt) part.looks)
         (closes_off earlier part part.shown may.closes, tt),
   )
 

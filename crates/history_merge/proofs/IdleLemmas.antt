@@ -1,7 +1,7 @@
 -- Time moves at an idle moment: where its load found no work but what the reactor has to complete and the guards, nothing
 -- was ready, ran or waited, and until time moves only stops from outside come.
-use Rattle.std.proofs.Common.{◌≡◌, ℕ, zero, suc, ◌+◌, ◌<◌, ◌≤◌, Bool, true, false, cond, List, [], ◌∷◌, ◌++◌, None, inr, ⊎_elim, length, take, refl, sym, ap, subst, ◌∙◌, arith, length-append}
-use Rattle.std.specs.Prelude.{nat_lt, slice_get, slice_index}
+use Rattle.std.proofs.Common.{◌≡◌, ℕ, zero, suc, ◌+◌, ◌<◌, ◌≤◌, false, List, [], ◌∷◌, ◌++◌, inr, ⊎_elim, length, take, refl, sym, ap, subst, ◌∙◌, arith, length-append}
+use Rattle.std.specs.Prelude.{slice_get}
 use Rattle.std.proofs.lemmas.List.Elements.{All-from_get_or}
 use lib.ListN.{get_elem?}
 use Rattle.asio_types.specs.declared.event.Event.{Event}
@@ -14,12 +14,11 @@ use Rattle.history_rules.specs.State.{ReactorHalf, State, fresh}
 use Rattle.history_rules.specs.Stopping.{MayStart}
 use Rattle.history_rules.specs.Time.{IsIdle, pending_count}
 use Rattle.lane_clock.specs.declared.found.Found.{Found}
-use Rattle.lane_clock.specs.declared.step.ClockStep.TheVariants.{Load, Look}
+use Rattle.lane_clock.specs.declared.step.ClockStep.TheVariants.{Load}
 use Rattle.lane_clock.specs.History.{ClockEvent, steps_under, word_after}
 use Rattle.lane_clock.specs.ClockWord.{found_of}
 use Rattle.lane_clock.proofs.KnownLemmas.{event as made_event}
 use Rattle.lane_clock.proofs.MomentLemmas.{Tail, sound_tail, tail_more, tail_refl, tail_trans, under_length}
-use Rattle.lane_map.specs.LaneNumbers.{cells_of}
 use Rattle.lane_context.specs.Half.{half_from, held_guards}
 use Rattle.lane_context.specs.Labels.{Labelled, allots, entries_in, shows, silent}
 use Rattle.lane_context.specs.Logs.{AreLogs, LogsView, session_layout}
@@ -30,6 +29,7 @@ use Rattle.lane_context.specs.ReactorTurns.{MayPass}
 use Rattle.lane_context.specs.SeatNumbers.{lane_count, opener_seat}
 use Rattle.lane_context.specs.Stand.{Stand, is_round_open, is_running_round, stand_of}
 use Rattle.history_merge.proofs.BetweenLemmas.{IsOwnMoment, own_moment, stand_since}
+use Rattle.history_merge.proofs.EachLabelLemmas.{empty_each}
 use Rattle.history_merge.proofs.GoingLemmas.{round_known}
 use Rattle.history_merge.proofs.LabellingLemmas.{AreLabels}
 use Rattle.history_merge.proofs.LeftLemmas.{none_open}
@@ -49,10 +49,6 @@ abbrev pub IsSilent : Labelled → Type 0
 IsSilent (silent step) = Unit {0}
 IsSilent (shows shown changes found) = ⊥
 IsSilent (allots act lane place) = ⊥
-
-pub look_silent : (within : Bool) (at place : ℕ) → Every IsSilent (cond within (silent (Look at place None) ∷ []) [])
-look_silent true at place = (tt, tt)
-look_silent false at place = tt
 
 -- steps by themselves are no entries
 pub silent_none : (xs : List Labelled) → Every IsSilent xs → entries_in xs ≡ []
@@ -92,7 +88,7 @@ module _ (names : SessionNames) (well : IsWellFormed names.script) (logs : LogsV
   all_silent =
       subst (Every IsSilent) (sym is)
       (every-append IsSilent looks (silent (Load t.part.load) ∷ [])
-      (look_silent (nat_lt t.part.place (slice_index (cells_of script) e.by)) e.by t.part.place) (tt, tt))
+      (empty_each IsSilent script e.by t.part.place tt) (tt, tt))
 
   -- when it loaded
   loaded : IsOwnMoment names logs labels logged are e es tail within

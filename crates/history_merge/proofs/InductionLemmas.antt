@@ -1,5 +1,5 @@
 -- The theorem: what is kept holds before each step of the one history, whoever makes it, and so at its end.
-use Rattle.std.proofs.Common.{◌≡◌, ℕ, List, [], ◌∷◌, inl, inr, length, subst, sym, arith}
+use Rattle.std.proofs.Common.{◌≡◌, ℕ, ◌+◌, ◌≤◌, List, [], ◌∷◌, ◌++◌, inl, inr, length, refl, subst, sym, arith}
 use Rattle.std.proofs.lemmas.Bool.{cases_eq, cases_lt}
 use mathlib.Core.Option.{some, some-ne-none}
 use lib.ListN.{get_elem?}
@@ -13,11 +13,15 @@ use Rattle.lane_context.specs.Logs.{AreLogs, LogsView}
 use Rattle.lane_context.specs.Names.{SessionNames}
 use Rattle.lane_context.specs.SeatNumbers.{lane_count, opener_seat}
 use Rattle.history_merge.specs.Merging.{IsLegalMerging, IsMerging}
+use Rattle.history_merge.specs.Ordering.{ArePositioned}
+use Rattle.history_merge.specs.Room.{most_merged}
 use Rattle.history_merge.proofs.EndLemmas.{merged_legal}
+use Rattle.history_merge.proofs.FitsLemmas.{fits}
 use Rattle.history_merge.proofs.LabellingLemmas.{AreLabels, are_labels, labels_under}
 use Rattle.history_merge.proofs.LaneNextLemmas.{lane_next}
 use Rattle.history_merge.proofs.LaneOfLemmas.{lanes_size}
 use Rattle.history_merge.proofs.OpenerNextLemmas.{opener_next, worker_next}
+use Rattle.history_merge.proofs.OrderingLemmas.{there_in_order}
 use Rattle.history_merge.proofs.ReactorNextLemmas.{reactor_next}
 use Rattle.history_merge.proofs.SoFirstLemmas.{so_first}
 use Rattle.history_merge.proofs.SoLemmas.{IsSo}
@@ -63,10 +67,26 @@ module _ (names : SessionNames) (well : IsWellFormed names.script) (logs : LogsV
       (next e es tail (all_so es (tail_more es e logged.closed.history tail))))
   all_so (e ∷ es) tail a (inr there) = all_so es (tail_more es e logged.closed.history tail) a there
 
--- logs put together are one legal history
-pub merged_is_legal : (names : SessionNames) (logs : LogsView) (events : List Event) → IsWellFormed names.script →
-    AreLogs names logs → IsMerging logs events → IsLegalMerging names logs events
-merged_is_legal names logs events well logged merging =
-    merged_legal names well logs events logged merging (labels_under names logs logged) (are_labels names logs logged)
-    (all_so names well logs (labels_under names logs logged) logged (are_labels names logs logged) logged.closed.history
-    (tail_refl logged.closed.history) logged.closed.history (tail_refl logged.closed.history))
+-- at the end too
+pub so_at : (names : SessionNames) (well : IsWellFormed names.script) (logs : LogsView) (logged : AreLogs names logs)
+    (a : List ClockEvent) → Tail a logged.closed.history →
+    IsSo names logs (labels_under names logs logged) (are_labels names logs logged) a
+so_at names well logs logged a within =
+    all_so names well logs (labels_under names logs logged) logged (are_labels names logs logged) logged.closed.history
+    (tail_refl logged.closed.history) a within
+
+module _ (names : SessionNames) (logs : LogsView) (well : IsWellFormed names.script) (logged : AreLogs names logs) where
+  so_at_end : IsSo names logs (labels_under names logs logged) (are_labels names logs logged) logged.closed.history
+  so_at_end = so_at names well logs logged logged.closed.history (tail_refl logged.closed.history)
+
+  -- logs put together are one legal history
+  pub merged_is_legal : (events : List Event) → IsMerging logs events → IsLegalMerging names logs events
+  merged_is_legal events merging =
+      merged_legal names well logs events logged merging (labels_under names logs logged) (are_labels names logs logged) so_at_end
+
+  -- and have no more events than the script says
+  pub merged_fits : ArePositioned logs.entries logs.last.clock → logs.last.clock + length logs.drops ≤ most_merged names.script
+  merged_fits positioned =
+      let drawn = there_in_order logs.entries logs.last.clock positioned in
+      fits names well logs (drawn.0 ++ logs.drops) logged (record { drawn = drawn.0; is = refl; ordered = drawn.1 })
+      (labels_under names logs logged) (are_labels names logs logged) so_at_end

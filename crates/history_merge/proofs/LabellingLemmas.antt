@@ -1,77 +1,44 @@
 -- The labels of the steps under each number, by the parts of its log.
-use Rattle.std.proofs.Common.{◌≡◌, ◌≢◌, ◌⊎◌, ℕ, ◌+◌, ◌<◌, ◌≤◌, Bool, true, false, cond, List, [], ◌∷◌, inl, inr, length, map, refl, sym, ap, subst, ◌∙◌, arith}
-use Rattle.std.specs.Prelude.{None, nat_lt, slice_index}
+use Rattle.std.proofs.Common.{◌≡◌, ◌≢◌, ◌⊎◌, ℕ, ◌+◌, ◌<◌, ◌≤◌, Bool, List, [], ◌∷◌, inl, inr, length, map, refl, sym, ap, subst, ◌∙◌, arith}
 use Rattle.std.proofs.lemmas.Bool.{cases_eq, cases_lt}
 use Rattle.std.proofs.lemmas.List.{get_or_past}
 use Rattle.std.proofs.lemmas.List.FromFn.{length-map-range_with_len}
 use mathlib.Core.Option.{some, some-ne-none}
 use lib.ListN.{get_elem?}
+use Rattle.asio_types.specs.declared.event.Event.{Event}
 use Rattle.session_script.specs.Script.{ScriptModel}
-use Rattle.strand_core.specs.declared.posted.Posted.{Posted}
-use Rattle.lane_clock.specs.declared.note.Note.{Note}
 use Rattle.lane_clock.specs.declared.step.ClockStep.{ClockStep}
 use Rattle.lane_clock.specs.declared.step.ClockStep.TheVariants.{Draw, Load, Place, Put, Look, Join}
 use Rattle.lane_clock.specs.History.{ClockEvent, IsSoundHistory, steps_under}
 use Rattle.lane_clock.proofs.KnownLemmas.{under_other}
-use Rattle.lane_map.specs.LaneNumbers.{cells_of, cells_on, home_lane, lane_list}
-use Rattle.lane_context.specs.Labels.{AreDrawn, IsDrawn, Labelled, begins, call_note, dispatches, ends, entries_in, none_drawn, one_drawn, posts, put_within, returns, silent, steps_in, stops_context}
+use Rattle.lane_map.specs.LaneNumbers.{cells_of, cells_on, lane_list}
+use Rattle.lane_context.specs.Labels.{Labelled, entries_in, silent, steps_in}
 use Rattle.lane_context.specs.LaneLog.{AreParts, IsIdleStep, MayFollow}
 use Rattle.lane_context.specs.Logs.{AreLogs, LogsView, entries_of, missed_by}
 use Rattle.lane_context.specs.Names.{SessionNames}
-use Rattle.lane_context.specs.OpenerLog.{AreOpenerParts, IsRestingStep, Looked, MayFollowOpened, OpenerPart, closed, labels_of_opener, look_label, opened, opener_labels, resting, restarted}
-use Rattle.lane_context.specs.Parts.{Part, TurnEnd, TurnPart, TurnStart, end_labels, executed, failed, fails, first_missed, idle, labels_in, labels_of, looks_empty, missing, passes, start_labels, takes, tells, turned}
-use Rattle.lane_context.specs.ReactorTurns.{AreTold, EndsTurn, done_labels, done_note, none_told, one_told}
+use Rattle.lane_context.specs.OpenerLog.{AreOpenerParts, IsRestingStep, MayFollowOpened, OpenerPart, closed, labels_of_opener, look_label, opened, opener_labels, resting, restarted}
+use Rattle.lane_context.specs.Parts.{Part, TurnPart, TurnStart, end_labels, executed, failed, first_missed, idle, labels_in, labels_of, looks_empty, missing, passes, start_labels, takes, turned}
 use Rattle.lane_context.specs.SeatNumbers.{IsWorkerSeat, lane_count, opener_seat, worker_count}
 use Rattle.lane_context.specs.WorkerLog.{AreWorkerParts, MayFollowStopped, WorkerPart, labels_of_worker, stopped, waiting}
-use Rattle.history_rules.specs.State.{ReactorHalf}
+use Rattle.history_merge.proofs.EachLabelLemmas.{HoldsOf, calls_each, empty_each, end_each, is_of_execution, is_of_turn, looks_each}
 use Rattle.history_merge.proofs.HistoryLemmas.{IsPlain}
 use Rattle.history_merge.proofs.PartLemmas.{Every, Follow, all_made, every-append, every_at, every_made, labels_worker, lane_made, opener_made, worker_made}
 
 -- Steps by themselves neither draw nor get a place
-put_plain : (within : Bool) (lane place : ℕ) (note : Note) → Every IsPlain (cond within (silent (Put lane place note) ∷ []) [])
-put_plain true lane place note = ((refl, refl), tt)
-put_plain false lane place note = tt
-
-look_plain : (within : Bool) (lane place : ℕ) → Every IsPlain (cond within (silent (Look lane place None) ∷ []) [])
-look_plain true lane place = ((refl, refl), tt)
-look_plain false lane place = tt
+holds_plain : (test : Event → Bool) → HoldsOf test IsPlain
+holds_plain test = record {
+  events = λ shown is changes found. tt;
+  places = λ act lane place. tt;
+  puts = λ lane place note. (refl, refl);
+}
 
 module _ (script : ScriptModel) where
-  put_within_plain : (lane place : ℕ) (note : Note) → Every IsPlain (put_within script lane place note)
-  put_within_plain lane place note = put_plain (nat_lt place (slice_index (cells_of script) lane)) lane place note
-
-  looks_plain : (lane place : ℕ) → Every IsPlain (looks_empty script lane place)
-  looks_plain lane place = look_plain (nat_lt place (slice_index (cells_of script) lane)) lane place
-
-  call_plain : {made : Posted} {labels : List Labelled} → IsDrawn script made labels → Every IsPlain labels
-  call_plain begins = (tt, tt)
-  call_plain (posts {act} {place} {found} isnt outside) = (tt, (tt, put_within_plain _ place (call_note act)))
-  call_plain (dispatches isnt within) = (tt, tt)
-  call_plain (stops_context is) = (tt, (tt, tt))
-  call_plain returns = (tt, tt)
-  call_plain ends = (tt, tt)
-
-  calls_plain : {calls : List Posted} {labels : List Labelled} → AreDrawn script calls labels → Every IsPlain labels
-  calls_plain none_drawn = tt
-  calls_plain (one_drawn {calls} {call = one} {labels} {made} before now) =
-      every-append IsPlain labels made (calls_plain before) (call_plain now)
-
-  told_plain : (told : Bool) (from : ReactorHalf) {labels : List Labelled} → AreTold script told from labels → Every IsPlain labels
-  told_plain told from none_told = tt
-  told_plain told from (one_told {labels} op with_code size place found before may) =
-      every-append IsPlain labels (done_labels script op with_code size place found) (told_plain told from before)
-      (tt, (tt, put_within_plain (home_lane script op) place (done_note op with_code size)))
-
-  end_plain : (told : Bool) (from : ReactorHalf) (end : TurnEnd) → EndsTurn script told from end →
-      Every IsPlain (end_labels end)
-  end_plain told from (tells labels) is = told_plain told from is.told_so
-  end_plain told from (fails found) is = (tt, tt)
-
   start_plain : (lane place : ℕ) (part : TurnPart) (start : TurnStart) →
       Every IsPlain (start_labels script lane place part.load part.drawn start)
   start_plain lane place part (takes note changes) = ((refl, refl), ((refl, refl), (tt, tt)))
   start_plain lane place part (passes shown) =
-      every-append IsPlain (looks_empty script lane place) _ (looks_plain lane place) ((refl, refl), (tt, tt))
+      every-append IsPlain (looks_empty script lane place) _ (empty_each IsPlain script lane place (refl, refl))
+      ((refl, refl), (tt, tt))
 
   resting_plain : (step : ClockStep) → IsRestingStep step → Every IsPlain (silent step ∷ [])
   resting_plain (Draw changes found) rests = absurd rests
@@ -81,10 +48,6 @@ module _ (script : ScriptModel) where
   resting_plain (Look lane place held) rests = ((refl, refl), tt)
   resting_plain (Join counts) rests = ((refl, refl), tt)
 
-  looked_plain : (looks : List Looked) → Every IsPlain (map look_label looks)
-  looked_plain [] = tt
-  looked_plain (look ∷ looks) = ((refl, refl), looked_plain looks)
-
   worker_plain : (opener : List ClockStep) (parts : List WorkerPart) (part : WorkerPart) →
       MayFollowStopped script opener parts part → Every IsPlain (labels_worker part)
   worker_plain opener parts (waiting step) may = resting_plain step may
@@ -93,10 +56,12 @@ module _ (script : ScriptModel) where
   opener_plain : (lists : ℕ → List ClockStep) (parts : List OpenerPart) (part : OpenerPart) →
       MayFollowOpened script lists parts part → Every IsPlain (opener_labels part)
   opener_plain lists parts (resting step) may = resting_plain step may
-  opener_plain lists parts (opened calls labels) may = calls_plain may.drawn
+  opener_plain lists parts (opened calls labels) may = calls_each IsPlain script (holds_plain is_of_execution) may.drawn
   opener_plain lists parts (restarted drawn) may = (tt, tt)
-  opener_plain lists parts (closed part) may =
-      ((refl, refl), every-append IsPlain (map look_label part.looks) _ (looked_plain part.looks) (tt, tt))
+  opener_plain lists parts (closed part) may = (
+    (refl, refl),
+    every-append IsPlain (map look_label part.looks) _ (looks_each IsPlain (λ look. (refl, refl)) part.looks) (tt, tt),
+  )
 
 module _ (names : SessionNames) (opener : List ClockStep) (lane : ℕ) where
   idle_plain : (parts : List Part) (step : ClockStep) → IsIdleStep names opener lane parts step →
@@ -111,12 +76,14 @@ module _ (names : SessionNames) (opener : List ClockStep) (lane : ℕ) where
   part_plain : (parts : List Part) (part : Part) → MayFollow names opener lane parts part →
       Every IsPlain (labels_in names.script lane part)
   part_plain parts (idle step) may = idle_plain parts step may
-  part_plain parts (executed part) may = ((refl, refl), ((refl, refl), calls_plain names.script may.drawn))
+  part_plain parts (executed part) may =
+      ((refl, refl), ((refl, refl), calls_each IsPlain names.script (holds_plain is_of_execution) may.drawn))
   part_plain parts (turned part) may =
       every-append IsPlain (start_labels names.script lane part.place part.load part.drawn part.start) (end_labels part.end)
-      (start_plain names.script lane part.place part part.start) (end_plain names.script names.told _ part.end may.ends)
+      (start_plain names.script lane part.place part part.start)
+      (end_each IsPlain names.script (holds_plain is_of_turn) names.told _ part.end may.ends)
   part_plain parts (failed part) may =
-      every-append IsPlain (looks_empty names.script lane part.place) _ (looks_plain names.script lane part.place)
+      every-append IsPlain (looks_empty names.script lane part.place) _ (empty_each IsPlain names.script lane part.place (refl, refl))
       ((refl, refl), (tt, tt))
   part_plain parts (missing place note) may = ((refl, refl), tt)
 

@@ -15,7 +15,7 @@ use Rattle.session_script.specs.WellFormed.{HasParent, IsWellFormed, has_branch}
 use Rattle.session_script.proofs.PlacingLemmas.{act_fits, has_parent}
 use Rattle.lane_map.specs.LaneNumbers.{has_own_lane, home_lane, lane_list, lane_number, reactor_lane}
 use Rattle.lane_map.proofs.CountLemmas.{passing_less}
-use Rattle.lane_map.proofs.NumberLemmas.{lane_count, number_stands}
+use Rattle.lane_map.proofs.NumberLemmas.{lane_count, number_stands, number_within}
 use Rattle.lane_map.proofs.PlaceLemmas.{IsKnown, lane_at, lanes_are_known}
 use Rattle.lane_map.proofs.RankLemmas.{op_within}
 use Rattle.history_merge.specs.Among.{IsPlaceOn}
@@ -34,11 +34,14 @@ branch_op act.Stop class is = absurd (cc)
 branch_op it class is = refl
 
 module _ (script : ScriptModel) (well : IsWellFormed script) where
-  -- the handler that calls an act is that of an operation before it
+  -- the handler that calls an act is that of an operation
   parent_op : (n : ℕ) (place : ℕ × Class) → HasParent script.acts n (Some place) → is_op script place.0 ≡ true
   parent_op n place has =
       let is : is_op script place.0 ≡ is_operation has.1.0.act = rw has.1.1 refl in
       is ∙ branch_op has.1.0.act place.1 has.1.2
+
+  pub caller_op : (n : ℕ) (place : ℕ × Class) → parent_of script n ≡ Some place → is_op script place.0 ≡ true
+  caller_op n place under = parent_op n place (subst (HasParent script.acts n) under (has_parent script n well))
 
   outside_lane : (n : ℕ) → is_op script n ≡ true → is_inline script n ≡ false →
       (strand : Option ℕ) × (lane_of script n ≡ place_lane n strand)
@@ -109,6 +112,15 @@ module _ (script : ScriptModel) (well : IsWellFormed script) where
 
   pub lanes_size : length (lane_list script) ≡ reactor_lane script + 1
   lanes_size = lane_count script
+
+  -- and so that of every act is that of a lane
+  pub home_counted : (n : ℕ) → n < length script.acts → home_lane script n < length (lane_list script)
+  home_counted n within =
+      let count = lanes_size in
+      let known =
+      number_within script n (lane_of script n) within
+      (lanes_are_known script (λ m. has_parent script m well) (λ m given is. act_fits script m well given is) n within) in
+      omega (arith, count, known)
 
   -- and two operations whose lanes have one number are on one lane
   pub same_lane : (m n : ℕ) → is_op script m ≡ true → is_op script n ≡ true → home_lane script m ≡ home_lane script n →

@@ -4,19 +4,14 @@ use Rattle.std.proofs.Common.{◌≡◌, ◌⊎◌, ℕ, zero, suc, ◌+◌, ◌
 use Rattle.std.specs.Prelude.{IsSomeAnd, nat_lt}
 use Rattle.std.proofs.lemmas.List.{map-append}
 use Rattle.std.proofs.lemmas.Option.{slice_get_within}
-use Rattle.asio_types.specs.declared.code.Class.{Class}
 use Rattle.asio_types.specs.declared.code.Code.{Code}
 use Rattle.asio_types.specs.Code.{class_of_code}
 use Rattle.asio_types.specs.declared.event.Event.{Event}
 use Rattle.asio_types.specs.declared.event.Event.TheVariants as event
 use Rattle.asio_types.specs.declared.number.Lane.{Lane}
-use Rattle.session_script.specs.Acts.{bodies_of}
 use Rattle.session_script.specs.Lanes.{is_inline, lane_of}
-use Rattle.session_script.specs.Script.{Place, ScriptModel, is_op, is_operation, opening_of, parent_of}
-use Rattle.session_script.specs.WellFormed.{HasParent, IsWellFormed, has_branch}
-use Rattle.session_script.specs.declared.act.Act.{Act}
-use Rattle.session_script.specs.declared.act.Act.TheVariants as act
-use Rattle.session_script.proofs.PlacingLemmas.{act_fits, has_parent}
+use Rattle.session_script.specs.Script.{Place, ScriptModel, is_op, opening_of, parent_of}
+use Rattle.session_script.specs.WellFormed.{IsWellFormed}
 use Rattle.history_rules.specs.declared.phase.ActPhase.{ActPhase}
 use Rattle.history_rules.specs.declared.phase.ActPhase.TheVariants as phase
 use Rattle.history_rules.specs.declared.phase.ActState.{ActState}
@@ -35,8 +30,6 @@ use Rattle.lane_clock.specs.declared.found.Change.TheVariants as change
 use Rattle.lane_clock.specs.declared.found.Found.{Found}
 use Rattle.lane_clock.specs.declared.step.ClockStep.{ClockStep}
 use Rattle.lane_map.specs.LaneNumbers.{home_lane}
-use Rattle.lane_map.proofs.NumberLemmas.{lane_count as lanes_counted, number_within}
-use Rattle.lane_map.proofs.PlaceLemmas.{lanes_are_known}
 use Rattle.lane_map.proofs.RankLemmas.{op_within}
 use Rattle.lane_context.specs.Labels.{AreDrawn, IsDrawn, Labelled, begins, dispatches, ends, entries_in, events_in, none_drawn, one_drawn, posts, returns, shows, stops_context}
 use Rattle.lane_context.specs.LaneLog.{MayFollow}
@@ -52,6 +45,7 @@ use Rattle.history_merge.proofs.AmongLemmas.{IsGoing, going_ends, not_underway}
 use Rattle.history_merge.proofs.BodyLaneLemmas.{AreOwn}
 use Rattle.history_merge.proofs.EachActLemmas.{Each, act_in}
 use Rattle.history_merge.proofs.LabellingLemmas.{AreLabels}
+use Rattle.history_merge.proofs.LaneOfLemmas.{caller_op, home_counted}
 use Rattle.history_merge.proofs.PartLemmas.{Follow, all_made}
 use Rattle.history_merge.proofs.SoLemmas.{IsSo, state_so}
 use Rattle.history_merge.proofs.StageLemmas.{left_behind, left_of, parts_of}
@@ -263,37 +257,6 @@ module _ (script : ScriptModel) (told : Bool) (lane : Lane) where
   none_ends s (event.Stop None ∷ front) op mark aside own legal = own.0
   none_ends s (other ∷ front) op mark aside own legal = own.0
 
--- the handler whose body calls an act is one
-caller_is : (it : Act) (of : Class) → has_branch (bodies_of it) of ≡ true → is_operation it ≡ true
-caller_is (act.Post strand) of is = refl
-caller_is (act.Defer strand) of is = refl
-caller_is (act.Dispatch strand) of is = refl
-caller_is (act.Wait timer strand slot filter) of is = refl
-caller_is (act.ReadSome stream size strand slot filter) of is = refl
-caller_is (act.ReadAll stream size strand slot filter) of is = refl
-caller_is (act.Until stream delimiter max strand slot filter) of is = refl
-caller_is (act.WriteSome stream bytes strand slot filter) of is = refl
-caller_is (act.WriteAll stream bytes strand slot filter) of is = refl
-caller_is other of is = absurd (cc)
-
-caller_op : (script : ScriptModel) (well : IsWellFormed script) (n o : ℕ) (of : Class) →
-    parent_of script n ≡ Some (o, of) → is_op script o ≡ true
-caller_op script well n o of under =
-    let parent : HasParent script.acts n (Some (o, of)) = subst (HasParent script.acts n) under (has_parent script n well) in
-    let is : is_op script o ≡ is_operation parent.1.0.act =
-    let there = parent.1.1 in rw there refl in
-    is ∙ caller_is parent.1.0.act of parent.1.2
-
--- an act's home is one of the lanes
-pub home_counted : (script : ScriptModel) → IsWellFormed script → (n : ℕ) → n < length script.acts →
-    home_lane script n < lane_count script
-home_counted script well n within =
-    let count = lanes_counted script in
-    let known =
-    number_within script n (lane_of script n) within
-    (lanes_are_known script (λ m. has_parent script m well) (λ m given is. act_fits script m well given is) n within) in
-    omega (arith, count, known)
-
 module _ (names : SessionNames) (well : IsWellFormed names.script) (logs : LogsView) (labels : ℕ → List Labelled)
     (are : AreLabels names logs labels) (es : List ClockEvent) (so : IsSo names logs labels are es)
     (still : (n : ℕ) → is_running (phase_at (state_so names logs labels are es).context n) ≡ false)
@@ -338,7 +301,7 @@ module _ (names : SessionNames) (well : IsWellFormed names.script) (logs : LogsV
         let less = slice_get_within (opening_of script) s.context.opening.back n call.at in
         omega (arith, less, opened)
     by_place n (Some at) under open_now =
-        let idle = idle_lane at.0 (caller_op script well n at.0 at.1 under) in
+        let idle = idle_lane at.0 (caller_op script well n at under) in
         never (is_open (call_at s.context n))
         (idle.back n (subst (IsPlaceOn script (lane_of script at.0)) (sym under) refl)) open_now
 

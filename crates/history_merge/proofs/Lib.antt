@@ -17,6 +17,8 @@ pub mod GuardLemmas
 pub mod QuietLemmas
 pub mod DroppedLemmas
 pub mod PartLemmas
+pub mod TimesLemmas
+pub mod EachLabelLemmas
 pub mod HistoryLemmas
 pub mod CutLemmas
 pub mod LabellingLemmas
@@ -53,6 +55,7 @@ pub mod OpenerPartLemmas
 pub mod AtEventLemmas
 pub mod AtRestLemmas
 pub mod OpenedLemmas
+pub mod RoundEventLemmas
 pub mod StoodLemmas
 pub mod StillReactorLemmas
 pub mod LookingLemmas
@@ -74,6 +77,8 @@ pub mod EndLemmas
 pub mod OpensLemmas
 pub mod AskLemmas
 pub mod ReactorPlaceLemmas
+pub mod CellsEnoughLemmas
+pub mod CellRoomLemmas
 pub mod BeyondLemmas
 pub mod BalanceLemmas
 pub mod SoundStateLemmas
@@ -96,6 +101,7 @@ pub mod PolledLemmas
 pub mod BegunPartLemmas
 pub mod TakenShownLemmas
 pub mod RequestLemmas
+pub mod AcceptedLemmas
 pub mod PolledQuietLemmas
 pub mod FewLemmas
 pub mod FewStopsLemmas
@@ -103,7 +109,6 @@ pub mod SoNextLemmas
 pub mod SoFirstLemmas
 pub mod FirstLemmas
 pub mod OpenerNextLemmas
-pub mod CellRoomLemmas
 pub mod BeginAllowedLemmas
 pub mod BeginPartLemmas
 pub mod FirstOfLaneLemmas
@@ -115,4 +120,9 @@ pub mod ReactorNextLemmas
 pub mod TurnTakeLemmas
 pub mod UnbegunLemmas
 pub mod LaneNextLemmas
+pub mod ActsLeftLemmas
+pub mod RoomLemmas
+pub mod FitsLemmas
 pub mod InductionLemmas
+pub mod ReceiptLemmas
+pub mod AbsentLemmas

@@ -1,6 +1,6 @@
 -- What no log shows: a mark that isn't named, and, but for the workers' logs, a stop from outside.
-use Rattle.std.proofs.Common.{◌≡◌, ℕ, zero, suc, Bool, true, false, cond, List, [], ◌∷◌, None, length, map, refl, sym, ap, subst, ◌∙◌, arith}
-use Rattle.std.specs.Prelude.{◌||◌, nat_lt, slice_index}
+use Rattle.std.proofs.Common.{◌≡◌, ℕ, zero, suc, Bool, true, false, List, [], ◌∷◌, None, length, map, refl, sym, ap, subst, ◌∙◌, arith, Some}
+use Rattle.std.specs.Prelude.{◌||◌}
 use Rattle.std.specs.List.{list_any}
 use Rattle.std.proofs.lemmas.List.Folds.{list_any-append}
 use mathlib.Core.Option.{some, some-injective, some-ne-none}
@@ -20,47 +20,24 @@ use Rattle.strand_core.specs.declared.posted.Posted.{Posted}
 use Rattle.book_context.proofs.ShownLemmas.{marked_execution, marks-append, unmarked_opening}
 use Rattle.lane_clock.specs.declared.found.Change.{Change}
 use Rattle.lane_clock.specs.declared.found.Found.{Found}
-use Rattle.lane_clock.specs.declared.note.Note.{Note}
 use Rattle.lane_clock.specs.declared.step.ClockStep.{ClockStep}
-use Rattle.lane_clock.specs.declared.step.ClockStep.TheVariants.{Look, Put}
 use Rattle.lane_clock.specs.History.{ClockEvent, steps_under}
-use Rattle.lane_map.specs.LaneNumbers.{asked_lane, cells_of, home_lane}
-use Rattle.lane_context.specs.Labels.{AreDrawn, IsDrawn, Labelled, allots, begins, call_note, dispatches, ends, entries_in, events_in, none_drawn, one_drawn, posts, returns, shows, silent, stops_context}
+use Rattle.lane_context.specs.Labels.{AreDrawn, Labelled, allots, entries_in, events_in, shows, silent}
 use Rattle.lane_context.specs.LaneLog.{MayFollow}
 use Rattle.lane_context.specs.Logs.{LogsView}
 use Rattle.lane_context.specs.Names.{SessionNames}
-use Rattle.lane_context.specs.OpenerLog.{ClosedPart, Closes, Looked, MayFollowOpened, OpenerPart, closed, look_label, opened, opener_labels, resting, restarted}
-use Rattle.lane_context.specs.Parts.{Part, TurnEnd, TurnStart, end_labels, executed, failed, fails, idle, labels_in, looks_empty, missing, passes, start_labels, takes, tells, turned}
-use Rattle.lane_context.specs.ReactorTurns.{AreTold, EndsTurn, MayStartTurn, done_labels, done_note, none_told, one_told, point_event}
+use Rattle.lane_context.specs.OpenerLog.{ClosedPart, Closes, MayFollowOpened, OpenerPart, closed, look_label, opened, opener_labels, resting, restarted}
+use Rattle.lane_context.specs.Parts.{Part, TurnStart, end_labels, executed, failed, idle, labels_in, looks_empty, missing, passes, start_labels, takes, turned}
+use Rattle.lane_context.specs.ReactorTurns.{MayStartTurn, point_event}
 use Rattle.lane_context.specs.SeatNumbers.{IsWorkerSeat, opener_seat}
 use Rattle.lane_context.specs.WorkerLog.{WorkerPart, stopped, waiting}
 use Rattle.history_merge.specs.Merging.{NoWorkerStops}
 use Rattle.history_merge.proofs.DrawnLemmas.{drawn_shown}
+use Rattle.history_merge.proofs.EachLabelLemmas.{calls_each, empty_each, end_each, is_of_execution, is_of_turn, looks_each}
 use Rattle.history_merge.proofs.HistoryLemmas.{AreLabelled, label_of, shown_by, shown_in}
 use Rattle.history_merge.proofs.LabellingLemmas.{AreLabels, each_seated}
 use Rattle.history_merge.proofs.PartLemmas.{Every, every-append, every_so, labels_worker}
-use Rattle.history_merge.proofs.ShowsLemmas.{Shows, shows_so}
-
-module _ (Q : Event → Type 0) where
-  put_shows : (within : Bool) (lane place : ℕ) (note : Note) →
-      Every (Shows Q) (cond within (silent (Put lane place note) ∷ []) [])
-  put_shows true lane place note = (tt, tt)
-  put_shows false lane place note = tt
-
-  look_shows : (within : Bool) (lane place : ℕ) → Every (Shows Q) (cond within (silent (Look lane place None) ∷ []) [])
-  look_shows true lane place = (tt, tt)
-  look_shows false lane place = tt
-
-  looks_show : (looks : List Looked) → Every (Shows Q) (map look_label looks)
-  looks_show [] = tt
-  looks_show (look ∷ looks) = (tt, looks_show looks)
-
-  -- what holds of each event holds of each label
-  all_shown : (labels : List Labelled) → Every Q (events_in (entries_in labels)) → Every (Shows Q) labels
-  all_shown [] all = tt
-  all_shown (silent step ∷ labels) all = (tt, all_shown labels all)
-  all_shown (shows shown changes found ∷ labels) all = (all.0, all_shown labels all.1)
-  all_shown (allots act lane place ∷ labels) all = (tt, all_shown labels all)
+use Rattle.history_merge.proofs.ShowsLemmas.{Shows, holds_shown, shown_every, shows_so}
 
 -- the event shows a mark only if that is named, and is no stop from outside
 pub record IsFair (run drop : ℕ → ℕ) (shown : Event) : Type 0 where
@@ -80,27 +57,20 @@ every_both P Q R both (x ∷ xs) first second = (both x first.0 second.0, every_
 record IsInner (shown : Event) : Type 0 where
   inner : is_outside_stop shown ≡ false
 
+called_inner : (shown : Event) → is_of_execution shown ≡ true → IsInner shown
+called_inner (event.Stop (Some a)) is = record { inner = refl }
+called_inner (event.Stop None) is = absurd (cc)
+called_inner other is = record { inner = refl }
+
+turn_fair : (run drop : ℕ → ℕ) (shown : Event) → is_of_turn shown ≡ true → IsFair run drop shown
+turn_fair run drop (event.Take a) is = record { marked = tt; inner = refl }
+turn_fair run drop (event.Done o code size) is = record { marked = tt; inner = refl }
+turn_fair run drop (event.Tick now) is = record { marked = tt; inner = refl }
+turn_fair run drop event.Last is = record { marked = tt; inner = refl }
+turn_fair run drop event.Fault is = record { marked = tt; inner = refl }
+turn_fair run drop other is = absurd (cc)
+
 module _ (script : ScriptModel) where
-  call_inner : {made : Posted} {labels : List Labelled} → IsDrawn script made labels → Every (Shows IsInner) labels
-  call_inner begins = (record { inner = refl }, tt)
-  call_inner (posts {act} {place} {found} isnt outside) = (
-    record { inner = refl },
-    (
-      tt,
-      put_shows IsInner (nat_lt place (slice_index (cells_of script) (asked_lane script act))) _ place (call_note act),
-    ),
-  )
-  call_inner (dispatches isnt within) = (record { inner = refl }, tt)
-  call_inner (stops_context is) =
-      (record { inner = refl }, (record { inner = refl }, tt))
-  call_inner returns = (record { inner = refl }, tt)
-  call_inner ends = (record { inner = refl }, tt)
-
-  calls_inner : {calls : List Posted} {labels : List Labelled} → AreDrawn script calls labels → Every (Shows IsInner) labels
-  calls_inner none_drawn = tt
-  calls_inner (one_drawn {calls} {call = one} {labels} {made} before now) =
-      every-append (Shows IsInner) labels made (calls_inner before) (call_inner now)
-
   module _ (run drop : ℕ → ℕ) where
     fair_label : (label : Labelled) → Shows (ShowsMark run drop) label → Shows IsInner label → Shows (IsFair run drop) label
     fair_label (silent step) marked inner = tt
@@ -112,9 +82,10 @@ module _ (script : ScriptModel) where
         HasMarks run drop (events_of script calls) → Every (Shows (IsFair run drop)) labels
     calls_fair {calls} {labels} drawn marks =
         every_both (Shows (ShowsMark run drop)) (Shows IsInner) (Shows (IsFair run drop)) fair_label labels
-        (all_shown (ShowsMark run drop) labels
+        (shown_every (ShowsMark run drop) labels
         (marks_each run drop (events_in (entries_in labels))
-        (subst (HasMarks run drop) (sym (drawn_shown script drawn)) marks))) (calls_inner drawn)
+        (subst (HasMarks run drop) (sym (drawn_shown script drawn)) marks)))
+        (calls_each (Shows IsInner) script (holds_shown is_of_execution IsInner called_inner) drawn)
 
     point_fair : (to : Point) → IsFair run drop (point_event to)
     point_fair (point.Time now) = record { marked = tt; inner = refl }
@@ -127,27 +98,8 @@ module _ (script : ScriptModel) where
         (tt, (tt, (record { marked = tt; inner = refl }, tt)))
     start_fair lane place half running load drawn (passes shown) may =
         every-append (Shows (IsFair run drop)) (looks_empty script lane place) _
-        (look_shows (IsFair run drop) (nat_lt place (slice_index (cells_of script) lane)) lane place)
+        (empty_each (Shows (IsFair run drop)) script lane place tt)
         (tt, (subst (IsFair run drop) (sym may.next) (point_fair (next_time script half)), tt))
-
-    told_fair : (told : Bool) (from : ReactorHalf) {labels : List Labelled} → AreTold script told from labels →
-        Every (Shows (IsFair run drop)) labels
-    told_fair told from none_told = tt
-    told_fair told from (one_told {labels} op with_code size place found before may) =
-        every-append (Shows (IsFair run drop)) labels (done_labels script op with_code size place found)
-        (told_fair told from before) (
-          tt,
-          (
-            record { marked = tt; inner = refl },
-            put_shows (IsFair run drop) (nat_lt place (slice_index (cells_of script) (home_lane script op))) _ place
-                (done_note op with_code size),
-          ),
-        )
-
-    end_fair : (told : Bool) (from : ReactorHalf) (end : TurnEnd) → EndsTurn script told from end →
-        Every (Shows (IsFair run drop)) (end_labels end)
-    end_fair told from (tells labels) all = told_fair told from all.told_so
-    end_fair told from (fails found) all = (record { marked = tt; inner = refl }, tt)
 
     closing_fair : (lists : ℕ → List ClockStep) (earlier : List OpenerPart) (part : ClosedPart) (shown : Event) →
         Closes script lists earlier part shown → IsFair run drop shown
@@ -164,7 +116,8 @@ module _ (script : ScriptModel) where
     opener_fair well lists earlier (restarted drawn) may = (record { marked = tt; inner = refl }, tt)
     opener_fair well lists earlier (closed part) may = (
       tt,
-      every-append (Shows (IsFair run drop)) (map look_label part.looks) _ (looks_show (IsFair run drop) part.looks)
+      every-append (Shows (IsFair run drop)) (map look_label part.looks) _
+          (looks_each (Shows (IsFair run drop)) (λ look. tt) part.looks)
           (closing_fair lists earlier part part.shown may.closes, tt),
     )
 
@@ -184,11 +137,12 @@ module _ (names : SessionNames) (opener : List ClockStep) (lane : ℕ) where
       every-append (Shows (IsFair names.run names.drop))
       (start_labels names.script lane part.place part.load part.drawn part.start) (end_labels part.end)
       (start_fair names.script names.run names.drop lane part.place _ _ part.load part.drawn part.start may.starts)
-      (end_fair names.script names.run names.drop names.told _ part.end may.ends)
+      (end_each (Shows (IsFair names.run names.drop)) names.script
+      (holds_shown is_of_turn (IsFair names.run names.drop) (turn_fair names.run names.drop)) names.told _ part.end may.ends)
   lane_fair earlier (failed part) may =
       every-append (Shows (IsFair names.run names.drop)) (looks_empty names.script lane part.place) _
-      (look_shows (IsFair names.run names.drop) (nat_lt part.place (slice_index (cells_of names.script) lane)) lane
-      part.place) (tt, (record { marked = tt; inner = refl }, tt))
+      (empty_each (Shows (IsFair names.run names.drop)) names.script lane part.place tt)
+      (tt, (record { marked = tt; inner = refl }, tt))
   lane_fair earlier (missing place note) may = (tt, tt)
 
 -- what a log shows: a worker's a stop from outside alone

@@ -31,19 +31,21 @@ use Rattle.history_merge.specs.Merging.{NoneIsMissing}
 use Rattle.history_merge.proofs.AlikeLemmas.{never}
 use Rattle.history_merge.proofs.AskedLemmas.{IsAskedPlace, asked_label}
 use Rattle.history_merge.proofs.BetweenLemmas.{take_whole}
-use Rattle.history_merge.proofs.BeyondLemmas.{asked_cell, awaited_op, none_told as none_told_on, posted_cell, posted_on, reacts_total, split_total, tells_on, told_cell, told_list, told_once, told_one, within as within_lanes}
+use Rattle.history_merge.proofs.CellRoomLemmas.{told_list, told_once}
+use Rattle.history_merge.proofs.CellsEnoughLemmas.{asked_cell, awaited_op, none_told as none_told_on, posted_cell, posted_on, reacts_total, split_total, tells_on, told_cell, told_one}
 use Rattle.history_merge.proofs.CalledLemmas.{AreExpected}
 use Rattle.history_merge.proofs.CellLemmas.{allots_of, asks_place, placed_once}
 use Rattle.history_merge.proofs.HistoryLemmas.{AreLabelled, shown_in}
 use Rattle.history_merge.proofs.LabellingLemmas.{AreLabels, lane_are}
 use Rattle.history_merge.proofs.LaneOfLemmas.{lanes_size}
 use Rattle.history_merge.proofs.NoteLemmas.{IsNoted, seen}
-use Rattle.history_merge.proofs.PairedLemmas.{times}
 use Rattle.history_merge.proofs.PartLemmas.{Follow, all_made, every_at, follow_from}
 use Rattle.history_merge.proofs.PlacedLemmas.{total}
 use Rattle.history_merge.proofs.ReactorPlaceLemmas.{IsTold, awaits}
 use Rattle.history_merge.proofs.SinceLemmas.{labelled_at, made_all}
+use Rattle.history_merge.proofs.StagedLemmas.{reactor_within}
 use Rattle.history_merge.proofs.TimeLemmas.{IsMade, made_of, made_there}
+use Rattle.history_merge.proofs.TimesLemmas.{times}
 use Rattle.history_merge.proofs.UsedLemmas.{begun_part, look_stands, next_later, taken_part, two_made}
 
 -- by tests of an operation what it needs to be executed, but that it hasn't begun
@@ -91,8 +93,8 @@ module _ (names : SessionNames) (well : IsWellFormed names.script) (logs : LogsV
       ap (times (allots_of lane op))
       (take_whole (labels r) (length (steps_under r whole)) (made_all names logs labels logged are r)) in
       let told =
-      told_one script well lane (labels r) (told_list names well logs labels logged are expected)
-      (told_once names well logs labels logged are expected) op in
+      told_one script well lane (labels r) (told_list names well logs labels are)
+      (told_once names well logs labels are) op in
       let both =
       by_tests (asks_place script lane op) (tells_on script well lane op) (λ asks tells.
       elim (cases_eq lane r) [
@@ -133,7 +135,7 @@ module _ (names : SessionNames) (well : IsWellFormed names.script) (logs : LogsV
     asks : lane ≡ r → act_passes asks_reactor script op ≡ true
 
   of_note : (lane place : ℕ) (note : Note) →
-      IsNoted names logs labels are (within_lanes names well logs labels logged are expected) whole lane place note →
+      IsNoted names logs labels are (reactor_within names well logs labels logged are) whole lane place note →
       IsNotedAt lane place note.op
   of_note lane place note (inl noted) =
       let at = made_there labels whole labelled noted.number (allots note.op lane place) noted.placed in
@@ -155,7 +157,7 @@ module _ (names : SessionNames) (well : IsWellFormed names.script) (logs : LogsV
   of_note lane place note (inr noted) =
       let at = made_there labels whole labelled r (allots note.op lane place) noted.placed in
       let told : IsTold script (allots note.op lane place) =
-      every_at (IsTold script) (labels r) (told_list names well logs labels logged are expected)
+      every_at (IsTold script) (labels r) (told_list names well logs labels are)
       (length (steps_under r noted.placed.older)) (allots note.op lane place) at in
       let within = op_within script note.op (awaited_op script note.op told.1) in
       let tells : tells_on script well lane note.op ≡ true =
@@ -190,7 +192,7 @@ module _ (names : SessionNames) (well : IsWellFormed names.script) (logs : LogsV
         let less = at_within (labels lane) i label at in
         let made = made_of labels whole labelled lane i label at (omega (arith, size, less)) in
         of_note lane place note
-        (seen names logs labels are (within_lanes names well logs labels logged are expected)
+        (seen names logs labels are (reactor_within names well logs labels logged are)
         (session_layout script).guards (session_layout script).seats whole logged.closed.sound labelled lane lane place note
         made.0)
 

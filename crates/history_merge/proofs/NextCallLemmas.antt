@@ -2,6 +2,7 @@
 use Rattle.std.proofs.Common.{◌≡◌, ℕ, ◌<◌, Bool, true, false, cond, List, Some, None, inl, inr, length, refl, sym, ap, subst, ◌∙◌, arith}
 use Rattle.std.specs.Prelude.{IsSomeAnd, slice_get}
 use Rattle.std.proofs.lemmas.Bool.{cases_lt}
+use Rattle.std.proofs.lemmas.List.{get_or_past}
 use Rattle.asio_types.specs.Faults.{most_faults, one_more}
 use Rattle.asio_types.specs.declared.code.Class.{Class}
 use Rattle.asio_types.specs.declared.code.Class.TheVariants as class
@@ -10,7 +11,7 @@ use Rattle.session_script.specs.Script.{Place, ScriptModel, branch_of, opening_o
 use Rattle.session_script.specs.WellFormed.{HasParent, IsWellFormed}
 use Rattle.session_script.proofs.OrderLemmas.{same_place-true}
 use Rattle.session_script.proofs.PlacingLemmas.{has_parent}
-use Rattle.history_rules.specs.Calls.{IsNextOf, MayCall, body_at, progressed, running_body, stepped, with_progress}
+use Rattle.history_rules.specs.Calls.{IsNextOf, MayCall, body_at, is_open, progressed, running_body, stepped, with_progress}
 use Rattle.history_rules.specs.Legal.{context_after}
 use Rattle.history_rules.specs.State.{ContextState, act_at, call_at, fresh, phase_at}
 use Rattle.history_rules.specs.declared.phase.ActPhase.{ActPhase}
@@ -22,6 +23,7 @@ use Rattle.history_rules.specs.declared.phase.Step.TheVariants as step
 use Rattle.book_context.proofs.ApartLemmas.{numbers_rise}
 use Rattle.book_context.proofs.PlaceLemmas.{within_script}
 use Rattle.book_context.proofs.StateLemmas.{acts_in}
+use Rattle.history_merge.proofs.AlikeLemmas.{never}
 use Rattle.history_merge.proofs.FrameLemmas.{calling_act}
 use Rattle.history_merge.proofs.OrderlyLemmas.{HasMade, IsInOrder, IsMadeIn, uncalled_or}
 
@@ -136,3 +138,11 @@ module _ (script : ScriptModel) (well : IsWellFormed script) (s : ContextState) 
       (omega (arith, before, within, order.size)))))
       (subst (λ k. HasMade at.1 k (progressed step.Made (phase_at s at.0))) (sym same)
       (next.made (omega (arith, few, same))))
+
+-- an act whose call is open is there
+pub open_within : (s : ContextState) (a : ℕ) → is_open (call_at s a) ≡ true → a < length s.acts
+open_within s a is = elim (cases_lt a (length s.acts)) [
+  | inl within ↦ within
+  | inr beyond ↦
+      absurd (never (is_open (call_at s a)) (ap (λ (act : ActState). is_open act.call) (get_or_past s.acts a fresh beyond)) is)
+]

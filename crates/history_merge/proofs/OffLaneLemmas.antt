@@ -18,8 +18,8 @@ use Rattle.history_merge.specs.Among.{IsPlaceOff, IsPlaceOn}
 use Rattle.history_merge.proofs.AskLemmas.{IsNoDrop}
 use Rattle.history_merge.proofs.BodyLaneLemmas.{IsOwn, inline_place}
 use Rattle.history_merge.proofs.DrawnLemmas.{drawn_shown}
+use Rattle.history_merge.proofs.EachLabelLemmas.{is_of_turn}
 use Rattle.history_merge.proofs.EventOrderLemmas.{IsOffLane}
-use Rattle.history_merge.proofs.HalfLemmas.{is_of_turn}
 use Rattle.history_merge.proofs.PartLemmas.{Every, every-append, labels_worker}
 
 -- what is a lane's own is off each other

@@ -20,9 +20,10 @@ use Rattle.lane_context.specs.SeatNumbers.{IsWorkerSeat, opener_seat}
 use Rattle.history_merge.proofs.AskLemmas.{IsNoDrop}
 use Rattle.history_merge.proofs.CalledLemmas.{AreExpected}
 use Rattle.history_merge.proofs.CellRoomLemmas.{cells_room}
+use Rattle.history_merge.proofs.EachLabelLemmas.{is_of_turn}
 use Rattle.history_merge.proofs.FewStopsLemmas.{few_stops}
 use Rattle.history_merge.proofs.GoingNextLemmas.{IsExpectedLabel}
-use Rattle.history_merge.proofs.HalfLemmas.{is_of_turn, off_turn}
+use Rattle.history_merge.proofs.HalfLemmas.{off_turn}
 use Rattle.history_merge.proofs.HistoryLemmas.{AreLabelled, label_of, shown_by, shown_in}
 use Rattle.history_merge.proofs.LabellingLemmas.{AreLabels}
 use Rattle.history_merge.proofs.OpenerMayLemmas.{opener_event, worker_may}
@@ -122,5 +123,5 @@ module _ (names : SessionNames) (well : IsWellFormed names.script) (logs : LogsV
       (λ same. let count = lanes_counted script in absurd (omega (arith, same, count, by)))
       (λ shown changes found is.
       opener_event names well logs labels logged are e es tail all shown changes found is by so
-      (cells_room names well logs labels logged are es (tail_more es e logged.closed.history tail) all.0
+      (cells_room names well logs labels are logged es (tail_more es e logged.closed.history tail) all.0
       (so es (tail_refl es)).expected))

@@ -3,8 +3,6 @@ use Rattle.std.proofs.Common.{◌≡◌, ◌⊎◌, ℕ, ◌+◌, ◌<◌, Bool,
 use Rattle.std.specs.Prelude.{slice_get, IsSomeAnd}
 use Rattle.std.specs.Option.{unwrap_or}
 use Rattle.std.specs.List.{slice_set}
-use Rattle.std.proofs.lemmas.Bool.{cases_lt}
-use Rattle.std.proofs.lemmas.List.{get_or_past}
 use Rattle.std.specs.Prelude.{◌&&◌}
 use Rattle.std.proofs.lemmas.Option.{slice_get_within}
 use Rattle.asio_types.specs.Faults.{most_faults, one_more}
@@ -18,7 +16,7 @@ use Rattle.history_rules.specs.Calls.{IsNextOf, accepted, after_return, body_at,
 use Rattle.history_rules.specs.Executions.{begun}
 use Rattle.history_rules.specs.Kinds.{is_act}
 use Rattle.history_rules.specs.Legal.{MayHappen, context_after}
-use Rattle.history_rules.specs.State.{ContextState, State, act_at, call_at, fresh, no_progress, phase_at, with_call, with_phase}
+use Rattle.history_rules.specs.State.{ContextState, State, act_at, call_at, no_progress, phase_at, with_call, with_phase}
 use Rattle.history_rules.specs.declared.phase.ActPhase.{ActPhase}
 use Rattle.history_rules.specs.declared.phase.ActPhase.TheVariants as phase
 use Rattle.history_rules.specs.declared.phase.ActState.{ActState}
@@ -35,6 +33,7 @@ use Rattle.book_context.proofs.StateLemmas.{IsElsewhere, IsHandlers}
 use Rattle.history_merge.proofs.AlikeLemmas.{closed_returned, never}
 use Rattle.history_merge.proofs.EachActLemmas.{Each, right_set}
 use Rattle.history_merge.proofs.FrameLemmas.{acts_limited, acts_spent, opening-after, returned_act}
+use Rattle.history_merge.proofs.NextCallLemmas.{open_within}
 use Rattle.history_merge.proofs.OrderlyLemmas.{IsCallOf}
 use Rattle.history_merge.proofs.SoLemmas.{OpensInTurn}
 
@@ -180,7 +179,7 @@ module _ (script : ScriptModel) (well : IsWellFormed script) (told : Bool) (s : 
         | inl was ↦
             absurd (let other = opens n root was in
             let same : n ≡ a = some_same n a (sym other.at ∙ own.at) in
-            let within : a < length s.context.acts = open_within a was_open in
+            let within : a < length s.context.acts = open_within s.context a was_open in
             let here = returned_act script s.context a within (subst (λ place. IsElsewhere place a) (sym under) tt) in
             let closed : is_open (call_at (after_return script s.context a) n) ≡ false =
             ap (λ n. is_open (call_at (after_return script s.context a) n)) same
@@ -191,14 +190,6 @@ module _ (script : ScriptModel) (well : IsWellFormed script) (told : Bool) (s : 
     where
       some_same : (m n : ℕ) → Some m ≡ Some n → m ≡ n
       some_same m n is = cc
-
-      open_within : (a : ℕ) → is_open (call_at s.context a) ≡ true → a < length s.context.acts
-      open_within a is = elim (cases_lt a (length s.context.acts)) [
-        | inl within ↦ within
-        | inr beyond ↦
-            absurd (never (is_open (call_at s.context a))
-            (ap (λ (act : ActState). is_open act.call) (get_or_past s.context.acts a fresh beyond)) is)
-      ]
   back_opens a (Some at) under may =
       same_opening (event.Back a) (opening-after script s.context (event.Back a) (subst IsHandlers (sym under) tt))
       (λ n root called. called)

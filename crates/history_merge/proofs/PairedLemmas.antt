@@ -18,6 +18,7 @@ use Rattle.lane_context.specs.Parts.{Part, executed, failed, idle, labels_in, mi
 use Rattle.lane_context.specs.WorkerLog.{MayFollowStopped, WorkerPart, stopped, waiting}
 use Rattle.reactor_turns.proofs.SummingLemmas.{one_if}
 use Rattle.history_merge.proofs.PartLemmas.{Follow, all_made, labels_worker}
+use Rattle.history_merge.proofs.TimesLemmas.{times, times-append}
 
 -- the label shows the call of an act
 abbrev pub is_call_label : ℕ → Labelled → Bool
@@ -34,15 +35,6 @@ abbrev pub is_led_label : ℕ → Labelled → Bool
 is_led_label act (silent step) = false
 is_led_label act (shows shown changes found) = is_stop_of act shown
 is_led_label act (allots other lane place) = other == act
-
--- how many labels pass a test
-abbrev pub times : (Labelled → Bool) → List Labelled → ℕ
-times test [] = 0
-times test (label ∷ labels) = one_if (test label) + times test labels
-
-pub times-append : (test : Labelled → Bool) (xs ys : List Labelled) → times test (xs ++ ys) ≡ times test xs + times test ys
-times-append test [] ys = omega arith
-times-append test (x ∷ xs) ys = let rest = times-append test xs ys in omega (arith, rest)
 
 -- with so many that lead, each that follows has one that leads it
 module _ (leads follows : Labelled → Bool) where

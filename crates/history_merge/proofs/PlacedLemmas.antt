@@ -2,6 +2,7 @@
 use Rattle.std.proofs.Common.{◌≡◌, ◌≢◌, ℕ, zero, suc, ◌+◌, ◌^◌, ◌<◌, ◌≤◌, Bool, true, false, List, [], ◌∷◌, inl, inr, length, take, refl, sym, ap, subst, ◌∙◌, arith}
 use Rattle.std.specs.Prelude.{◌&&◌, ◌==◌, not}
 use Rattle.std.proofs.lemmas.Bool.{cases_eq, cases_lt, eq-eqb, ne_eqb}
+use Rattle.lane_context.specs.Drops.{is_call_of}
 use Rattle.session_script.specs.Script.{ScriptModel}
 use Rattle.session_script.specs.WellFormed.{IsWellFormed}
 use Rattle.history_rules.specs.State.{first_state}
@@ -17,12 +18,13 @@ use Rattle.lane_context.specs.Parts.{Part, labels_in}
 use Rattle.lane_context.specs.SeatNumbers.{lane_count, opener_seat}
 use Rattle.lane_context.specs.WorkerLog.{MayFollowStopped, WorkerPart}
 use Rattle.reactor_turns.proofs.SummingLemmas.{one_if, summed, summed-less}
-use Rattle.history_merge.proofs.CalledLemmas.{AreExpected, called_at_most, calls_of, calls_of-append}
+use Rattle.history_merge.proofs.CalledLemmas.{AreExpected, called_at_most, calls_of}
 use Rattle.history_merge.proofs.HistoryLemmas.{AreLabelled, label_of, shown_by, shown_count, shown_in}
 use Rattle.history_merge.proofs.LabellingLemmas.{AreLabels}
-use Rattle.history_merge.proofs.PairedLemmas.{ArePaired, is_call_label, is_led_label, lane_paired, opener_paired, paired_times, parts_paired, times, times-append, worker_paired}
+use Rattle.history_merge.proofs.PairedLemmas.{ArePaired, is_call_label, is_led_label, lane_paired, opener_paired, paired_times, parts_paired, worker_paired}
 use Rattle.history_merge.proofs.PartLemmas.{labels_worker}
 use Rattle.history_merge.proofs.SoFarLemmas.{made_here, made_other, made_so_far}
+use Rattle.history_merge.proofs.TimesLemmas.{times, times-append}
 
 -- a sum of which one number gives so much more
 summed_until : (f g : ℕ → ℕ) (a n : ℕ) → n ≤ a → ((m : ℕ) → m ≢ a → g m ≡ f m) → summed g n ≡ summed f n
@@ -80,7 +82,7 @@ module _ (labels : ℕ → List Labelled) where
   total_calls act [] = refl
   total_calls act (e ∷ es) =
       let rest = total_calls act es in
-      let both = calls_of-append act (shown_in labels es) (shown_by (label_of labels es e)) in
+      let both = times-append (is_call_of act) (shown_in labels es) (shown_by (label_of labels es e)) in
       let one = shown_call (label_of labels es e) in
       omega (arith, rest, both, one)
     where

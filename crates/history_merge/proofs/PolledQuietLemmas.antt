@@ -1,19 +1,17 @@
 -- Where polling is over no handler is ready and no request waits: each that was noted was begun or taken.
-use Rattle.std.proofs.Common.{◌≡◌, ◌≢◌, ◌⊎◌, ℕ, zero, suc, ◌<◌, ◌≤◌, Bool, true, false, cond, List, [], ◌∷◌, Option, None, Some, inl, inr, length, take, refl, sym, ap, subst, ◌∙◌, arith}
-use Rattle.std.specs.Prelude.{slice_get, slice_index}
+use Rattle.std.proofs.Common.{◌≡◌, ◌≢◌, ◌⊎◌, ℕ, zero, suc, ◌<◌, ◌≤◌, Bool, true, false, List, [], ◌∷◌, Option, Some, inl, inr, length, take, refl, sym, ap, subst, ◌∙◌, arith}
+use Rattle.std.specs.Prelude.{slice_index}
 use Rattle.std.proofs.Math.Seq.{take-append_seam}
 use Rattle.std.proofs.lemmas.Bool.{cases_eq, eq-eqb}
 use mathlib.Core.Option.{some, some-ne-none}
 use lib.ListN.{get_elem?}
+use Rattle.lane_map.proofs.RankLemmas.{op_within}
 use Rattle.asio_types.specs.declared.code.Code.{Code}
-use Rattle.asio_types.specs.declared.code.Code.TheVariants as code
 use Rattle.asio_types.specs.declared.event.Event.{Event}
 use Rattle.asio_types.specs.declared.event.Event.TheVariants as event
 use Rattle.session_script.specs.Lanes.{is_inline}
-use Rattle.session_script.specs.Script.{Entry, ScriptModel, is_op, is_operation, is_stop, stops}
+use Rattle.session_script.specs.Script.{ScriptModel, is_op, is_operation, stops}
 use Rattle.session_script.specs.WellFormed.{IsWellFormed}
-use Rattle.session_script.specs.declared.act.Act.{Act}
-use Rattle.session_script.specs.declared.act.Act.TheVariants as act
 use Rattle.history_rules.specs.Calls.{is_open}
 use Rattle.history_rules.specs.Kinds.{is_act, is_control, is_posting}
 use Rattle.history_rules.specs.Order.{is_request, was_taken}
@@ -34,21 +32,22 @@ use Rattle.lane_clock.specs.History.{ClockEvent, IsSoundHistory, cell_after, pla
 use Rattle.lane_clock.specs.Steps.{draw_count}
 use Rattle.lane_clock.proofs.KnownLemmas.{event as step_event}
 use Rattle.lane_clock.proofs.MomentLemmas.{Tail, moment_of, sound_tail, tail_more, tail_refl}
-use Rattle.lane_map.specs.LaneNumbers.{act_passes, asked_lane, asks_its_lane, cells_of, home_lane, reactor_lane}
+use Rattle.lane_map.specs.LaneNumbers.{asked_lane, cells_of, home_lane, reactor_lane}
 use Rattle.lane_context.specs.Cuts.{HasStarted}
 use Rattle.lane_context.specs.Labels.{Labelled, allots, shows, silent, step_of, steps_in}
 use Rattle.lane_context.specs.LaneLog.{AreParts, MayFollow}
 use Rattle.lane_context.specs.Logs.{AreLogs, LogsView, session_layout}
 use Rattle.lane_context.specs.Names.{SessionNames}
 use Rattle.lane_context.specs.OpenerLog.{ClosedPart, ClosesPolled, closed}
-use Rattle.lane_context.specs.Parts.{Part, executed, failed, idle, labels_in, labels_of, missing, turned}
+use Rattle.lane_context.specs.Parts.{Part, labels_in, labels_of}
 use Rattle.lane_context.specs.SeatNumbers.{lane_count, opener_seat}
 use Rattle.book_context.specs.Ready.{is_ready}
 use Rattle.lane_map.proofs.NumberLemmas.{lane_count as lanes_counted}
+use Rattle.history_merge.proofs.AcceptedLemmas.{posted_asks, ready_by, request_asks, waits_by}
 use Rattle.history_merge.proofs.AlikeLemmas.{is_not, never}
 use Rattle.history_merge.proofs.AskedLemmas.{asked_label}
 use Rattle.history_merge.proofs.AtEventLemmas.{IsBetween, lane_between, nothing_left}
-use Rattle.history_merge.proofs.AtRestLemmas.{call_closed, home_counted, not_running}
+use Rattle.history_merge.proofs.AtRestLemmas.{call_closed, not_running}
 use Rattle.history_merge.proofs.BackLemmas.{placed_before}
 use Rattle.history_merge.proofs.BegunPartLemmas.{IsStart, Starts, starts_at}
 use Rattle.history_merge.proofs.ClosingLemmas.{stood}
@@ -56,108 +55,22 @@ use Rattle.history_merge.proofs.CutLemmas.{under_take}
 use Rattle.history_merge.proofs.DatesLemmas.{AreDated, IsShownAt, is_past}
 use Rattle.history_merge.proofs.HistoryLemmas.{AreLabelled, IsPlain, label_of, shown_in}
 use Rattle.history_merge.proofs.LabellingLemmas.{AreLabels, lane_are, plain_label}
-use Rattle.history_merge.proofs.LaneOfLemmas.{home_before}
+use Rattle.history_merge.proofs.LaneOfLemmas.{home_before, home_counted}
 use Rattle.history_merge.proofs.LookingLemmas.{closing_over}
 use Rattle.history_merge.proofs.HalfLemmas.{off_turn}
 use Rattle.history_merge.proofs.CountedLemmas.{counted_in}
 use Rattle.history_merge.proofs.StageLemmas.{left_at}
 use Rattle.history_merge.proofs.OpenerLemmas.{stand_at}
 use Rattle.history_merge.proofs.OpenerPartLemmas.{opener_at}
-use Rattle.history_merge.proofs.PartLemmas.{Every, Follow, all_made, every_at, every_made, follow_from, label_of_step, lane_made, made-append}
+use Rattle.history_merge.proofs.PartLemmas.{Follow, all_made, follow_from, label_of_step, lane_made, made-append}
 use Rattle.history_merge.proofs.PolledLemmas.{all_started, place_full}
-use Rattle.history_merge.proofs.ShowsLemmas.{IsOfTurn, Shows, failed_shows, turned_shows}
+use Rattle.history_merge.proofs.ShowsLemmas.{reactor_shows}
 use Rattle.history_merge.proofs.SoFarLemmas.{made_so_far}
 use Rattle.history_merge.proofs.SoLemmas.{IsSo, state_so}
 use Rattle.history_merge.proofs.SoonLemmas.{cell_stays}
 use Rattle.history_merge.proofs.TakenShownLemmas.{taken_shown}
 use Rattle.history_merge.proofs.TimeLemmas.{IsMade, IsShownBy, index_in, made_of, made_shown, made_there, made_within, place_next, places_tail, shown_made}
 use Rattle.history_merge.proofs.ToldLemmas.{done_at}
-
--- how an act was accepted tells of what kind it is
-pub record IsAskedAs (script : ScriptModel) (n lane : ℕ) : Type 0 where
-  pub going : stops script n ≡ false
-  pub asks : asked_lane script n ≡ lane
-
-posting_kind : (it : Act) → is_posting it ≡ true → (is_stop it ≡ false) × (asks_its_lane it ≡ true)
-posting_kind (act.Post strand) is = (refl, refl)
-posting_kind (act.Defer strand) is = (refl, refl)
-posting_kind (act.Dispatch strand) is = (refl, refl)
-posting_kind other is = absurd (cc)
-
-request_kind : (it : Act) → is_posting it ≡ false → (is_operation it ≡ true) ⊎ (is_control it ≡ true) →
-    (is_stop it ≡ false) × (asks_its_lane it ≡ false)
-request_kind (act.Post strand) isnt is = absurd (cc)
-request_kind (act.Defer strand) isnt is = absurd (cc)
-request_kind (act.Dispatch strand) isnt is = absurd (cc)
-request_kind act.Stop isnt (inl is) = absurd (cc)
-request_kind act.Stop isnt (inr is) = absurd (cc)
-request_kind other isnt is = (refl, refl)
-
-module _ (script : ScriptModel) (n : ℕ) where
-  pub posted_asks : is_act is_posting script n ≡ true → IsAskedAs script n (home_lane script n)
-  posted_asks is = by_entry (slice_get script.acts n) refl
-    where
-      by_entry : (found : Option Entry) → slice_get script.acts n ≡ found → IsAskedAs script n (home_lane script n)
-      by_entry None stands =
-          absurd (let none : is_act is_posting script n ≡ false = rw stands refl in never (is_act is_posting script n) none is)
-      by_entry (Some e) stands =
-          let posts : is_act is_posting script n ≡ is_posting e.act = rw stands refl in
-          let halts : stops script n ≡ is_stop e.act = rw stands refl in
-          let asks : act_passes asks_its_lane script n ≡ asks_its_lane e.act = rw stands refl in
-          let kind = posting_kind e.act (sym posts ∙ is) in
-          record {
-            going = halts ∙ kind.0;
-            asks = ap (λ b. cond b (home_lane script n) (reactor_lane script)) (asks ∙ kind.1);
-          }
-
-  pub request_asks : is_act is_posting script n ≡ false →
-      (is_act is_operation script n ≡ true) ⊎ (is_act is_control script n ≡ true) →
-      IsAskedAs script n (reactor_lane script)
-  request_asks isnt is = by_entry (slice_get script.acts n) refl is
-    where
-      by_entry : (found : Option Entry) → slice_get script.acts n ≡ found →
-          (is_act is_operation script n ≡ true) ⊎ (is_act is_control script n ≡ true) →
-          IsAskedAs script n (reactor_lane script)
-      by_entry None stands (inl is) =
-          absurd (let none : is_act is_operation script n ≡ false = rw stands refl in never (is_act is_operation script n) none is)
-      by_entry None stands (inr is) =
-          absurd (let none : is_act is_control script n ≡ false = rw stands refl in never (is_act is_control script n) none is)
-      by_entry (Some e) stands is =
-          let posts : is_act is_posting script n ≡ is_posting e.act = rw stands refl in
-          let operates : is_act is_operation script n ≡ is_operation e.act = rw stands refl in
-          let controls : is_act is_control script n ≡ is_control e.act = rw stands refl in
-          let halts : stops script n ≡ is_stop e.act = rw stands refl in
-          let asks : act_passes asks_its_lane script n ≡ asks_its_lane e.act = rw stands refl in
-          let which : (is_operation e.act ≡ true) ⊎ (is_control e.act ≡ true) =
-          elim is [ inl it ↦ inl (sym operates ∙ it) | inr it ↦ inr (sym controls ∙ it) ] in
-          let kind = request_kind e.act (sym posts ∙ isnt) which in
-          record {
-            going = halts ∙ kind.0;
-            asks = ap (λ b. cond b (home_lane script n) (reactor_lane script)) (asks ∙ kind.1);
-          }
-
-  -- what a call made ready was posted, and what waits as it was accepted asks the reactor
-  ready_by : (inline posting operation control : Bool) (given : Code) (size : ℕ) (why : Cause) →
-      phase.Ready given size why ≡ cond inline phase.Inside (cond posting (phase.Ready code.Ok 0 cause.Posted)
-      (cond operation phase.Requested (cond control phase.Asked phase.Absent))) → posting ≡ true
-  ready_by true posting operation control given size why is = absurd (cc)
-  ready_by false true operation control given size why is = refl
-  ready_by false false true control given size why is = absurd (cc)
-  ready_by false false false true given size why is = absurd (cc)
-  ready_by false false false false given size why is = absurd (cc)
-
-  waits_by : (inline posting operation control : Bool) (of : ActPhase) → is_request of ≡ true →
-      of ≡ cond inline phase.Inside (cond posting (phase.Ready code.Ok 0 cause.Posted)
-      (cond operation phase.Requested (cond control phase.Asked phase.Absent))) →
-      (inline ≡ false) × (posting ≡ false) × ((operation ≡ true) ⊎ (control ≡ true))
-  waits_by true posting operation control of asks is =
-      absurd (let wrong : true ≡ false = sym asks ∙ ap is_request is in cc)
-  waits_by false true operation control of asks is =
-      absurd (let wrong : true ≡ false = sym asks ∙ ap is_request is in cc)
-  waits_by false false true control of asks is = (refl, refl, inl refl)
-  waits_by false false false true of asks is = (refl, refl, inr refl)
-  waits_by false false false false of asks is =
-      absurd (let wrong : true ≡ false = sym asks ∙ ap is_request is in cc)
 
 past_waits : (of : ActPhase) → is_past of ≡ true → is_request of ≡ true → ⊥
 past_waits (phase.Running class progress) past waits = absurd (cc)
@@ -176,30 +89,6 @@ load_label : (label : Labelled) (load : Found) → step_of label ≡ Load load �
 load_label (silent step) load is = ap silent is
 load_label (shows shown changes found) load is = absurd (cc)
 load_label (allots act at cell) load is = absurd (cc)
-
-module _ (names : SessionNames) (well : IsWellFormed names.script) (logs : LogsView) (labels : ℕ → List Labelled)
-    (are : AreLabels names logs labels) (reactor_counted : reactor_lane names.script < lane_count names.script) where
-  -- the reactor shows events of turns alone
-  reactor_part : (earlier : List Part) (part : Part) →
-      MayFollow names (logs.lists (opener_seat names.script)) (reactor_lane names.script) earlier part →
-      Every (Shows IsOfTurn) (labels_in names.script (reactor_lane names.script) part)
-  reactor_part earlier (idle step) may = (tt, tt)
-  reactor_part earlier (executed part) may = let strand = may.strand in absurd (omega (arith, strand))
-  reactor_part earlier (turned part) may =
-      turned_shows names well (logs.lists (opener_seat names.script)) (reactor_lane names.script) earlier part may
-  reactor_part earlier (failed part) may =
-      failed_shows names well (logs.lists (opener_seat names.script)) (reactor_lane names.script) earlier part
-  reactor_part earlier (missing place note) may = (tt, tt)
-
-  pub reactor_shows : (i : ℕ) (label : Labelled) → get_elem? (labels (reactor_lane names.script)) i ≡ some label →
-      Shows IsOfTurn label
-  reactor_shows i label at =
-      let made = are.lanes (reactor_lane names.script) reactor_counted in
-      every_at (Shows IsOfTurn) (labels (reactor_lane names.script))
-      (subst (Every (Shows IsOfTurn)) (sym made.are)
-      (every_made Part (labels_in names.script (reactor_lane names.script))
-      (MayFollow names (logs.lists (opener_seat names.script)) (reactor_lane names.script)) (Shows IsOfTurn) reactor_part
-      made.parts made.follow)) i label at
 
 draw_label : (label : Labelled) (changes : Change) (found : Found) → IsPlain label → step_of label ≡ Draw changes found →
     (shown : Event) × (label ≡ shows shown changes found)
@@ -499,7 +388,7 @@ module _ (names : SessionNames) (well : IsWellFormed names.script) (logs : LogsV
     ready_not : ⊥
     ready_not =
         let placed = placed_by why ready in
-        let within = home_counted script n well operates in
+        let within = home_counted script well n (op_within script n operates) in
         let before = home_before script well n operates in
         let it = noted (home_lane script n) within placed.number n placed.place placed.got in
         by_starts it it.starts before

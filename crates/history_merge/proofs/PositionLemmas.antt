@@ -71,7 +71,7 @@ entry_of (shows other change drawn ∷ labels) (suc i) shown changes found there
     let e = entry_of labels i shown changes found there in (suc e.0, e.1)
 
 -- a step that draws shows an event
-shown_by_draw : (label : Labelled) → IsPlain label → (changes : Change) (found : Found) → step_of label ≡ Draw changes found →
+pub shown_by_draw : (label : Labelled) → IsPlain label → (changes : Change) (found : Found) → step_of label ≡ Draw changes found →
     (shown : Event) × (label ≡ shows shown changes found)
 shown_by_draw (silent step) plain changes found is =
     absurd (let none : 0 ≡ draw_count (Draw changes found) = sym plain.0 ∙ ap draw_count is in omega (arith, none))

@@ -35,9 +35,9 @@ use Rattle.lane_context.specs.Parts.{FailedPart, Part, TurnEnd, TurnPart, TurnSt
 use Rattle.lane_context.specs.ReactorTurns.{AreTold, EndsTurn, MayStartTurn, done_labels, done_note, may_take, none_told, one_told, point_event, start_event}
 use Rattle.lane_context.proofs.TakingLemmas.{open_request, request_within}
 use Rattle.history_merge.proofs.BackLemmas.{allots_for}
-use Rattle.history_merge.proofs.PairedLemmas.{times, times-append}
 use Rattle.history_merge.proofs.PartLemmas.{Every, every-append}
 use Rattle.history_merge.proofs.RestingLemmas.{IsResting, either_false, goes_on, half-append, look_entries, put_entries, rests, turn_half}
+use Rattle.history_merge.proofs.TimesLemmas.{times, times-append}
 
 module _ (script : ScriptModel) where
   -- an asynchronous operation

@@ -1,7 +1,6 @@
 -- What the labels of a lane's parts show: an execution its own events behind its begin, and a turn of the reactor events
 -- of a turn. What lanes and workers show lies within a round.
-use Rattle.std.proofs.Common.{◌≡◌, ◌≢◌, ◌⊎◌, ℕ, Bool, true, false, cond, List, [], ◌∷◌, ◌++◌, None, Some, inl, inr, refl, sym, ap, subst, ◌∙◌}
-use Rattle.std.specs.Prelude.{nat_lt, slice_index}
+use Rattle.std.proofs.Common.{◌≡◌, ◌≢◌, ◌⊎◌, ℕ, ◌<◌, Bool, true, List, [], ◌∷◌, ◌++◌, None, Some, inl, inr, refl, sym, ap, subst, ◌∙◌, arith}
 use mathlib.Core.Option.{some}
 use lib.ListN.{get_elem?}
 use Rattle.asio_types.specs.Code.{class_of_code}
@@ -20,27 +19,25 @@ use Rattle.strand_core.specs.declared.posted.Posted.{Posted}
 use Rattle.strand_core.specs.declared.posted.Posted.TheVariants as posted
 use Rattle.strand_core.specs.Execution.{IsWholeExecution, events_of}
 use Rattle.lane_clock.specs.declared.found.Found.{Found}
-use Rattle.lane_clock.specs.declared.note.Note.{Note}
 use Rattle.lane_clock.specs.declared.step.ClockStep.{ClockStep}
-use Rattle.lane_clock.specs.declared.step.ClockStep.TheVariants.{Look, Put}
-use Rattle.lane_map.specs.LaneNumbers.{cells_of, home_lane}
+use Rattle.lane_map.specs.LaneNumbers.{reactor_lane}
 use Rattle.lane_context.specs.Labels.{AreDrawn, Labelled, allots, entries_in, events_in, shows, silent}
 use Rattle.lane_context.specs.LaneLog.{MayFollow}
 use Rattle.lane_context.specs.Logs.{LogsView}
 use Rattle.lane_context.specs.Names.{IsNamedMark, SessionNames}
 use Rattle.lane_context.specs.OpenerLog.{opener_labels}
-use Rattle.lane_context.specs.Parts.{ExecutedPart, FailedPart, Part, TurnEnd, TurnPart, TurnStart, end_labels, executed, failed, fails, idle, labels_in, looks_empty, missing, passes, start_labels, takes, tells, turned}
-use Rattle.lane_context.specs.ReactorTurns.{AreTold, EndsTurn, MayStartTurn, done_labels, done_note, none_told, one_told, point_event}
-use Rattle.lane_context.specs.SeatNumbers.{opener_seat}
+use Rattle.lane_context.specs.Parts.{ExecutedPart, FailedPart, Part, TurnPart, TurnStart, end_labels, executed, failed, idle, labels_in, looks_empty, missing, passes, start_labels, takes, turned}
+use Rattle.lane_context.specs.ReactorTurns.{MayStartTurn, point_event}
+use Rattle.lane_context.specs.SeatNumbers.{lane_count, opener_seat}
 use Rattle.lane_context.specs.WorkerLog.{MayFollowStopped, WorkerPart, stopped, waiting}
 use Rattle.book_context.proofs.StateLemmas.{IsHandlers}
 use Rattle.history_merge.specs.Among.{IsPlaceOn}
 use Rattle.history_merge.proofs.BodyLaneLemmas.{AreOwn, IsOwn, execution_is_own}
 use Rattle.history_merge.proofs.DrawnLemmas.{drawn_shown}
+use Rattle.history_merge.proofs.EachLabelLemmas.{HoldsOf, empty_each, end_each, is_of_turn}
 use Rattle.history_merge.proofs.FrameLemmas.{IsWithinRound}
-use Rattle.history_merge.proofs.HalfLemmas.{is_of_turn}
 use Rattle.history_merge.proofs.LabellingLemmas.{AreLabels, each_label}
-use Rattle.history_merge.proofs.PartLemmas.{Every, every-append, every_all, every_so, labels_worker}
+use Rattle.history_merge.proofs.PartLemmas.{Every, every-append, every_all, every_at, every_made, every_so, labels_worker}
 
 -- what a label shows has this property
 abbrev pub Shows : (Event → Type 0) → Labelled → Type 0
@@ -54,7 +51,7 @@ shows_so P Q so (silent step) is = tt
 shows_so P Q so (shows shown changes found) is = so shown is
 shows_so P Q so (allots act lane place) is = tt
 
-shown_every : (P : Event → Type 0) (labels : List Labelled) → Every P (events_in (entries_in labels)) →
+pub shown_every : (P : Event → Type 0) (labels : List Labelled) → Every P (events_in (entries_in labels)) →
     Every (Shows P) labels
 shown_every P [] all = tt
 shown_every P (silent step ∷ labels) all = (tt, shown_every P labels all)
@@ -74,20 +71,16 @@ IsOfExecution script op given size shown =
 abbrev pub IsOfTurn : Event → Type 0
 IsOfTurn shown = is_of_turn shown ≡ true
 
-pub put_shows : (P : Event → Type 0) (within : Bool) (lane place : ℕ) (note : Note) →
-    Every (Shows P) (cond within (silent (Put lane place note) ∷ []) [])
-put_shows P true lane place note = (tt, tt)
-put_shows P false lane place note = tt
-
-look_shows : (P : Event → Type 0) (within : Bool) (lane place : ℕ) →
-    Every (Shows P) (cond within (silent (Look lane place None) ∷ []) [])
-look_shows P true lane place = (tt, tt)
-look_shows P false lane place = tt
+-- what holds of each event that passes a test
+pub holds_shown : (test : Event → Bool) (P : Event → Type 0) → ((shown : Event) → test shown ≡ true → P shown) →
+    HoldsOf test (Shows P)
+holds_shown test P each = record {
+  events = λ shown is changes found. each shown is;
+  places = λ act lane place. tt;
+  puts = λ lane place note. tt;
+}
 
 module _ (script : ScriptModel) where
-  empty_shows : (P : Event → Type 0) (lane place : ℕ) → Every (Shows P) (looks_empty script lane place)
-  empty_shows P lane place = look_shows P (nat_lt place (slice_index (cells_of script) lane)) lane place
-
   -- the labels of an execution
   pub calls_show : (well : IsWellFormed script) (HasMark : ℕ → ℕ → Type 0) (op : ℕ) (given : Code) (size : ℕ)
       (calls : List Posted) (labels : List Labelled) → IsWholeExecution script HasMark op given size calls →
@@ -105,25 +98,6 @@ module _ (script : ScriptModel) where
             (own_every script (lane_of script op) own all),
       ))
 
-  told_shows : (told : Bool) (from : ReactorHalf) {labels : List Labelled} → AreTold script told from labels →
-      Every (Shows IsOfTurn) labels
-  told_shows told from none_told = tt
-  told_shows told from (one_told {labels} op with_code size place found before may) =
-      every-append (Shows IsOfTurn) labels (done_labels script op with_code size place found)
-      (told_shows told from before) (
-        tt,
-        (
-          refl,
-          put_shows IsOfTurn (nat_lt place (slice_index (cells_of script) (home_lane script op))) _ place
-              (done_note op with_code size),
-        ),
-      )
-
-  end_shows : (told : Bool) (from : ReactorHalf) (end : TurnEnd) → EndsTurn script told from end →
-      Every (Shows IsOfTurn) (end_labels end)
-  end_shows told from (tells labels) is = told_shows told from is.told_so
-  end_shows told from (fails found) is = (refl, tt)
-
   point_of_turn : (to : Point) → IsOfTurn (point_event to)
   point_of_turn (point.Time now) = refl
   point_of_turn point.Last = refl
@@ -133,7 +107,7 @@ module _ (script : ScriptModel) where
       Every (Shows IsOfTurn) (start_labels script lane place load drawn start)
   start_shows lane half running place load drawn (takes note changes) may = (tt, (tt, (refl, tt)))
   start_shows lane half running place load drawn (passes shown) may =
-      every-append (Shows IsOfTurn) (looks_empty script lane place) _ (empty_shows IsOfTurn lane place)
+      every-append (Shows IsOfTurn) (looks_empty script lane place) _ (empty_each (Shows IsOfTurn) script lane place tt)
       (tt, (subst IsOfTurn (sym may.next) (point_of_turn (next_time script half)), tt))
 
 -- what the parts of a lane show
@@ -157,12 +131,12 @@ module _ (names : SessionNames) (well : IsWellFormed names.script) (opener : Lis
       every-append (Shows IsOfTurn) (start_labels names.script lane part.place part.load part.drawn part.start)
       (end_labels part.end)
       (start_shows names.script lane _ _ part.place part.load part.drawn part.start may.starts)
-      (end_shows names.script names.told _ part.end may.ends)
+      (end_each (Shows IsOfTurn) names.script (holds_shown is_of_turn IsOfTurn (λ shown is. is)) names.told _ part.end may.ends)
 
   pub failed_shows : (part : FailedPart) → Every (Shows IsOfTurn) (labels_in names.script lane (failed part))
   failed_shows part =
       every-append (Shows IsOfTurn) (looks_empty names.script lane part.place) _
-      (empty_shows names.script IsOfTurn lane part.place) (tt, (refl, tt))
+      (empty_each (Shows IsOfTurn) names.script lane part.place tt) (tt, (refl, tt))
 
 -- all this lies within a round
 place_within : (script : ScriptModel) (of : Lane) (place : Place) → IsPlaceOn script of place → IsHandlers place
@@ -237,3 +211,27 @@ module _ (names : SessionNames) (well : IsWellFormed names.script) (logs : LogsV
       (worker_within n earlier part may))
       (λ earlier part may.
       every_all (WithinFor (opener_seat names.script)) (λ label away. absurd (away refl)) (opener_labels part))
+
+-- the reactor shows events of turns alone
+module _ (names : SessionNames) (well : IsWellFormed names.script) (logs : LogsView) (labels : ℕ → List Labelled)
+    (are : AreLabels names logs labels) (reactor_counted : reactor_lane names.script < lane_count names.script) where
+  reactor_part : (earlier : List Part) (part : Part) →
+      MayFollow names (logs.lists (opener_seat names.script)) (reactor_lane names.script) earlier part →
+      Every (Shows IsOfTurn) (labels_in names.script (reactor_lane names.script) part)
+  reactor_part earlier (idle step) may = (tt, tt)
+  reactor_part earlier (executed part) may = let strand = may.strand in absurd (omega (arith, strand))
+  reactor_part earlier (turned part) may =
+      turned_shows names well (logs.lists (opener_seat names.script)) (reactor_lane names.script) earlier part may
+  reactor_part earlier (failed part) may =
+      failed_shows names well (logs.lists (opener_seat names.script)) (reactor_lane names.script) earlier part
+  reactor_part earlier (missing place note) may = (tt, tt)
+
+  pub reactor_shows : (i : ℕ) (label : Labelled) → get_elem? (labels (reactor_lane names.script)) i ≡ some label →
+      Shows IsOfTurn label
+  reactor_shows i label at =
+      let made = are.lanes (reactor_lane names.script) reactor_counted in
+      every_at (Shows IsOfTurn) (labels (reactor_lane names.script))
+      (subst (Every (Shows IsOfTurn)) (sym made.are)
+      (every_made Part (labels_in names.script (reactor_lane names.script))
+      (MayFollow names (logs.lists (opener_seat names.script)) (reactor_lane names.script)) (Shows IsOfTurn) reactor_part
+      made.parts made.follow)) i label at

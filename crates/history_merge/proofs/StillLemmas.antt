@@ -23,9 +23,9 @@ use Rattle.history_rules.specs.Rounds.{AllQuiet, is_quiet, is_running}
 use Rattle.history_rules.specs.State.{State, act_at, call_at, phase_at}
 use Rattle.book_context.specs.Rest.{waits_inside}
 use Rattle.history_merge.proofs.AlikeLemmas.{never}
+use Rattle.history_merge.proofs.EachLabelLemmas.{is_of_execution}
 use Rattle.history_merge.proofs.NextCallLemmas.{in_opening}
 use Rattle.history_merge.proofs.SeesLemmas.{open_made, open_stopped}
-use Rattle.history_merge.proofs.WhoseLemmas.{is_of_execution}
 
 pub record IsStill (script : ScriptModel) (s : State) : Type 0 where
   pub quiet : AllQuiet s

@@ -1,148 +1,48 @@
 -- The rounds of the state stand as the opener's draws say.
-use Rattle.std.proofs.Common.{◌≡◌, ◌≢◌, ℕ, suc, ◌+◌, ◌≤◌, Bool, true, false, cond, List, [], ◌∷◌, ◌++◌, None, Some, inl, inr, length, refl, sym, ap, subst, ◌∙◌, arith}
-use Rattle.std.specs.Prelude.{◌&&◌, nat_lt, not, slice_get, slice_index, sum_by}
+use Rattle.std.proofs.Common.{◌≡◌, ◌≢◌, ℕ, suc, ◌+◌, ◌≤◌, Bool, true, false, cond, List, [], ◌∷◌, ◌++◌, inl, inr, length, refl, sym, ap, subst, ◌∙◌, arith}
+use Rattle.std.specs.Prelude.{◌&&◌, not, slice_get, sum_by}
 use Rattle.std.proofs.lemmas.Bool.{cases_eq}
 use Rattle.std.proofs.lemmas.List.{append-nil}
 use Rattle.std.proofs.lemmas.List.Sums.{sum_by-cons}
-use Rattle.asio_types.specs.Faults.{one_more}
 use Rattle.asio_types.specs.declared.event.Event.{Event}
 use Rattle.asio_types.specs.declared.event.Event.TheVariants as event
 use Rattle.session_script.specs.Script.{ScriptModel, opening_of, stops}
 use Rattle.session_script.specs.WellFormed.{IsWellFormed}
 use Rattle.strand_core.specs.declared.posted.Posted.{Posted}
-use Rattle.history_rules.specs.Legal.{after_event, context_after}
+use Rattle.history_rules.specs.Legal.{after_event}
 use Rattle.history_rules.specs.Rounds.{RoundIsOpen, restarts}
 use Rattle.history_rules.specs.State.{ContextState, State, first_context}
 use Rattle.history_rules.specs.declared.phase.Progress.{Progress}
 use Rattle.lane_clock.specs.declared.found.Change.{Change}
 use Rattle.lane_clock.specs.declared.found.Found.{Found}
-use Rattle.lane_clock.specs.declared.step.ClockStep.{ClockStep}
 use Rattle.lane_clock.specs.declared.step.ClockStep.TheVariants.{Draw}
 use Rattle.lane_clock.specs.ClockWord.{found_of}
 use Rattle.lane_clock.specs.History.{ClockEvent, Fits, IsSoundHistory, steps_under, word_after}
 use Rattle.lane_clock.specs.Steps.{draw_count, step_count}
 use Rattle.lane_clock.proofs.MomentLemmas.{Tail, sound_tail, tail_more, tail_refl}
-use Rattle.lane_context.specs.Labels.{AreDrawn, IsDrawn, Labelled, allots, begins, call_note, dispatches, ends, none_drawn, one_drawn, posts, returns, shows, silent, step_of, steps_in, stops_context}
+use Rattle.lane_context.specs.Labels.{Labelled, allots, shows, silent, step_of, steps_in}
 use Rattle.lane_context.specs.Logs.{AreLogs, LogsView, session_layout}
 use Rattle.lane_context.specs.Names.{SessionNames}
-use Rattle.lane_context.specs.OpenerLog.{ClosedPart, Closes, IsClosedPart, IsRestartedPart, MayFollowOpened, OpenerPart, closed, opened, opener_labels, resting, restarted, stand_after}
+use Rattle.lane_context.specs.OpenerLog.{ClosedPart, IsClosedPart, IsRestartedPart, MayFollowOpened, OpenerPart, closed, opened, opener_labels, resting, restarted, stand_after}
 use Rattle.lane_context.specs.SeatNumbers.{opener_seat}
 use Rattle.lane_context.specs.Stand.{Stand, after_draw, draws_of_call, first_stand, is_round_open, round_at, stand_from, wants_restart}
 use Rattle.lane_context.proofs.StandLemmas.{IsOpenStand, open_stand, stand_closed, stand_restarted}
-use Rattle.lane_map.specs.LaneNumbers.{asked_lane, cells_of}
 use Rattle.book_context.proofs.CountLemmas.{one_more-is}
 use Rattle.book_context.proofs.RecordRoomLemmas.{rounds-below}
 use Rattle.history_merge.proofs.DrawRoundLemmas.{every_here, nothing_in}
-use Rattle.history_merge.proofs.FrameLemmas.{IsWithinRound, RoundPart, opening-after, part-after, round_after, round_part}
+use Rattle.history_merge.proofs.EachLabelLemmas.{calls_each, is_of_execution}
+use Rattle.history_merge.proofs.FrameLemmas.{IsWithinRound, opening-after, part-after, round_part}
 use Rattle.history_merge.proofs.HistoryLemmas.{AreLabelled, IsPlain, label_of, shown_by, shown_in}
 use Rattle.history_merge.proofs.LabellingLemmas.{AreLabels}
 use Rattle.history_merge.proofs.OpenedLemmas.{left, opened_back, opened_stand}
 use Rattle.history_merge.proofs.OpenerLemmas.{stand_at, stand_here, stand_other}
 use Rattle.history_merge.proofs.OpenerPartLemmas.{IsClosingAt, closing_at, looks_still, opener_at, opener_follows, restart_at, stand_earlier, still_stand}
-use Rattle.history_merge.proofs.PartLemmas.{Every, IsMadeAt, every-append}
-use Rattle.history_merge.proofs.ShowsLemmas.{Shows, put_shows, within_round}
+use Rattle.history_merge.proofs.PartLemmas.{Every, IsMadeAt}
+use Rattle.history_merge.proofs.RoundEventLemmas.{IsNoRestart, IsNoRound, Rounds, base_kept, called_kept, closes_no_restart, closes_round, no_restart, rounds_in, rounds_kept, within_no_round}
+use Rattle.history_merge.proofs.ShowsLemmas.{Shows, holds_shown, within_round}
 use Rattle.history_merge.proofs.SoFarLemmas.{state_at, state_next, state_with}
 use Rattle.history_merge.proofs.StopLemmas.{Halts, halts-append, halts_of, halts_with, no_halts}
 use Rattle.history_merge.proofs.WordLemmas.{counts_of}
-
--- an event that neither restarts nor closes a round, and destroys no handler
-abbrev pub IsNoRound : Event → Type 0
-IsNoRound event.Ended = ⊥
-IsNoRound event.Stopped = ⊥
-IsNoRound event.Polled = ⊥
-IsNoRound event.Restart = ⊥
-IsNoRound (event.Dropped o mark) = ⊥
-IsNoRound _ = Unit {0}
-
-within_no_round : (script : ScriptModel) (shown : Event) → IsWithinRound script shown → IsNoRound shown
-within_no_round script event.Ended inside = inside
-within_no_round script event.Stopped inside = inside
-within_no_round script event.Polled inside = inside
-within_no_round script event.Restart inside = inside
-within_no_round script (event.Dropped o mark) inside = inside
-within_no_round script other inside = tt
-
--- the rounds that are closed, whether this one was restarted, and whether handlers are being destroyed
-pub record Rounds : Type 0 where
-  pub closings : ℕ
-  pub restarted : Bool
-  pub dropping : Bool
-
-abbrev pub rounds_in : RoundPart → Rounds
-rounds_in part = record { closings = part.closings; restarted = part.restarted; dropping = part.dropping }
-
-rounds_kept : (shown : Event) (part : RoundPart) → IsNoRound shown → rounds_in (round_after shown part) ≡ rounds_in part
-rounds_kept event.Ended part none = absurd none
-rounds_kept event.Stopped part none = absurd none
-rounds_kept event.Polled part none = absurd none
-rounds_kept event.Restart part none = absurd none
-rounds_kept (event.Dropped o mark) part none = absurd none
-rounds_kept (event.Stop (Some a)) part none = refl
-rounds_kept (event.Stop None) part none = refl
-rounds_kept other part none = refl
-
--- what `open` calls shows no such event
-module _ (script : ScriptModel) where
-  call_kept : {made : Posted} {labels : List Labelled} → IsDrawn script made labels → Every (Shows IsNoRound) labels
-  call_kept begins = (tt, tt)
-  call_kept (posts {act} {place} {found} isnt outside) = (
-    tt,
-    (
-      tt,
-      put_shows IsNoRound (nat_lt place (slice_index (cells_of script) (asked_lane script act))) _ place (call_note act),
-    ),
-  )
-  call_kept (dispatches isnt within) = (tt, tt)
-  call_kept (stops_context is) = (tt, (tt, tt))
-  call_kept returns = (tt, tt)
-  call_kept ends = (tt, tt)
-
-  calls_kept : {calls : List Posted} {labels : List Labelled} → AreDrawn script calls labels →
-      Every (Shows IsNoRound) labels
-  calls_kept none_drawn = tt
-  calls_kept (one_drawn {calls} {call = one} {labels} {made} before now) =
-      every-append (Shows IsNoRound) labels made (calls_kept before) (call_kept now)
-
--- an event that doesn't restart leaves the stops of the last restart
-abbrev IsNoRestart : Event → Type 0
-IsNoRestart event.Restart = ⊥
-IsNoRestart _ = Unit {0}
-
-no_restart : (shown : Event) → IsNoRound shown → IsNoRestart shown
-no_restart event.Restart none = none
-no_restart other none = tt
-
-base_kept : (shown : Event) (halts : Halts) → IsNoRestart shown → (halts_with shown halts).base ≡ halts.base
-base_kept event.Restart halts none = absurd none
-base_kept (event.Stop by) halts none = refl
-base_kept event.Fault halts none = refl
-base_kept event.Ended halts none = refl
-base_kept other halts none = refl
-
-closes_no_restart : (script : ScriptModel) (lists : ℕ → List ClockStep) (earlier : List OpenerPart) (part : ClosedPart)
-    (shown : Event) → Closes script lists earlier part shown → IsNoRestart shown
-closes_no_restart script lists earlier part event.Ended closes = tt
-closes_no_restart script lists earlier part event.Stopped closes = tt
-closes_no_restart script lists earlier part event.Polled closes = tt
-closes_no_restart script lists earlier part other closes = absurd closes
-
--- what a closing makes of the rounds
-record ClosesRound (s t : ContextState) : Type 0 where
-  closings : t.closings ≡ one_more s.closings
-  restarted : t.restarted ≡ false
-  dropping : t.dropping ≡ s.dropping
-  opening : t.opening ≡ s.opening
-
-closes_round : (script : ScriptModel) (lists : ℕ → List ClockStep) (earlier : List OpenerPart) (part : ClosedPart)
-    (shown : Event) → Closes script lists earlier part shown → (s : ContextState) →
-    ClosesRound s (context_after script s shown)
-closes_round script lists earlier part event.Ended closes s =
-    record { closings = refl; restarted = refl; dropping = refl; opening = refl }
-closes_round script lists earlier part event.Stopped closes s =
-    record { closings = refl; restarted = refl; dropping = refl; opening = refl }
-closes_round script lists earlier part event.Polled closes s =
-    record { closings = refl; restarted = refl; dropping = refl; opening = refl }
-closes_round script lists earlier part other closes s = absurd closes
 
 -- the rounds of a context stand so
 pub record HasStand (script : ScriptModel) (stand : Stand) (s : ContextState) : Type 0 where
@@ -298,7 +198,8 @@ module _ (names : SessionNames) (well : IsWellFormed names.script) (logs : LogsV
           open_shows =
               every_here (Shows IsNoRound) at.before (shows shown changes found) at.after
               (subst (Every (Shows IsNoRound)) (labels_of_part (opened calls made) here)
-              (calls_kept names.script (part_follows (opened calls made) here).drawn))
+              (calls_each (Shows IsNoRound) names.script (holds_shown is_of_execution IsNoRound called_kept)
+              (part_follows (opened calls made) here).drawn))
 
           opened_next : HasStand names.script stand old.context → Next
           opened_next has =

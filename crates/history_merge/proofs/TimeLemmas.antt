@@ -13,11 +13,12 @@ use Rattle.lane_clock.specs.History.{ClockEvent, Fits, IsSoundHistory, places_af
 use Rattle.lane_clock.proofs.KnownLemmas.{event, under_same}
 use Rattle.lane_clock.proofs.MomentLemmas.{Tail, moment_of, sound_tail, tail_length, tail_more, tail_same, tails_order, under_length}
 use Rattle.lane_context.specs.Labels.{Labelled, allots, shows, silent, step_of}
-use Rattle.history_merge.proofs.CountedLemmas.{counted-append, counted_in, is_counted}
+use Rattle.history_merge.proofs.CountedLemmas.{counted_in, is_counted}
 use Rattle.history_merge.proofs.DatesLemmas.{IsShownAt, shown_among, shown_now}
 use Rattle.history_merge.proofs.HistoryLemmas.{AreLabelled, label_of, shown_by, shown_in}
 use Rattle.history_merge.proofs.PartLemmas.{at_left, at_right}
 use Rattle.reactor_turns.proofs.SummingLemmas.{one_if}
+use Rattle.history_merge.proofs.TimesLemmas.{times-append}
 
 -- the label of the newest step
 abbrev newest : (ℕ → List Labelled) → Labelled → List ClockEvent → Labelled
@@ -192,7 +193,7 @@ module _ (labels : ℕ → List Labelled) where
   count_tail a (e ∷ es) (inl same) = let all = ap (λ hs. counted_in (shown_in labels hs)) same in omega (arith, all)
   count_tail a (e ∷ es) (inr tail) =
       let rest = count_tail a es tail in
-      let both = counted-append (shown_in labels es) (shown_by (label_of labels es e)) in
+      let both = times-append is_counted (shown_in labels es) (shown_by (label_of labels es e)) in
       omega (arith, rest, both)
 
   -- Of two labels that were made the one is before the other
@@ -238,7 +239,7 @@ module _ (labels : ℕ → List Labelled) where
         counted_in (shown_in labels first.older) < counted_in (shown_in labels second.older)
     shown_before shown changes found is counts before =
         let most = count_tail (first.e ∷ first.older) second.older before in
-        let both = counted-append (shown_in labels first.older) (shown_by (label_of labels first.older first.e)) in
+        let both = times-append is_counted (shown_in labels first.older) (shown_by (label_of labels first.older first.e)) in
         let here : counted_in (shown_by (label_of labels first.older first.e)) ≡ one_if (is_counted shown) + 0 =
         ap (λ label. counted_in (shown_by label)) (first.is ∙ is) in
         let one : one_if (is_counted shown) ≡ 1 = ap one_if counts in

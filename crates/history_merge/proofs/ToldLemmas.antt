@@ -25,7 +25,7 @@ use Rattle.lane_context.specs.Names.{SessionNames}
 use Rattle.lane_context.specs.Parts.{FailedPart, Part, TurnEnd, TurnStart, end_labels, executed, failed, fails, idle, labels_in, looks_empty, missing, passes, start_labels, takes, tells, turned}
 use Rattle.lane_context.specs.ReactorTurns.{AreTold, EndsTurn, MayStartTurn, done_labels, done_note, none_told, one_told, point_event}
 use Rattle.lane_context.specs.SeatNumbers.{lane_count, opener_seat}
-use Rattle.history_merge.proofs.HalfLemmas.{is_of_turn}
+use Rattle.history_merge.proofs.EachLabelLemmas.{is_of_turn}
 use Rattle.history_merge.proofs.LabellingLemmas.{AreLabels}
 use Rattle.history_merge.proofs.PartLemmas.{Follow, all_made}
 

@@ -1,6 +1,6 @@
 -- An event of a turn of the reactor, by where it stands in its part; and that the turn goes on until its last completion.
-use Rattle.std.proofs.Common.{◌≡◌, ℕ, ◌+◌, ◌<◌, Bool, true, false, cond, List, [], ◌∷◌, ◌++◌, None, Some, inl, inr, length, refl, sym, ap, subst, ◌∙◌, arith}
-use Rattle.std.specs.Prelude.{IsSome, nat_lt, slice_index}
+use Rattle.std.proofs.Common.{◌≡◌, ℕ, ◌+◌, ◌<◌, Bool, true, false, List, [], ◌∷◌, ◌++◌, None, Some, inl, inr, length, refl, sym, ap, subst, ◌∙◌, arith}
+use Rattle.std.specs.Prelude.{IsSome}
 use mathlib.Core.Option.{some}
 use lib.ListN.{get_elem?}
 use Rattle.asio_types.specs.declared.event.Event.{Event}
@@ -14,22 +14,22 @@ use Rattle.history_rules.specs.Time.{next_time}
 use Rattle.lane_clock.specs.declared.found.Change.{Change}
 use Rattle.lane_clock.specs.declared.found.Change.TheVariants as change
 use Rattle.lane_clock.specs.declared.found.Found.{Found}
-use Rattle.lane_clock.specs.declared.note.Note.{Note}
 use Rattle.lane_clock.specs.declared.step.ClockStep.{ClockStep}
-use Rattle.lane_clock.specs.declared.step.ClockStep.TheVariants.{Draw, Load, Look, Put}
+use Rattle.lane_clock.specs.declared.step.ClockStep.TheVariants.{Draw, Load}
 use Rattle.lane_clock.specs.History.{ClockEvent, steps_under}
 use Rattle.lane_clock.proofs.KnownLemmas.{at_within, event as made_event}
 use Rattle.lane_clock.proofs.MomentLemmas.{Tail, tail_more, tail_refl, under_length}
-use Rattle.lane_map.specs.LaneNumbers.{cells_of, home_lane}
+use Rattle.lane_map.specs.LaneNumbers.{home_lane}
 use Rattle.lane_context.specs.Half.{half_from}
 use Rattle.lane_context.specs.Labels.{Labelled, allots, entries_in, shows, silent}
 use Rattle.lane_context.specs.LaneLog.{IsTurnPart, MayFollow, half_after}
 use Rattle.lane_context.specs.Logs.{AreLogs, LogsView}
 use Rattle.lane_context.specs.Names.{SessionNames}
 use Rattle.lane_context.specs.Parts.{Part, TurnPart, TurnStart, labels_in, looks_empty, passes, start_labels, takes, turned}
-use Rattle.lane_context.specs.ReactorTurns.{AreTold, MayStartTurn, done_labels, done_note, none_told, one_told, point_event, start_event}
+use Rattle.lane_context.specs.ReactorTurns.{AreTold, MayStartTurn, point_event, start_event}
 use Rattle.lane_context.specs.SeatNumbers.{lane_count, opener_seat}
 use Rattle.history_merge.proofs.BetweenLemmas.{IsOwnMoment, own_moment, take_whole}
+use Rattle.history_merge.proofs.EachLabelLemmas.{HoldsOf, empty_each, told_each}
 use Rattle.history_merge.proofs.FrameLemmas.{RoundPart, part-after, round_after, round_part}
 use Rattle.history_merge.proofs.GoingLemmas.{IsDrawing, turned_draws}
 use Rattle.history_merge.proofs.HistoryLemmas.{label_of, shown_in}
@@ -81,29 +81,14 @@ others_leave event.Polled (inl is) = absurd (cc)
 others_leave event.Polled (inr is) = absurd (cc)
 others_leave other is = refl
 
-put_leaves : (within : Bool) (lane place : ℕ) (note : Note) →
-    Every LeavesTurn (cond within (silent (Put lane place note) ∷ []) [])
-put_leaves true lane place note = (tt, tt)
-put_leaves false lane place note = tt
-
-look_leaves : (within : Bool) (lane place : ℕ) → Every LeavesTurn (cond within (silent (Look lane place None) ∷ []) [])
-look_leaves true lane place = (tt, tt)
-look_leaves false lane place = tt
+holds_leaving : HoldsOf leaves_turn LeavesTurn
+holds_leaving = record {
+  events = λ shown is changes found. is;
+  places = λ act lane place. tt;
+  puts = λ lane place note. tt;
+}
 
 module _ (script : ScriptModel) (told : Bool) where
-  -- a turn's completions leave it
-  told_leave : (from : ReactorHalf) {labels : List Labelled} → AreTold script told from labels → Every LeavesTurn labels
-  told_leave from none_told = tt
-  told_leave from (one_told {labels} op with_code size place found before may) =
-      every-append LeavesTurn labels (done_labels script op with_code size place found) (told_leave from before) (
-        tt,
-        (
-          refl,
-          put_leaves (nat_lt place (slice_index (cells_of script) (home_lane script op))) _ place
-              (done_note op with_code size),
-        ),
-      )
-
   point_starts : (to : Point) (part : RoundPart) → (round_after (point_event to) part).turn ≡ Some part.events
   point_starts (point.Time now) part = refl
   point_starts point.Last part = refl
@@ -125,7 +110,7 @@ module _ (script : ScriptModel) (told : Bool) where
     start_leaves (takes note changes) may = (tt, (tt, (refl, tt)))
     start_leaves (passes shown) may =
         every-append LeavesTurn (looks_empty script lane place) _
-        (look_leaves (nat_lt place (slice_index (cells_of script) lane)) lane place)
+        (empty_each LeavesTurn script lane place tt)
         (tt, (ap leaves_turn may.next ∙ point_leaves (next_time script half), tt))
 
   -- where the label of the first event stands
@@ -239,7 +224,7 @@ module _ (names : SessionNames) (logs : LogsView) (labels : ℕ → List Labelle
           (start_leaves names.script names.told e.by t.part.place half_before _ t.part.load t.part.drawn t.part.start
           turn_may.starts)
           (every-append LeavesTurn rest (allots op (home_lane names.script op) cell ∷ [])
-          (told_leave names.script names.told
+          (told_each LeavesTurn names.script leaves_turn holds_leaving (λ op size with_code. refl) names.told
           (reactor_after names.script names.told half_before (start_event t.part.start)) told_so) (tt, tt)))
 
       begun_at : (k : ℕ) × (changes : Change)

@@ -34,7 +34,7 @@ use Rattle.lane_context.specs.Labels.{Labelled, allots, entries_in, shows, silen
 use Rattle.lane_context.specs.LaneLog.{FoundGoing, MayFollow, half_after, opener_after}
 use Rattle.lane_context.specs.Logs.{AreLogs, LogsView}
 use Rattle.lane_context.specs.Names.{SessionNames}
-use Rattle.lane_context.specs.Parts.{FailedPart, Part, TurnStart, executed, failed, fault_label, idle, labels_in, looks_empty, missing, passes, start_labels, takes, turned}
+use Rattle.lane_context.specs.Parts.{FailedPart, Part, TurnPart, TurnStart, executed, failed, fault_label, idle, labels_in, looks_empty, missing, passes, start_labels, takes, turned}
 use Rattle.lane_context.specs.ReactorTurns.{MayStartTurn, MayTakeNoted, point_event, start_event, take_change}
 use Rattle.lane_context.specs.SeatNumbers.{lane_count, opener_seat}
 use Rattle.lane_context.specs.Stand.{is_round_open, is_running_round, stand_of}
@@ -42,10 +42,11 @@ use Rattle.lane_context.proofs.PenLemmas.{entries-append}
 use Rattle.history_merge.proofs.AllowanceLemmas.{may_turn}
 use Rattle.history_merge.proofs.BetweenLemmas.{stand_since}
 use Rattle.history_merge.proofs.DrawRoundLemmas.{lane_at}
+use Rattle.history_merge.proofs.EachLabelLemmas.{empty_each}
 use Rattle.history_merge.proofs.GoingLemmas.{IsDrawing, failed_draws, round_known}
 use Rattle.history_merge.proofs.HalfLemmas.{half_from-append}
 use Rattle.history_merge.proofs.HistoryLemmas.{AreLabelled, label_of}
-use Rattle.history_merge.proofs.IdleLemmas.{IsSilent, is_idle, look_silent, silent_none, silent_take}
+use Rattle.history_merge.proofs.IdleLemmas.{IsSilent, is_idle, silent_none, silent_take}
 use Rattle.history_merge.proofs.LabellingLemmas.{AreLabels, lane_are}
 use Rattle.history_merge.proofs.PartLemmas.{Every, Follow, IsMadeAt, at_seam, every-append, every_at, every_so, follow_from, follows_at}
 use Rattle.history_merge.proofs.FirstLemmas.{IsNextRequest}
@@ -105,7 +106,7 @@ failed_in script at part =
         (
           refl,
           every-append IsSilent (looks_empty script at part.place) (silent (Load part.load) ∷ [])
-              (look_silent (nat_lt part.place (slice_index (cells_of script) at)) at part.place) (tt, tt),
+              (empty_each IsSilent script at part.place tt) (tt, tt),
         ),
         tt,
       ),
@@ -210,7 +211,7 @@ module _ (names : SessionNames) (well : IsWellFormed names.script) (logs : LogsV
     looks_silent : (start : TurnStart) → Every IsSilent (start_looks script e.by t.part.place start)
     looks_silent (takes note changes) = (tt, tt)
     looks_silent (passes shown) =
-        look_silent (nat_lt t.part.place (slice_index (cells_of script) e.by)) e.by t.part.place
+        empty_each IsSilent script e.by t.part.place tt
 
     -- behind these labels a turn begins
     abbrev IsBegin : TurnStart → Type 0
@@ -289,6 +290,19 @@ module _ (names : SessionNames) (well : IsWellFormed names.script) (logs : LogsV
       follows_at Part makes (MayFollow names opener e.by) parts (length (steps_under e.by es)) (label_of labels es e)
       (with_part p same) (are.lanes e.by within).follow
 
+  -- and the turn
+  abbrev turn_of : (part : TurnPart) → at.part ≡ turned part → IsTurnAt names logs labels logged are e es tail within
+  turn_of part same = record {
+    later = at.later;
+    part = part;
+    earlier = at.earlier;
+    before = at.before;
+    after = at.after;
+    parts_are = (with_part (turned part) same).parts_are;
+    labels_are = (with_part (turned part) same).labels_are;
+    index = at.index;
+  }
+
   module _ (shown : Event) (changes : Change) (found : Found) (drawn : label_of labels es e ≡ shows shown changes found)
     where
       -- where a turn begins the reactor's lane has an allowance left
@@ -306,15 +320,19 @@ module _ (names : SessionNames) (well : IsWellFormed names.script) (logs : LogsV
           (subst (λ earlier. FoundGoing names opener e.by earlier t.part.load) earlier
           (turn_may names logs labels logged are e es tail within t).going) reactor
 
+      -- a failure by itself
+      alone_in : (part : FailedPart) → at.part ≡ failed part → AloneIn at.before (shows shown changes found)
+      alone_in part same =
+          subst (AloneIn at.before) drawn
+          (each_at AloneIn [] at.before (label_of labels es e) at.after
+          (subst (EachBehind AloneIn []) (with_part (failed part) same).labels_are (failed_in script e.by part)))
+
       failed_by : (part : FailedPart) → at.part ≡ failed part → MayHappen script names.told s shown
       failed_by part same =
           let may = follows (failed part) same in
           let draws = failed_draws names opener e.by at.earlier part may in
           let here = with_part (failed part) same in
-          let alone : AloneIn at.before (shows shown changes found) =
-          subst (AloneIn at.before) drawn
-          (each_at AloneIn [] at.before (label_of labels es e) at.after
-          (subst (EachBehind AloneIn []) here.labels_are (failed_in script e.by part))) in
+          let alone = alone_in part same in
           let half : ReactorHalf = half_after names opener e.by at.earlier in
           let now : s.reactor ≡ half =
           half_within names logs labels logged are e es tail within here draws reactor es
@@ -335,56 +353,11 @@ module _ (names : SessionNames) (well : IsWellFormed names.script) (logs : LogsV
             });
           })
 
-      by_part : (p : Part) → at.part ≡ p → MayHappen script names.told s shown
-      by_part (idle step) same =
-          absurd (silent_label (makes (idle step)) at.before (label_of labels es e) at.after (tt, tt)
-          (with_part (idle step) same).labels_are shown changes found drawn)
-      by_part (executed part) same =
-          let may = follows (executed part) same in absurd (omega (arith, may.strand, reactor))
-      by_part (turned part) same =
-          let t : IsTurnAt names logs labels logged are e es tail within =
-          record {
-            later = at.later;
-            part = part;
-            earlier = at.earlier;
-            before = at.before;
-            after = at.after;
-            parts_are = (with_part (turned part) same).parts_are;
-            labels_are = (with_part (turned part) same).labels_are;
-            index = at.index;
-          } in
-          turn_event t shown
-          (subst
-          (InTurn script names.told e.by (half t) part.place part.load part.drawn part.start at.before) drawn
-          (turn_stands names logs labels logged are e es tail within t)) (may_begin t refl refl)
-      by_part (failed part) same = failed_by part same
-      by_part (missing place note) same =
-          absurd (silent_label (makes (missing place note)) at.before (label_of labels es e) at.after (tt, tt)
-          (with_part (missing place note) same).labels_are shown changes found drawn)
-
-      -- so what it draws is legal
-      pub turn_legal : MayHappen script names.told s shown
-      turn_legal = by_part at.part refl
-
-      -- and a take changes what it has to
-      change_by : (p : Part) → at.part ≡ p → (a : ℕ) → shown ≡ event.Take a → changes ≡ take_change script s.reactor a
-      change_by (idle step) same a takes_it =
-          absurd (silent_label (makes (idle step)) at.before (label_of labels es e) at.after (tt, tt)
-          (with_part (idle step) same).labels_are shown changes found drawn)
-      change_by (executed part) same a takes_it =
-          let may = follows (executed part) same in absurd (omega (arith, may.strand, reactor))
-      change_by (turned part) same a takes_it =
-          let t : IsTurnAt names logs labels logged are e es tail within =
-          record {
-            later = at.later;
-            part = part;
-            earlier = at.earlier;
-            before = at.before;
-            after = at.after;
-            parts_are = (with_part (turned part) same).parts_are;
-            labels_are = (with_part (turned part) same).labels_are;
-            index = at.index;
-          } in
+      -- what a turn takes changes what it has to
+      turn_changes : (part : TurnPart) → at.part ≡ turned part → (a : ℕ) → shown ≡ event.Take a →
+          changes ≡ take_change script s.reactor a
+      turn_changes part same a takes_it =
+          let t = turn_of part same in
           let is = turn_may names logs labels logged are e es tail within t in
           let behind : TakesIn script names.told e.by (half t) at.before (shows shown changes found) =
           subst (TakesIn script names.told e.by (half t) at.before) drawn
@@ -396,16 +369,36 @@ module _ (names : SessionNames) (well : IsWellFormed names.script) (logs : LogsV
           let now : s.reactor ≡ half t =
           half_now t ∙ ap (half_from script names.told (half t)) (silent_none at.before took.silent_before) in
           took.changed ∙ ap (λ r. take_change script r a) (sym now)
-      change_by (failed part) same a takes_it =
-          let here = with_part (failed part) same in
-          let alone : AloneIn at.before (shows shown changes found) =
-          subst (AloneIn at.before) drawn
-          (each_at AloneIn [] at.before (label_of labels es e) at.after
-          (subst (EachBehind AloneIn []) here.labels_are (failed_in script e.by part))) in
-          absurd (let wrong : event.Take a ≡ event.Fault = sym takes_it ∙ alone.0 in cc)
-      change_by (missing place note) same a takes_it =
+
+      -- what the reactor's lane draws is legal, and a take changes what it has to
+      record IsTurnEvent : Type 0 where
+        may : MayHappen script names.told s shown
+        changed : (a : ℕ) → shown ≡ event.Take a → changes ≡ take_change script s.reactor a
+
+      by_part : (p : Part) → at.part ≡ p → IsTurnEvent
+      by_part (idle step) same =
+          absurd (silent_label (makes (idle step)) at.before (label_of labels es e) at.after (tt, tt)
+          (with_part (idle step) same).labels_are shown changes found drawn)
+      by_part (executed part) same =
+          let may = follows (executed part) same in absurd (omega (arith, may.strand, reactor))
+      by_part (turned part) same = record {
+        may =
+            let t = turn_of part same in
+            turn_event t shown
+            (subst (InTurn script names.told e.by (half t) part.place part.load part.drawn part.start at.before) drawn
+            (turn_stands names logs labels logged are e es tail within t)) (may_begin t refl refl);
+        changed = turn_changes part same;
+      }
+      by_part (failed part) same = record {
+        may = failed_by part same;
+        changed = λ a takes_it. absurd (let wrong : event.Take a ≡ event.Fault = sym takes_it ∙ (alone_in part same).0 in cc);
+      }
+      by_part (missing place note) same =
           absurd (silent_label (makes (missing place note)) at.before (label_of labels es e) at.after (tt, tt)
           (with_part (missing place note) same).labels_are shown changes found drawn)
 
+      pub turn_legal : MayHappen script names.told s shown
+      turn_legal = (by_part at.part refl).may
+
       pub turn_change : (a : ℕ) → shown ≡ event.Take a → changes ≡ take_change script s.reactor a
-      turn_change = change_by at.part refl
+      turn_change = (by_part at.part refl).changed

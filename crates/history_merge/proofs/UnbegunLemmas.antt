@@ -24,10 +24,9 @@ use Rattle.lane_context.specs.SeatNumbers.{lane_count}
 use Rattle.history_merge.proofs.AlikeLemmas.{never}
 use Rattle.history_merge.proofs.BackLemmas.{allots_for}
 use Rattle.history_merge.proofs.BeginPartLemmas.{BeginsPart, begins_part, next_beyond, two_cuts}
-use Rattle.history_merge.proofs.BeyondLemmas.{reacts, reacts_total}
+use Rattle.history_merge.proofs.CellsEnoughLemmas.{reacts, reacts_total}
 use Rattle.history_merge.proofs.CellRoomLemmas.{told_once}
 use Rattle.history_merge.proofs.DatesLemmas.{is_past}
-use Rattle.history_merge.proofs.FewStopsLemmas.{take_times}
 use Rattle.history_merge.proofs.LabellingLemmas.{AreLabels}
 use Rattle.history_merge.proofs.NotBegunLemmas.{call_once, made_once, past_shown}
 use Rattle.history_merge.proofs.NoteLemmas.{IsDoneNote, IsNoted, IsNotedOp, call_note_op, lift_noted}
@@ -36,6 +35,7 @@ use Rattle.history_merge.proofs.ReactorPlaceLemmas.{awaits}
 use Rattle.history_merge.proofs.SoLemmas.{IsSo, state_so}
 use Rattle.history_merge.proofs.StagedLemmas.{IsNextOf, executing_op, label, labelled_to, next_of, off_others, reactor_within}
 use Rattle.history_merge.proofs.TimeLemmas.{IsMade, made_shown, made_within, shown_made}
+use Rattle.history_merge.proofs.TimesLemmas.{take_times}
 
 one_most : (b : Bool) → one_if b ≤ 1
 one_most true = omega arith
@@ -58,7 +58,7 @@ module _ (names : SessionNames) (well : IsWellFormed names.script) (logs : LogsV
         let all = labelled_to names well logs labels logged are es tail in
         let count = reacts_total labels r (allots_for o) es all in
         let fewer = take_times (allots_for o) (labels r) (length (steps_under r es)) in
-        let once = told_once names well logs labels logged are es tail all so.expected o in
+        let once = told_once names well logs labels are o in
         let most = one_most (awaits names.script o) in
         let passes : (r == r && o == o) ≡ true = both (r == r) (o == o) (eq-eqb r r refl) (eq-eqb o o refl) in
         let same : allots o n m ≡ allots o n p =

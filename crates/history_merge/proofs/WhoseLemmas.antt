@@ -1,17 +1,11 @@
 -- Whose events: those of a lane that isn't the reactor's are of executions, those of a worker are stops from outside.
-use Rattle.std.proofs.Common.{◌≡◌, ◌≢◌, ◌⊎◌, ℕ, Bool, true, false, cond, List, [], ◌∷◌, Some, inl, inr, refl}
-use Rattle.std.specs.Prelude.{nat_lt, slice_index}
+use Rattle.std.proofs.Common.{◌≡◌, ◌≢◌, ◌⊎◌, ℕ, true, List, inl, inr, refl}
 use mathlib.Core.Option.{some}
 use lib.ListN.{get_elem?}
 use Rattle.asio_types.specs.declared.event.Event.{Event}
-use Rattle.asio_types.specs.declared.event.Event.TheVariants as event
-use Rattle.session_script.specs.Script.{ScriptModel}
 use Rattle.history_rules.specs.FromOutside.{is_outside_stop}
-use Rattle.strand_core.specs.declared.posted.Posted.{Posted}
-use Rattle.lane_clock.specs.declared.note.Note.{Note}
-use Rattle.lane_clock.specs.declared.step.ClockStep.TheVariants.{Put}
-use Rattle.lane_map.specs.LaneNumbers.{asked_lane, cells_of, reactor_lane}
-use Rattle.lane_context.specs.Labels.{AreDrawn, IsDrawn, Labelled, allots, begins, call_note, dispatches, ends, none_drawn, one_drawn, posts, returns, shows, silent, stops_context}
+use Rattle.lane_map.specs.LaneNumbers.{reactor_lane}
+use Rattle.lane_context.specs.Labels.{Labelled, allots, shows, silent}
 use Rattle.lane_context.specs.LaneLog.{MayFollow}
 use Rattle.lane_context.specs.Logs.{LogsView}
 use Rattle.lane_context.specs.Names.{SessionNames}
@@ -19,17 +13,9 @@ use Rattle.lane_context.specs.OpenerLog.{opener_labels}
 use Rattle.lane_context.specs.Parts.{Part, executed, failed, idle, labels_in, missing, turned}
 use Rattle.lane_context.specs.SeatNumbers.{opener_seat}
 use Rattle.lane_context.specs.WorkerLog.{MayFollowStopped, WorkerPart, stopped, waiting}
+use Rattle.history_merge.proofs.EachLabelLemmas.{HoldsOf, calls_each, is_of_execution}
 use Rattle.history_merge.proofs.LabellingLemmas.{AreLabels, each_label}
-use Rattle.history_merge.proofs.PartLemmas.{Every, every-append, every_all, every_so, labels_worker}
-
--- an event of an execution
-abbrev pub is_of_execution : Event → Bool
-is_of_execution (event.Call a) = true
-is_of_execution (event.Stop (Some a)) = true
-is_of_execution (event.Back a) = true
-is_of_execution (event.Begin o code size) = true
-is_of_execution (event.End o mark) = true
-is_of_execution _ = false
+use Rattle.history_merge.proofs.PartLemmas.{Every, every_all, every_so, labels_worker}
 
 -- an event of an execution, or a worker's
 abbrev pub IsOthers : Event → Type 0
@@ -40,28 +26,12 @@ ShowsOthers (silent step) = Unit {0}
 ShowsOthers (shows shown changes found) = IsOthers shown
 ShowsOthers (allots act lane place) = Unit {0}
 
-put_others : (within : Bool) (lane place : ℕ) (note : Note) →
-    Every ShowsOthers (cond within (silent (Put lane place note) ∷ []) [])
-put_others true lane place note = (tt, tt)
-put_others false lane place note = tt
-
-module _ (script : ScriptModel) where
-  call_others : {made : Posted} {labels : List Labelled} → IsDrawn script made labels → Every ShowsOthers labels
-  call_others begins = (inl refl, tt)
-  call_others (posts {act} {place} {found} isnt outside) = (
-    inl refl,
-    (tt, put_others (nat_lt place (slice_index (cells_of script) (asked_lane script act))) _ place (call_note act)),
-  )
-  call_others (dispatches isnt within) = (inl refl, tt)
-  call_others (stops_context is) = (inl refl, (inl refl, tt))
-  call_others returns = (inl refl, tt)
-  call_others ends = (inl refl, tt)
-
-  calls_others : {calls : List Posted} {labels : List Labelled} → AreDrawn script calls labels →
-      Every ShowsOthers labels
-  calls_others none_drawn = tt
-  calls_others (one_drawn {calls} {call = one} {labels} {made} before now) =
-      every-append ShowsOthers labels made (calls_others before) (call_others now)
+holds_others : HoldsOf is_of_execution ShowsOthers
+holds_others = record {
+  events = λ shown is changes found. inl is;
+  places = λ act lane place. tt;
+  puts = λ lane place note. tt;
+}
 
 module _ (names : SessionNames) (logs : LogsView) (labels : ℕ → List Labelled) (are : AreLabels names logs labels) where
   abbrev Theirs : ℕ → Labelled → Type 0
@@ -75,7 +45,8 @@ module _ (names : SessionNames) (logs : LogsView) (labels : ℕ → List Labelle
     (λ away off. tt),
     (
       (λ away off. tt),
-      every_so ShowsOthers (Theirs lane) (λ label is away off. is) part.labels (calls_others names.script may.drawn),
+      every_so ShowsOthers (Theirs lane) (λ label is away off. is) part.labels
+          (calls_each ShowsOthers names.script holds_others may.drawn),
     ),
   )
   lane_others lane earlier (turned part) may =

@@ -107,7 +107,7 @@ module _ (script : ScriptModel) (a : ℕ) (within : a < length script.acts) wher
       let halts : stops script a ≡ is_stop e.act = rw stands refl in
       (λ i. posts i || (operates i || controls i)) ∙ (kinds e.act ∙ sym (ap not halts))
 
-  accepted_out : is_outstanding (accepted script a) false ≡ not (stops script a)
+  pub accepted_out : is_outstanding (accepted script a) false ≡ not (stops script a)
   accepted_out = by_inline (is_inline script a) refl
     where
       by_inline : (inside : Bool) → is_inline script a ≡ inside →

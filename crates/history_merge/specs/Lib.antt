@@ -2,4 +2,6 @@ pub mod Among
 pub mod Merging
 pub mod Ordering
 pub mod Placing
+pub mod Receipts
+pub mod Room
 pub mod Solo

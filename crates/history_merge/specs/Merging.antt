@@ -12,18 +12,25 @@ use Rattle.history_rules.specs.Time.{IsIdle}
 use Rattle.lane_clock.specs.declared.step.ClockStep.TheVariants.{Place}
 use Rattle.lane_clock.specs.Rule.{StepAt}
 use Rattle.lane_map.specs.LaneNumbers.{cells_of, reactor_lane}
+use Rattle.lane_context.specs.declared.log.LogEntry.{LogEntry}
 use Rattle.lane_context.specs.Half.{half_of}
 use Rattle.lane_context.specs.Logs.{AreLogs, LogsView, entries_of, missed_by}
 use Rattle.lane_context.specs.Names.{SessionNames}
 use Rattle.lane_context.specs.SeatNumbers.{IsWorkerSeat, lane_count}
 use Rattle.history_merge.specs.Ordering.{IsInOrder}
 
--- A history is the merging of logs: their entries in the order of their positions, and behind them
--- the drops.
-pub record IsMerging (logs : LogsView) (events : List Event) : Type 0 where
+-- the entries of logs in the order of their positions, which are the numbers below a count, and behind
+-- them the drops
+pub record IsPutTogether (logs : List (List LogEntry)) (count : ℕ) (drops events : List Event)
+    : Type 0 where
   pub drawn : List Event
-  pub is : events ≡ drawn ++ logs.drops
-  pub ordered : IsInOrder logs.entries logs.last.clock drawn
+  pub is : events ≡ drawn ++ drops
+  pub ordered : IsInOrder logs count drawn
+
+-- A history is the merging of the logs of a session: their entries in the order of their positions, and
+-- behind them the drops.
+abbrev pub IsMerging : LogsView → List Event → Type 0
+IsMerging logs events = IsPutTogether logs.entries logs.last.clock logs.drops events
 
 -- what a lane saw at its next place was there to be executed or taken
 abbrev pub NoneIsMissing : ScriptModel → LogsView → Type 0

@@ -4,6 +4,8 @@ ghost use Rattle.lane_context.specs.Names.{SessionNames};
 ghost use Rattle.history_merge.specs.Among.{ExecutionsStayLegal};
 ghost use Rattle.history_merge.specs.Merging.{MergedIsLegal};
 ghost use Rattle.history_merge.specs.Ordering.{ArePositioned};
+ghost use Rattle.history_merge.specs.Receipts.{ReceiptsOfSessionsHold, UnfoundAreAbsent};
+ghost use Rattle.history_merge.specs.Room.{MergedFits};
 
 use lane_clock::positions_are_drawn_once;
 
@@ -28,4 +30,25 @@ pub fn logs_are_positioned()
 /// which their steps came, whether the reactor tells its bytes or not.
 pub fn merged_logs_are_legal()
     ensures { MergedIsLegal }
+{}
+
+/// The history of a session, its drops among it, has no more events than its script says: so room for
+/// it can be made before.
+pub fn merged_logs_fit()
+    ensures { MergedFits }
+{
+    logs_are_positioned();
+}
+
+/// What a worker saw of an operation while others executed handlers holds in the merged history: an
+/// asynchronous operation completed with that code and size, and a posting was called. Of two
+/// asynchronous operations of one lane the one with the smaller place completed first.
+pub fn receipts_hold()
+    ensures { ReceiptsOfSessionsHold }
+{}
+
+/// Where a worker, behind the closing of the last round, finds no receipt of an operation that doesn't
+/// execute inside its call, the operation didn't complete, and if it is a posting it wasn't called.
+pub fn unfound_are_absent()
+    ensures { UnfoundAreAbsent }
 {}

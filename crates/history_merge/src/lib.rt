@@ -4,9 +4,14 @@
 #![tactic(auto)]
 
 mod law;
-mod merge;
+mod merging;
 mod ordering;
 mod placing;
+mod room;
 
-pub use law::{executions_stay_legal, logs_are_positioned, merged_logs_are_legal};
-pub use merge::merged;
+pub use law::{
+    executions_stay_legal, logs_are_positioned, merged_logs_are_legal, merged_logs_fit,
+    receipts_hold, unfound_are_absent,
+};
+pub use merging::{merge, put_together};
+pub use room::HistoryRoom;

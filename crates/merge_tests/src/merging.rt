@@ -4,7 +4,7 @@ use crate::drawing::{Draws, logs_of};
 use crate::wanted::{MEMORY, has_trace, is_legal};
 use asio_types::{Code, Event};
 use history_book::History;
-use history_merge::merged;
+use history_merge::{HistoryRoom, put_together};
 use session_script::read_script;
 use std::alloc::Global;
 use std::process::Abort;
@@ -23,18 +23,19 @@ fn merge<R: Abort>(
     assert!(rt; draws.len() <= 32);
     assert!(rt; drops.len() <= 32);
     let (logs, count) = logs_of(rt, alloc, seats, draws);
-    let room = Vec::with_capacity(alloc, 32).expect(rt, MEMORY);
-    let history = History::with_room(alloc, 64).expect(rt, MEMORY);
-    merged(logs.as_slice(), drops, count, room, history)
+    let room = HistoryRoom::with_room(alloc, 64).expect(rt, MEMORY);
+    put_together(logs.as_slice(), drops, count, room)
 }
 
-/// The logs of a row are put together into its history, which is legal.
+/// The logs of a row are put together into its history, which is legal; and room for the histories of
+/// its script is there.
 fn merges<R: Abort>(rt: &R, alloc: Global, row: &Row) {
     let (text, seats, draws, drops, trace) = *row;
     let history = merge(rt, alloc, seats, draws, drops);
     has_trace(rt, alloc, &history, trace, text);
     let script = read_script(alloc, text.as_bytes()).expect(rt, "a script");
     is_legal(rt, alloc, &script, history.events(), text);
+    let _room = HistoryRoom::make(alloc, &script).expect(rt, MEMORY);
 }
 
 #[test]
