@@ -1,0 +1,3 @@
+pub mod Futures
+pub mod Steps
+pub mod Tasks
