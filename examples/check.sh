@@ -1,6 +1,6 @@
 #!/usr/bin/env bash
-# Runs every example with 1, 2 and 4 workers in each round, and has its trace judged: it has to be that of a legal history, and
-# the stored one where one is stored. Ends with 'N passed, M failed'.
+# Runs every example with 1, 2, 4 and 16 workers in each round, and has its trace judged: it has to be that of a legal history, and
+# the stored one where one is stored. Then the same of 2,000 random scripts, where python3 is there. Ends with 'N passed, M failed'.
 set -u
 cd "$(dirname "$0")/.." || exit 1
 room=$(mktemp -d) || exit 1
@@ -25,7 +25,7 @@ passes() {
 passed=0
 failed=0
 for script in examples/*.session; do
-  for workers in 1 2 4; do
+  for workers in 1 2 4 16; do
     if passes "$script" "$workers"; then
       passed=$((passed + 1))
     else
@@ -34,5 +34,17 @@ for script in examples/*.session; do
     fi
   done
 done
+
+if command -v python3 > /dev/null; then
+  python3 examples/random_sessions.py check "$room" 2000 > "$room/random"
+  counts=$(sed -nE 's/^random_sessions: ([0-9]+) passed, ([0-9]+) failed$/\1 \2/p' "$room/random")
+  cat "$room/random"
+  # (where it didn't come to its last line, that is one failure)
+  read -r more less <<< "${counts:-0 1}"
+  passed=$((passed + more))
+  failed=$((failed + less))
+else
+  echo "examples: random scripts are skipped, since python3 isn't here"
+fi
 echo "examples: $passed passed, $failed failed"
 [ "$failed" = 0 ]

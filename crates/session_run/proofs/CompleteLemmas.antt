@@ -10,6 +10,7 @@ use Rattle.session_run.specs.Answer.{Does, HasFault, Says, Worked}
 use Rattle.session_run.specs.Given.{Given}
 use Rattle.session_run.specs.Run.{ShowsFault}
 use Rattle.session_run.specs.Form.{IsForm, IsGen, IsReadingForm, IsRunning, Reads}
+use Rattle.session_run.specs.Session.{Undisturbed}
 use Rattle.session_run.specs.declared.form.Form.{Form}
 use Rattle.session_run.specs.declared.form.Form.TheVariants as forms
 use Rattle.session_run.specs.declared.status.Status.{Status}
@@ -23,11 +24,6 @@ use Rattle.text_io.proofs.TextLemmas.{text_of}
 not_refused : (bytes : List ℕ) (script : ScriptModel) (rule line token : ℕ) → IsScript bytes script →
     HasFault bytes rule line token → ⊥
 not_refused bytes script rule line token is first = no_fault bytes script first.0 is first.1
-
--- neither out nor the reactor failed
-pub record Undisturbed {H : Type 0} (given : Given H) : Type 0 where
-  pub write : Stood given.out.faults_before given.out.faults_after
-  pub reactor : Stood given.reactor.sent.faults_before given.reactor.sent.faults_after
 
 -- the source told a script, and didn't fail
 pub record Told {H : Type 0} (given : Given H) (bytes : List ℕ) (script : ScriptModel) : Type 0 where

@@ -1,23 +1,20 @@
 -- What a context gives back is a run of its script.
-use Rattle.std.proofs.Common.{◌≡◌, ℕ, Bool, false, List, [], ◌∷◌, Option, Some, None, refl, subst, sym, ◌∙◌, IsTrue}
-use Rattle.std.specs.Prelude.{Contains, IfSome, MatchOption, is_some, map, ⊤}
+use Rattle.std.proofs.Common.{◌≡◌, ℕ, Bool, false, List, Option, Some, None, refl, subst, sym, ◌∙◌}
+use Rattle.std.specs.Prelude.{IfSome, MatchOption, is_some, map, ⊤}
 use Rattle.std.specs.Option.{option_map}
-use Rattle.asio_types.specs.Faults.{Rose}
 use Rattle.asio_types.specs.declared.event.Event.{Event}
-use Rattle.asio_types.specs.declared.event.Event.TheVariants as event
 use Rattle.session_script.specs.Script.{ScriptModel}
 use Rattle.reactor_trait.specs.Reactor.{Outside, ReactorState}
 use Rattle.history_book.specs.Trace.{AreEvents}
 use Rattle.book_context.specs.Finished.{IsFinished}
 use Rattle.history_rules.specs.Legal.{IsLegal, state_of}
-use Rattle.history_rules.specs.Marks.{HasMarks}
 use Rattle.history_rules.specs.State.{State}
 use Rattle.op_handlers.specs.Marks.{Marks}
 use Rattle.op_handlers.specs.Rack.{AllTaken}
 use Rattle.op_handlers.specs.declared.rack.Rack.{Rack}
 use Rattle.session_run.specs.Given.{SeenReactor, sent_outside}
 use Rattle.session_run.specs.RackMarks.{drop_mark, rack_run_mark}
-use Rattle.session_run.specs.Run.{IsRunOf, ShowsFault, ShowsNoFault, sent_by}
+use Rattle.session_run.specs.Run.{IsRunOf, sent_by}
 
 -- a reactor is seen to tell its bytes where it does
 seen_to_tell : (outside : Option Outside) → is_some (option_map sent_outside outside) ≡ is_some outside
@@ -45,20 +42,19 @@ seen_of first outside before after state =
       now = state.now;
     }
 
--- it is a run with these names
-run_by_names : {H : Type 0} (marks : H → Marks) (script : ScriptModel) (told : Bool) (run drop : ℕ → ℕ)
-    (before after : ℕ) (events : List Event) (state : ReactorState) (first outside : Option Outside)
-    (old new : Rack H) → run ≡ rack_run_mark marks old → drop ≡ drop_mark marks old → AllTaken old new →
-    told ≡ is_some (option_map sent_outside outside) → AreEvents events →
-    IsFinished script told run drop false before after events state outside →
+-- what a context gives back that was made for the script, the reactor and the rack
+pub run_of : {H : Type 0} (marks : H → Marks) (script : ScriptModel) (told : Bool) (before after : ℕ)
+    (events : List Event) (state : ReactorState) (first outside : Option Outside) (old new : Rack H) →
+    AllTaken old new → AreEvents events →
+    IsFinished script told (rack_run_mark marks old) (drop_mark marks old) false before after events state outside →
     IsRunOf marks script (seen_of first outside before after state) old new events
-run_by_names marks script told run drop before after events state first outside old new run_is drop_is spent told_is
-    numbers f =
+run_of marks script told before after events state first outside old new spent numbers f =
+    let told_is : told ≡ is_some (option_map sent_outside outside) =
+    sym f.still_told ∙ sym (seen_to_tell outside) in
     record {
       legal = subst (λ told. IsLegal script told events) told_is f.legal;
       numbers = numbers;
-      marked = subst (λ run. HasMarks run (drop_mark marks old) events) run_is
-          (subst (λ drop. HasMarks run drop events) drop_is f.marked);
+      marked = f.marked;
       spent = spent;
       unstopped = f.unstopped refl;
       faults = f.rose;
@@ -68,18 +64,3 @@ run_by_names marks script told run drop before after events state first outside 
       sent = λ quiet. subst (λ told. MatchOption (option_map sent_outside outside) ⊤
           (λ sent. sent ≡ sent_by (state_of script told events))) told_is (seen_sent outside (state_of script told events) (f.sent quiet));
     }
-
--- it is a run of the script that was named
-pub run_of : {H : Type 0} (marks : H → Marks) (named script : ScriptModel) (told : Bool) (run drop : ℕ → ℕ)
-    (faults before after : ℕ) (events : List Event) (state : ReactorState) (first outside : Option Outside) (old new : Rack H)
-    → named ≡ script → faults ≡ before → run ≡ rack_run_mark marks old → drop ≡ drop_mark marks old → AllTaken old new
-    → AreEvents events → (others : Bool) → others ≡ false
-    → IsFinished named told run drop others faults after events state outside
-    → IsRunOf marks script (seen_of first outside before after state) old new events
-run_of marks named script told run drop faults before after events state first outside old new named_is faults_is run_is
-    drop_is spent numbers others inside f =
-    subst (λ script. IsRunOf marks script (seen_of first outside before after state) old new events) named_is
-    (subst (λ before. IsRunOf marks named (seen_of first outside before after state) old new events) faults_is
-    (run_by_names marks named told run drop faults after events state first outside old new run_is drop_is spent
-    (sym f.still_told ∙ sym (seen_to_tell outside)) numbers
-    (subst (λ others. IsFinished named told run drop others faults after events state outside) inside f)))

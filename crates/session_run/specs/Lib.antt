@@ -7,5 +7,6 @@ pub mod Origin
 pub mod Outcome
 pub mod RackMarks
 pub mod Run
+pub mod Session
 pub mod Status
 pub mod Upgrade

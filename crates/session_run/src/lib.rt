@@ -6,10 +6,13 @@
 #![tactic(auto)]
 
 mod broken;
+mod context_kind;
 mod ending;
 mod form;
 mod last;
 mod noting;
+mod one_lock;
+mod one_session;
 mod origin;
 mod outcome;
 mod rounds;
@@ -22,5 +25,5 @@ mod writing;
 pub use form::{Form, asks_for_sockets};
 pub use last::end_buffered;
 pub use rounds::run_rounds;
-pub use session::asio_session;
+pub use session::{asio_session, book_session};
 pub use status::Status;

@@ -3,7 +3,7 @@
 ghost use Rattle.std.specs.Prelude.{◌<◌};
 
 use crate::marked::PLAIN;
-use crate::sessions::{Left, is_ended, is_judged, is_legal, left_by, session};
+use crate::sessions::{BOTH, Call, Left, is_ended, is_judged, is_legal, left_by, session};
 use crate::wanted::{MEMORY, has, is_bytes, is_lines, is_text, lacks, text_of};
 use crate::worked::REALISTIC;
 use asio_types::{SlowSink, SlowSource, SureSink, SureSource, TextSink, TextSource};
@@ -26,29 +26,36 @@ const LATE: &str = "session 1 strands 4 timers 4 open { expires 3 74 wait 3 3 - 
 fn left_where_fails<R: Abort + Threads + Wait + Sync>(
     rt: &R,
     alloc: Global,
+    call: Call,
     script: &str,
     fails: FailAt,
 ) -> Left {
-    left_by(rt, alloc, "run", script, &[fails], PLAIN)
+    left_by(rt, alloc, call, "run", script, &[fails], PLAIN)
 }
 
 const REACTOR_FAULT: &str = "asio_run: reactor fault\n";
 
 #[test]
 fn a_failing_reactor_ends_in_a_fault(rt: HostRuntime) {
-    let alloc = rt.alloc();
-    for &(script, method, trace) in FAULTS {
-        let left = left_where_fails(&rt, alloc, script, FailAt { method, nth: 1 });
-        is_ended(
-            &rt,
-            &left.ended,
-            Status::ReactorFault,
-            REACTOR_FAULT,
-            script,
-        );
-        is_lines(&rt, alloc, left.trace.as_str(), trace, script);
-        is_legal(&rt, alloc, script, left.trace.as_str());
+    for &call in BOTH {
+        for &row in FAULTS {
+            ends_in_a_fault(&rt, rt.alloc(), call, row);
+        }
     }
+}
+
+/// Where the first call of a method fails, a session writes this trace, which is legal.
+fn ends_in_a_fault<R: Abort + Threads + Wait + Sync>(
+    rt: &R,
+    alloc: Global,
+    call: Call,
+    row: (&str, Method, &str),
+) {
+    let (script, method, trace) = row;
+    let left = left_where_fails(rt, alloc, call, script, FailAt { method, nth: 1 });
+    is_ended(rt, &left.ended, Status::ReactorFault, REACTOR_FAULT, script);
+    is_lines(rt, alloc, left.trace.as_str(), trace, script);
+    is_legal(rt, alloc, script, left.trace.as_str());
 }
 
 /// Scripts with the method of which the first call fails, and their traces.
@@ -69,15 +76,17 @@ const FAULTS: &[(&str, Method, &str)] = &[
 
 /// Where the first call of a method fails, the trace of the realistic session has a fault, and no
 /// tick to 10.
-fn is_cut_off<R: Abort + Threads + Wait + Sync>(rt: &R, alloc: Global, method: Method) {
-    let left = left_where_fails(rt, alloc, REALISTIC, FailAt { method, nth: 1 });
+fn is_cut_off<R: Abort + Threads + Wait + Sync>(rt: &R, alloc: Global, call: Call, method: Method) {
+    let left = left_where_fails(rt, alloc, call, REALISTIC, FailAt { method, nth: 1 });
     lacks(rt, left.trace.as_str(), "tick 10", REALISTIC);
 }
 
 #[test]
 fn a_first_call_that_fails_cuts_the_session_off(rt: HostRuntime) {
-    for &method in METHODS {
-        is_cut_off(&rt, rt.alloc(), method);
+    for &call in BOTH {
+        for &method in METHODS {
+            is_cut_off(&rt, rt.alloc(), call, method);
+        }
     }
 }
 
@@ -93,11 +102,12 @@ fn shows_its_fault<R: Abort>(rt: &R, alloc: Global, left: &Left, script: &str) {
 fn calls_that_fail<R: Abort + Threads + Wait + Sync>(
     rt: &R,
     alloc: Global,
+    call: Call,
     script: &str,
     method: Method,
 ) -> u32 {
     for nth in 1..MOST_CALLS {
-        let left = left_where_fails(rt, alloc, script, FailAt { method, nth });
+        let left = left_where_fails(rt, alloc, call, script, FailAt { method, nth });
         if left.ended.status == Status::Done {
             return nth - 1;
         }
@@ -119,9 +129,11 @@ fn fails_each_time<R: Abort>(rt: &R, calls: u32, least: u32, script: &str) {
 
 #[test]
 fn each_call_of_the_reactor_may_fail(rt: HostRuntime) {
-    for &(script, method, least) in CALLED {
-        let calls = calls_that_fail(&rt, rt.alloc(), script, method);
-        fails_each_time(&rt, calls, least, script);
+    for &call in BOTH {
+        for &(script, method, least) in CALLED {
+            let calls = calls_that_fail(&rt, rt.alloc(), call, script, method);
+            fails_each_time(&rt, calls, least, script);
+        }
     }
 }
 
@@ -168,13 +180,14 @@ const METHODS: &[Method] = &[
 fn written_before<R: Abort + Threads + Wait + Sync>(
     rt: &R,
     alloc: Global,
+    call: Call,
     script: &str,
     nth: u32,
     fails: &[FailAt],
 ) -> String {
     let mut source = SureSource::make(alloc, script.as_bytes()).expect(rt, MEMORY);
     let mut out = TextSink::make(alloc, 4_096, &[nth]).expect(rt, MEMORY);
-    let ended = session(rt, alloc, "run", &mut source, &mut out, fails, PLAIN);
+    let ended = session(rt, alloc, call, "run", &mut source, &mut out, fails, PLAIN);
     is_ended(
         rt,
         &ended,
@@ -193,33 +206,39 @@ fn is_incomplete<R: Abort>(rt: &R, alloc: Global, trace: &str, line: u32) {
 
 #[test]
 fn a_failing_write_leaves_the_lines_before_it(rt: HostRuntime) {
-    for nth in 1..LINES + 1 {
-        let trace = written_before(&rt, rt.alloc(), REALISTIC, nth, &[]);
-        is_incomplete(&rt, rt.alloc(), trace.as_str(), nth - 1);
+    for &call in BOTH {
+        for nth in 1..LINES + 1 {
+            let trace = written_before(&rt, rt.alloc(), call, REALISTIC, nth, &[]);
+            is_incomplete(&rt, rt.alloc(), trace.as_str(), nth - 1);
+        }
     }
 }
 
 #[test]
 fn a_failing_write_comes_before_a_failing_reactor(rt: HostRuntime) {
-    for &method in &[Method::SetUp, Method::Advance] {
-        let fails = [FailAt { method, nth: 1 }];
-        let trace = written_before(&rt, rt.alloc(), CUT_OFF, 1, &fails);
-        is_text(&rt, trace.as_str(), "", CUT_OFF);
+    for &call in BOTH {
+        for &method in &[Method::SetUp, Method::Advance] {
+            let fails = [FailAt { method, nth: 1 }];
+            let trace = written_before(&rt, rt.alloc(), call, CUT_OFF, 1, &fails);
+            is_text(&rt, trace.as_str(), "", CUT_OFF);
+        }
     }
 }
 
 #[test]
 fn a_failing_read_runs_nothing(rt: HostRuntime) {
-    for &words in &["run", "upgrade"] {
-        runs_nothing(&rt, rt.alloc(), words);
+    for &call in BOTH {
+        for &words in &["run", "upgrade"] {
+            runs_nothing(&rt, rt.alloc(), call, words);
+        }
     }
 }
 
 /// Where the first read fails, a session of these words writes nothing.
-fn runs_nothing<R: Abort + Threads + Wait + Sync>(rt: &R, alloc: Global, words: &str) {
+fn runs_nothing<R: Abort + Threads + Wait + Sync>(rt: &R, alloc: Global, call: Call, words: &str) {
     let mut source = TextSource::make(alloc, REALISTIC.as_bytes(), &[1]).expect(rt, MEMORY);
     let mut out = SureSink::make(alloc, 256).expect(rt, MEMORY);
-    let ended = session(rt, alloc, words, &mut source, &mut out, &[], PLAIN);
+    let ended = session(rt, alloc, call, words, &mut source, &mut out, &[], PLAIN);
     is_ended(
         rt,
         &ended,
@@ -231,20 +250,27 @@ fn runs_nothing<R: Abort + Threads + Wait + Sync>(rt: &R, alloc: Global, words: 
 }
 
 /// The trace of the realistic session where each call moves so many bytes at the most.
-fn trace_by_steps<R: Abort + Threads + Wait + Sync>(rt: &R, alloc: Global, step: u32) -> String
+fn trace_by_steps<R: Abort + Threads + Wait + Sync>(
+    rt: &R,
+    alloc: Global,
+    call: Call,
+    step: u32,
+) -> String
     requires { 0 < step }
 {
     let mut source = SlowSource::make(alloc, REALISTIC.as_bytes(), step).expect(rt, MEMORY);
     let mut out = SlowSink::make(alloc, step, 4_096).expect(rt, MEMORY);
-    let ended = session(rt, alloc, "run", &mut source, &mut out, &[], PLAIN);
+    let ended = session(rt, alloc, call, "run", &mut source, &mut out, &[], PLAIN);
     assert_eq!(rt; ended.status, Status::Done, "step {step}");
     text_of(rt, alloc, out.bytes())
 }
 
 #[test]
 fn pieces_of_any_size_give_a_legal_trace(rt: HostRuntime) {
-    for step in [1, 2, 7] {
-        let trace = trace_by_steps(&rt, rt.alloc(), step);
-        is_legal(&rt, rt.alloc(), REALISTIC, trace.as_str());
+    for &call in BOTH {
+        for step in [1, 2, 7] {
+            let trace = trace_by_steps(&rt, rt.alloc(), call, step);
+            is_legal(&rt, rt.alloc(), REALISTIC, trace.as_str());
+        }
     }
 }

@@ -1,7 +1,7 @@
-//! Sessions that two numbers make: they write the same summary at each run.
+//! Sessions that two numbers make: they write the same summary at each run, by either call.
 
 use crate::marked::PLAIN;
-use crate::sessions::{Left, is_status, left_by};
+use crate::sessions::{BOTH, Call, Left, is_status, left_by};
 use crate::wanted::{has, is_lines, is_text};
 use reactor_script::{FailAt, Method};
 use session_run::Status;
@@ -14,11 +14,12 @@ use std::thread::Threads;
 fn made<R: Abort + Threads + Wait + Sync>(
     rt: &R,
     alloc: Global,
+    call: Call,
     words: &str,
     fails: &[FailAt],
     status: Status,
 ) -> Left {
-    let left = left_by(rt, alloc, words, "", fails, PLAIN);
+    let left = left_by(rt, alloc, call, words, "", fails, PLAIN);
     is_status(rt, left.ended.status, status, words);
     left
 }
@@ -26,9 +27,11 @@ fn made<R: Abort + Threads + Wait + Sync>(
 #[test]
 fn summaries_say_what_was_done(rt: HostRuntime) {
     let alloc = rt.alloc();
-    for &(words, fails, status, text) in SUMMARIES {
-        let left = made(&rt, alloc, words, fails, status);
-        is_lines(&rt, alloc, left.trace.as_str(), text, words);
+    for &call in BOTH {
+        for &(words, fails, status, text) in SUMMARIES {
+            let left = made(&rt, alloc, call, words, fails, status);
+            is_lines(&rt, alloc, left.trace.as_str(), text, words);
+        }
     }
 }
 
@@ -71,10 +74,10 @@ const SUMMARIES: &[(&str, &[FailAt], Status, &str)] = &[
 fn a_large_session_writes_the_same_again(rt: HostRuntime) {
     let alloc = rt.alloc();
     let words = "gen 7 1024";
-    let first = made(&rt, alloc, words, NONE, Status::Done);
+    let first = made(&rt, alloc, Call::Asio, words, NONE, Status::Done);
     has(&rt, first.trace.as_str(), "\nacts 1024\n", words);
-    for _ in 0..2u32 {
-        let again = left_by(&rt, alloc, words, "", NONE, PLAIN);
+    for &call in BOTH {
+        let again = left_by(&rt, alloc, call, words, "", NONE, PLAIN);
         is_text(&rt, again.trace.as_str(), first.trace.as_str(), words);
     }
 }

@@ -3,7 +3,7 @@
 
 ghost use Rattle.std.specs.Prelude.{◌<◌};
 
-use crate::sessions::is_status;
+use crate::sessions::{BOTH, Call, is_status};
 use crate::silent::{silent_session, silent_text};
 use crate::wanted::{MEMORY, is_bytes, is_lines, is_text, lines, text_of};
 use asio_types::{SlowSink, SlowSource, Source, SureSink, SureSource, TextSink, TextSource};
@@ -19,14 +19,13 @@ const ONE: &[u8] = b"session 1 open { post - { } } run 1";
 fn leaves<R: Abort + Threads + Wait + Sync>(
     rt: &R,
     alloc: Global,
-    words: &str,
-    room: u32,
-    fails: u32,
-    want: &str,
+    call: Call,
+    row: (&str, u32, u32, &str),
 ) {
+    let (words, room, fails, want) = row;
     let mut source = SureSource::make(alloc, ONE).expect(rt, MEMORY);
     let mut out = TextSink::make(alloc, room, &[fails]).expect(rt, MEMORY);
-    let left = silent_session(rt, alloc, words, &mut source, &mut out);
+    let left = silent_session(rt, alloc, call, words, &mut source, &mut out);
     is_status(rt, left.status, Status::WriteFault, words);
     is_bytes(rt, out.bytes(), want.as_bytes(), words);
     is_text(rt, left.note.as_str(), "asio_run: write fault\n", words);
@@ -34,8 +33,10 @@ fn leaves<R: Abort + Threads + Wait + Sync>(
 
 #[test]
 fn a_failing_write_leaves_a_first_part(rt: HostRuntime) {
-    for &(words, room, fails, want) in FIRST_PARTS {
-        leaves(&rt, rt.alloc(), words, room, fails, want);
+    for &call in BOTH {
+        for &row in FIRST_PARTS {
+            leaves(&rt, rt.alloc(), call, row);
+        }
     }
 }
 
@@ -50,12 +51,13 @@ const FIRST_PARTS: &[(&str, u32, u32, &str)] = &[
 fn reads<R: Abort + Threads + Wait + Sync>(
     rt: &R,
     alloc: Global,
+    call: Call,
     row: (&str, u32, Status, &str, &str),
 ) {
     let (words, fails, status, note, want) = row;
     let mut source = TextSource::make(alloc, ONE, &[fails]).expect(rt, MEMORY);
     let mut out = SureSink::make(alloc, 256).expect(rt, MEMORY);
-    let left = silent_session(rt, alloc, words, &mut source, &mut out);
+    let left = silent_session(rt, alloc, call, words, &mut source, &mut out);
     is_status(rt, left.status, status, words);
     is_text(rt, left.note.as_str(), note, words);
     is_lines(
@@ -69,8 +71,10 @@ fn reads<R: Abort + Threads + Wait + Sync>(
 
 #[test]
 fn a_failing_read_writes_nothing_and_none_follows_the_end(rt: HostRuntime) {
-    for &row in READS {
-        reads(&rt, rt.alloc(), row);
+    for &call in BOTH {
+        for &row in READS {
+            reads(&rt, rt.alloc(), call, row);
+        }
     }
 }
 
@@ -101,23 +105,35 @@ const READS: &[(&str, u32, Status, &str, &str)] = &[
 
 #[test]
 fn other_words_leave_the_source_unread(rt: HostRuntime) {
-    let alloc = rt.alloc();
-    let mut source = SureSource::make(alloc, b"session").expect(&rt, MEMORY);
-    let mut out = SureSink::make(alloc, 256).expect(&rt, MEMORY);
-    let left = silent_session(&rt, alloc, "run run", &mut source, &mut out);
-    is_status(&rt, left.status, Status::Usage, "");
+    for &call in BOTH {
+        leaves_unread(&rt, rt.alloc(), call);
+    }
+}
+
+/// A session of other words leaves all bytes of its source.
+fn leaves_unread<R: Abort + Threads + Wait + Sync>(rt: &R, alloc: Global, call: Call) {
+    let mut source = SureSource::make(alloc, b"session").expect(rt, MEMORY);
+    let mut out = SureSink::make(alloc, 256).expect(rt, MEMORY);
+    let left = silent_session(rt, alloc, call, "run run", &mut source, &mut out);
+    is_status(rt, left.status, Status::Usage, "");
     let mut buf = [0; 64];
     let read = source.read(&mut buf);
     assert_eq!(rt; read, Ok(7));
 }
 
 /// What a session writes where each call moves so many bytes at the most.
-fn writes_by_steps<R: Abort + Threads + Wait + Sync>(rt: &R, alloc: Global, step: u32, want: &str)
+fn writes_by_steps<R: Abort + Threads + Wait + Sync>(
+    rt: &R,
+    alloc: Global,
+    call: Call,
+    step: u32,
+    want: &str,
+)
     requires { 0 < step }
 {
     let mut source = SlowSource::make(alloc, ONE, step).expect(rt, MEMORY);
     let mut out = SlowSink::make(alloc, step, 256).expect(rt, MEMORY);
-    let left = silent_session(rt, alloc, "run", &mut source, &mut out);
+    let left = silent_session(rt, alloc, call, "run", &mut source, &mut out);
     assert_eq!(rt; left.status, Status::Done, "step {step}");
     is_bytes(rt, out.bytes(), want.as_bytes(), "");
 }
@@ -130,8 +146,10 @@ fn pieces_of_any_size_give_the_same(rt: HostRuntime) {
         alloc,
         "call 0 / back 0 / begin 0 ok 0 / end 0 1000 / ended",
     );
-    for step in [1, 2, 7] {
-        writes_by_steps(&rt, alloc, step, want.as_str());
+    for &call in BOTH {
+        for step in [1, 2, 7] {
+            writes_by_steps(&rt, alloc, call, step, want.as_str());
+        }
     }
 }
 
@@ -142,9 +160,11 @@ fn is_last<R: Abort>(rt: &R, last: (u64, u64), want: (u64, u64), text: &str) {
 
 #[test]
 fn each_handler_is_given_its_own_call(rt: HostRuntime) {
-    for &(text, want) in LAST_CALLS {
-        let (left, _) = silent_text(&rt, rt.alloc(), "run", text);
-        is_last(&rt, left.last, want, text);
+    for &call in BOTH {
+        for &(text, want) in LAST_CALLS {
+            let (left, _) = silent_text(&rt, rt.alloc(), call, "run", text);
+            is_last(&rt, left.last, want, text);
+        }
     }
 }
 

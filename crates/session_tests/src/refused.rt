@@ -1,7 +1,7 @@
 //! Texts that are no script, and words that are no form: nothing is written but the note.
 
 use crate::marked::PLAIN;
-use crate::sessions::{Left, is_ended, is_status, left_by, ran_well};
+use crate::sessions::{BOTH, Call, Left, is_ended, is_status, left_by, ran_well};
 use crate::wanted::{MEMORY, is_text};
 use crate::worked::REALISTIC;
 use session_run::Status;
@@ -18,12 +18,25 @@ fn is_refused<R: Abort>(rt: &R, alloc: Global, left: &Left, place: &str) {
 }
 
 /// A text is refused at this place, or is run where none is named.
-fn is_refused_at<R: Abort + Threads + Wait + Sync>(rt: &R, alloc: Global, text: &str, place: &str) {
+fn is_refused_by<R: Abort + Threads + Wait + Sync>(
+    rt: &R,
+    alloc: Global,
+    call: Call,
+    text: &str,
+    place: &str,
+) {
     if place.is_empty() {
-        let _ = ran_well(rt, alloc, text);
+        let _ = ran_well(rt, alloc, call, text);
     } else {
-        let left = left_by(rt, alloc, "run", text, &[], PLAIN);
+        let left = left_by(rt, alloc, call, "run", text, &[], PLAIN);
         is_refused(rt, alloc, &left, place);
+    }
+}
+
+/// The same of both calls.
+fn is_refused_at<R: Abort + Threads + Wait + Sync>(rt: &R, alloc: Global, text: &str, place: &str) {
+    for &call in BOTH {
+        is_refused_by(rt, alloc, call, text, place);
     }
 }
 
@@ -104,7 +117,7 @@ fn bodies_nest_as_deep_as_allowed(rt: HostRuntime) {
     }
 }
 
-/// A session of these words and this text has this status, and writes nothing.
+/// A session of either call with these words and this text has this status, and writes nothing.
 fn writes_nothing<R: Abort + Threads + Wait + Sync>(
     rt: &R,
     alloc: Global,
@@ -113,9 +126,11 @@ fn writes_nothing<R: Abort + Threads + Wait + Sync>(
     status: Status,
     row: &str,
 ) {
-    let left = left_by(rt, alloc, words, text, &[], PLAIN);
-    is_status(rt, left.ended.status, status, row);
-    is_text(rt, left.trace.as_str(), "", row);
+    for &call in BOTH {
+        let left = left_by(rt, alloc, call, words, text, &[], PLAIN);
+        is_status(rt, left.ended.status, status, row);
+        is_text(rt, left.trace.as_str(), "", row);
+    }
 }
 
 #[test]

@@ -10,7 +10,7 @@ use asio_types::{Bytes, Sink, Source, SureSink, SureSource};
 use op_handlers::{CompletionHandler, Rack};
 use reactor_script::{FailAt, ScriptReactor};
 use reactor_trait::Reactor;
-use session_run::{Status, asio_session};
+use session_run::{Status, asio_session, book_session};
 use session_script::MOST_ACTS;
 use std::alloc::Global;
 use std::process::Abort;
@@ -20,6 +20,17 @@ use trace_check::check_session;
 
 /// More bytes than the longest trace of these tests.
 pub(crate) const ROOM: u32 = 262_145;
+
+/// Which of the two calls a session is.
+#[derive(Clone, Copy)]
+pub(crate) enum Call {
+    /// `asio_session`.
+    Asio,
+    /// `book_session`, on the context with one lock.
+    Book,
+}
+
+pub(crate) const BOTH: &[Call] = &[Call::Asio, Call::Book];
 
 /// What a session came to.
 #[derive(Drop)]
@@ -52,8 +63,8 @@ pub(crate) fn notes_of<R: Abort>(rt: &R, alloc: Global) -> SureSink {
     SureSink::make(alloc, 256).expect(rt, MEMORY)
 }
 
-/// A session: the one call of all tests. What is promised of it stays here, since a test that knew
-/// it would be dear to prove.
+/// A session: the one place of both calls in all tests. What is promised of them stays here, since a
+/// test that knew it would be dear to prove.
 pub(crate) fn call_session<
     R: Threads + Wait + Sync,
     S: Source,
@@ -63,6 +74,7 @@ pub(crate) fn call_session<
 >(
     rt: &R,
     alloc: Global,
+    call: Call,
     words: &[String],
     source: &mut S,
     out: &mut K,
@@ -73,7 +85,10 @@ pub(crate) fn call_session<
     requires whole { IsWholeRack rack.old }
     requires count { length (handlers_in rack.old) ≡ most_acts }
 {
-    asio_session(rt, alloc, words, source, out, notes, reactor, rack)
+    match call {
+        Call::Asio => asio_session(rt, alloc, words, source, out, notes, reactor, rack),
+        Call::Book => book_session(rt, alloc, words, source, out, notes, reactor, rack),
+    }
 }
 
 /// What a session left, and its reactor.
@@ -89,6 +104,7 @@ pub(crate) struct Run<X> {
 pub(crate) fn session_over<R: Abort + Threads + Wait + Sync, S: Source, K: Sink, X: Reactor + Send>(
     rt: &R,
     alloc: Global,
+    call: Call,
     words: &str,
     source: &mut S,
     out: &mut K,
@@ -101,6 +117,7 @@ pub(crate) fn session_over<R: Abort + Threads + Wait + Sync, S: Source, K: Sink,
     let (status, reactor) = call_session(
         rt,
         alloc,
+        call,
         words.as_slice(),
         source,
         out,
@@ -121,6 +138,7 @@ pub(crate) fn session_over<R: Abort + Threads + Wait + Sync, S: Source, K: Sink,
 pub(crate) fn session<R: Abort + Threads + Wait + Sync, S: Source, K: Sink>(
     rt: &R,
     alloc: Global,
+    call: Call,
     words: &str,
     source: &mut S,
     out: &mut K,
@@ -128,7 +146,7 @@ pub(crate) fn session<R: Abort + Threads + Wait + Sync, S: Source, K: Sink>(
     marks: Marks,
 ) -> Ended {
     let reactor = ScriptReactor::make(alloc, fails).expect(rt, MEMORY);
-    let run = session_over(rt, alloc, words, source, out, reactor, marks);
+    let run = session_over(rt, alloc, call, words, source, out, reactor, marks);
     Ended {
         status: run.status,
         note: run.note,
@@ -140,6 +158,7 @@ pub(crate) fn session<R: Abort + Threads + Wait + Sync, S: Source, K: Sink>(
 pub(crate) fn left_by<R: Abort + Threads + Wait + Sync>(
     rt: &R,
     alloc: Global,
+    call: Call,
     words: &str,
     script: &str,
     fails: &[FailAt],
@@ -147,7 +166,7 @@ pub(crate) fn left_by<R: Abort + Threads + Wait + Sync>(
 ) -> Left {
     let mut source = SureSource::make(alloc, script.as_bytes()).expect(rt, MEMORY);
     let mut out = SureSink::make(alloc, ROOM).expect(rt, MEMORY);
-    let ended = session(rt, alloc, words, &mut source, &mut out, fails, marks);
+    let ended = session(rt, alloc, call, words, &mut source, &mut out, fails, marks);
     let trace = text_of(rt, alloc, out.bytes());
     Left { ended, trace }
 }
@@ -167,9 +186,10 @@ pub(crate) fn is_ended<R: Abort>(rt: &R, ended: &Ended, status: Status, note: &s
 pub(crate) fn ran_well<R: Abort + Threads + Wait + Sync>(
     rt: &R,
     alloc: Global,
+    call: Call,
     script: &str,
 ) -> Left {
-    let left = left_by(rt, alloc, "run", script, &[], PLAIN);
+    let left = left_by(rt, alloc, call, "run", script, &[], PLAIN);
     is_ended(rt, &left.ended, Status::Done, "", script);
     left
 }
@@ -212,8 +232,8 @@ pub(crate) fn is_legal<R: Abort>(rt: &R, alloc: Global, script: &str, trace: &st
     }
 }
 
-/// A session that runs a script with handlers of these marks, in which nothing fails, writes these
-/// lines, and they are legal.
+/// A session of either call that runs a script with handlers of these marks, in which nothing fails,
+/// writes these lines, and they are legal.
 pub(crate) fn writes<R: Abort + Threads + Wait + Sync>(
     rt: &R,
     alloc: Global,
@@ -221,7 +241,21 @@ pub(crate) fn writes<R: Abort + Threads + Wait + Sync>(
     marks: Marks,
     trace: &str,
 ) {
-    let left = left_by(rt, alloc, "run", script, &[], marks);
+    for &call in BOTH {
+        writes_by(rt, alloc, call, script, marks, trace);
+    }
+}
+
+/// The same of one of the calls.
+fn writes_by<R: Abort + Threads + Wait + Sync>(
+    rt: &R,
+    alloc: Global,
+    call: Call,
+    script: &str,
+    marks: Marks,
+    trace: &str,
+) {
+    let left = left_by(rt, alloc, call, "run", script, &[], marks);
     is_ended(rt, &left.ended, Status::Done, "", script);
     is_lines(rt, alloc, left.trace.as_str(), trace, script);
     is_legal(rt, alloc, script, left.trace.as_str());

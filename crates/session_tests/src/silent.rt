@@ -4,10 +4,10 @@ ghost use Rattle.std.specs.Prelude.{◌≡◌, length};
 ghost use Rattle.op_handlers.specs.Rack.{IsWholeRack, handlers_in};
 ghost use Rattle.session_script.specs.Limits.{most_acts};
 
-use crate::sessions::{ROOM, call_session, notes_of, words_of};
+use crate::sessions::{Call, ROOM, call_session, notes_of, words_of};
 use crate::wanted::{MEMORY, text_of};
 use asio_types::{Sink, Source, SureSink, SureSource, class_of};
-use op_handlers::{Call, CompletionHandler, Rack, Ran};
+use op_handlers::{CompletionHandler, Rack, Ran};
 use reactor_trait::SilentReactor;
 use session_run::Status;
 use session_script::MOST_ACTS;
@@ -33,7 +33,7 @@ impl LastCall {
         }
     }
 
-    fn note(&self, call: Call) {
+    fn note(&self, call: op_handlers::Call) {
         self.op.store(u64::from(call.op), Ordering::SeqCst);
         self.begun.store(call.begun, Ordering::SeqCst);
     }
@@ -55,7 +55,7 @@ struct Noting<'a> {
 impl<'a> CompletionHandler for Noting<'a> {
     ghost marks = { λ h. record { run = h.number; drop = h.number } };
 
-    fn call(self, call: Call) -> Ran {
+    fn call(self, call: op_handlers::Call) -> Ran {
         let Noting { number, last } = self;
         last.note(call);
         Ran {
@@ -99,6 +99,7 @@ pub(crate) struct Silent {
 pub(crate) fn silent_session<R: Abort + Threads + Wait + Sync, S: Source, K: Sink>(
     rt: &R,
     alloc: Global,
+    call: Call,
     words: &str,
     source: &mut S,
     out: &mut K,
@@ -110,6 +111,7 @@ pub(crate) fn silent_session<R: Abort + Threads + Wait + Sync, S: Source, K: Sin
     let (status, _) = call_session(
         rt,
         alloc,
+        call,
         words.as_slice(),
         source,
         out,
@@ -131,11 +133,12 @@ pub(crate) fn silent_session<R: Abort + Threads + Wait + Sync, S: Source, K: Sin
 pub(crate) fn silent_text<R: Abort + Threads + Wait + Sync>(
     rt: &R,
     alloc: Global,
+    call: Call,
     words: &str,
     text: &str,
 ) -> (Silent, String) {
     let mut source = SureSource::make(alloc, text.as_bytes()).expect(rt, MEMORY);
     let mut out = SureSink::make(alloc, ROOM).expect(rt, MEMORY);
-    let left = silent_session(rt, alloc, words, &mut source, &mut out);
+    let left = silent_session(rt, alloc, call, words, &mut source, &mut out);
     (left, text_of(rt, alloc, out.bytes()))
 }

@@ -3,7 +3,7 @@
 //! waits for room.
 
 use crate::marked::PLAIN;
-use crate::sessions::{ROOM, is_judged, is_status, session_over};
+use crate::sessions::{Call, ROOM, is_judged, is_status, session_over};
 use crate::wanted::{MEMORY, has, is_lines, is_text, lacks, lines, text_of};
 use crate::worked::{ONE_TEXT, SEVERAL_TEXTS};
 use asio_types::{SureSink, SureSource};
@@ -27,6 +27,7 @@ fn written<R: Abort + Threads + Wait + Sync, X: Reactor + Send>(
     let run = session_over(
         rt,
         alloc,
+        Call::Asio,
         "run --net",
         &mut source,
         &mut out,

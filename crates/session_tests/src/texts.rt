@@ -1,6 +1,6 @@
 //! What sessions over a silent reactor write, and their notes.
 
-use crate::sessions::is_status;
+use crate::sessions::{BOTH, Call, is_status};
 use crate::silent::silent_text;
 use crate::wanted::{is_lines, is_text};
 use session_run::Status;
@@ -24,13 +24,26 @@ fn is_kept<R: Abort>(rt: &R, whole: bool, want: bool, text: &str) {
 }
 
 /// A session writes what its row says, and leaves the rack whole or not.
-fn writes<R: Abort + Threads + Wait + Sync>(rt: &R, alloc: Global, row: Row, whole: bool) {
+fn writes_by<R: Abort + Threads + Wait + Sync>(
+    rt: &R,
+    alloc: Global,
+    call: Call,
+    row: Row,
+    whole: bool,
+) {
     let (words, text, status, want, note) = row;
-    let (left, out) = silent_text(rt, alloc, words, text);
+    let (left, out) = silent_text(rt, alloc, call, words, text);
     is_status(rt, left.status, status, text);
     is_kept(rt, left.whole, whole, text);
     is_lines(rt, alloc, out.as_str(), want, text);
     is_text(rt, left.note.as_str(), note, text);
+}
+
+/// The same of both calls.
+fn writes<R: Abort + Threads + Wait + Sync>(rt: &R, alloc: Global, row: Row, whole: bool) {
+    for &call in BOTH {
+        writes_by(rt, alloc, call, row, whole);
+    }
 }
 
 /// Each session runs its script to the end: it writes what its row says, and every handler is

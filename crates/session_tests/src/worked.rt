@@ -2,10 +2,12 @@
 //! is legal.
 
 use crate::marked::{Marks, PLAIN};
-use crate::sessions::{is_legal, left_by, ran_well, writes};
+use crate::sessions::{BOTH, Call, is_legal, left_by, ran_well, writes};
 use crate::wanted::{MEMORY, has, is_bytes, is_text, lacks, lines};
 use std::alloc::Global;
 use std::process::Abort;
+use std::sync::Wait;
+use std::thread::Threads;
 
 #[test]
 fn sessions_with_one_text_write_it(rt: HostRuntime) {
@@ -16,13 +18,25 @@ fn sessions_with_one_text_write_it(rt: HostRuntime) {
 
 #[test]
 fn sessions_with_several_texts_write_a_legal_one(rt: HostRuntime) {
-    let alloc = rt.alloc();
-    for &(script, part, other) in SEVERAL_TEXTS {
-        let left = ran_well(&rt, alloc, script);
-        has_lines(&rt, alloc, left.trace.as_str(), part, script);
-        lacks(&rt, left.trace.as_str(), other, script);
-        is_legal(&rt, alloc, script, left.trace.as_str());
+    for &call in BOTH {
+        for &row in SEVERAL_TEXTS {
+            writes_one_of_several(&rt, rt.alloc(), call, row);
+        }
     }
+}
+
+/// A session writes a legal text with these lines, and without another.
+fn writes_one_of_several<R: Abort + Threads + Wait + Sync>(
+    rt: &R,
+    alloc: Global,
+    call: Call,
+    row: (&str, &str, &str),
+) {
+    let (script, part, other) = row;
+    let left = ran_well(rt, alloc, call, script);
+    has_lines(rt, alloc, left.trace.as_str(), part, script);
+    lacks(rt, left.trace.as_str(), other, script);
+    is_legal(rt, alloc, script, left.trace.as_str());
 }
 
 /// A trace has these lines together.
@@ -33,19 +47,39 @@ fn has_lines<R: Abort>(rt: &R, alloc: Global, trace: &str, part: &str, script: &
 
 #[test]
 fn traces_show_the_marks_of_the_handlers(rt: HostRuntime) {
-    let alloc = rt.alloc();
-    for &(script, marks, part) in MARKED {
-        let left = left_by(&rt, alloc, "run", script, &[], marks);
-        has_lines(&rt, alloc, left.trace.as_str(), part, script);
+    for &call in BOTH {
+        for &row in MARKED {
+            shows_marks(&rt, rt.alloc(), call, row);
+        }
     }
+}
+
+/// The trace of a session with handlers of these marks has these lines.
+fn shows_marks<R: Abort + Threads + Wait + Sync>(
+    rt: &R,
+    alloc: Global,
+    call: Call,
+    row: (&str, Marks, &str),
+) {
+    let (script, marks, part) = row;
+    let left = left_by(rt, alloc, call, "run", script, &[], marks);
+    has_lines(rt, alloc, left.trace.as_str(), part, script);
 }
 
 #[test]
 fn the_world_has_what_the_history_sent(rt: HostRuntime) {
-    for &(script, sent) in SENT {
-        let left = ran_well(&rt, rt.alloc(), script);
-        is_bytes(&rt, left.ended.sent.as_slice(), sent.as_bytes(), script);
+    for &call in BOTH {
+        for &row in SENT {
+            sends(&rt, rt.alloc(), call, row);
+        }
     }
+}
+
+/// A session sends these bytes on stream 0.
+fn sends<R: Abort + Threads + Wait + Sync>(rt: &R, alloc: Global, call: Call, row: (&str, &str)) {
+    let (script, sent) = row;
+    let left = ran_well(rt, alloc, call, script);
+    is_bytes(rt, left.ended.sent.as_slice(), sent.as_bytes(), script);
 }
 
 /// A line begins operation n.
@@ -81,10 +115,21 @@ fn postings<R: Abort>(rt: &R, alloc: Global, count: u32) -> String {
 
 #[test]
 fn many_postings_to_a_strand_begin_in_their_order(rt: HostRuntime) {
-    let script = postings(&rt, rt.alloc(), 1024);
-    let left = ran_well(&rt, rt.alloc(), script.as_str());
-    let counts = begins_in_order(&rt, rt.alloc(), left.trace.as_str());
-    assert_eq!(rt; counts, (1024, 4097));
+    for &call in BOTH {
+        let counts = counts_of_postings(&rt, rt.alloc(), call);
+        assert_eq!(rt; counts, (1024, 4097));
+    }
+}
+
+/// How many begins and lines a session of 1,024 postings to a strand has.
+fn counts_of_postings<R: Abort + Threads + Wait + Sync>(
+    rt: &R,
+    alloc: Global,
+    call: Call,
+) -> (u32, u32) {
+    let script = postings(rt, alloc, 1024);
+    let left = ran_well(rt, alloc, call, script.as_str());
+    begins_in_order(rt, alloc, left.trace.as_str())
 }
 
 const TWO_ON_A_STRAND: &str = "session 1 strands 1 open { post 0 { } post 0 { } } run 4";

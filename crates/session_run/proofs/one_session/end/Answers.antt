@@ -1,7 +1,7 @@
 use Rattle.std.proofs.Common.{Err, ap, refl}
 use Rattle.session_run.proofs.WorkLemmas.{said}
 use Rattle.session_run.specs.declared.form.Form.TheVariants as forms
-use Rattle.session_run.proofs.session.end.Goals as goal
+use Rattle.session_run.proofs.one_session.end.Goals as goal
 
 pub returns-in-Err-Refused-clause-says : goal.returns-in-Err-Refused-clause-says
 returns-in-Err-Refused-clause-says g c =

@@ -1,13 +1,13 @@
 use Rattle.std.proofs.Common.{false}
-use Rattle.std.specs.Prelude.{is_some}
+use Rattle.proactor_core.specs.Proactor.{tells}
 use Rattle.session_run.specs.RackMarks.{drop_mark, rack_run_mark}
-use Rattle.session_run.proofs.running.run_and_write.Given as goal
+use Rattle.session_run.proofs.context_kind.run_script.Given as goal
 
-abbrev pub ghosts-run_named : goal.ghosts-run_named
-ghosts-run_named g a =
+abbrev pub ghosts-run_locked : goal.ghosts-run_locked
+ghosts-run_locked g a =
     record {
       script = a.script.now;
-      told = is_some (g.X.Reactor.told a.reactor);
+      told = tells (g.X.Reactor.told a.reactor);
       run = rack_run_mark g.H.CompletionHandler.marks a.rack.now;
       drop = drop_mark g.H.CompletionHandler.marks a.rack.now;
       faults = g.X.Reactor.faults a.reactor;

@@ -1,0 +1,52 @@
+//! The one seam of a session: behind it an io_context runs a script, and the rest doesn't know which.
+ghost use Rattle.std.specs.Prelude.{◌≡◌, false, length, IfErr, IfOk, OnErr, OnOk};
+ghost use Rattle.book_context.specs.Finished.{IsFinished};
+ghost use Rattle.book_context.specs.Setup.{IsRefused, TakesHandlers};
+ghost use Rattle.op_handlers.specs.Rack.{IsWholeRack, handlers_in};
+ghost use Rattle.proactor_core.specs.Proactor.{tells};
+ghost use Rattle.session_run.specs.RackMarks.{drop_mark, rack_run_mark};
+ghost use Rattle.session_script.specs.Limits.{most_acts};
+
+use crate::one_lock::run_locked;
+use asio_types::SetupFault;
+use history_book::History;
+use op_handlers::{CompletionHandler, Rack};
+use reactor_trait::Reactor;
+use session_script::Script;
+use std::alloc::Global;
+use std::marker::Brand;
+use std::sync::Wait;
+use std::thread::Threads;
+
+/// The io_context that a session runs on.
+#[derive(Clone, Copy, Debug, PartialEq, Eq)]
+pub(crate) enum ContextKind {
+    /// One lock round it: a handler executes inside one hold of the lock.
+    OneLock,
+}
+
+/// Runs a script on one io_context, from the set-up of its reactor to the destruction of every
+/// handler that never ran, and gives the history and the reactor. Takes all memory first. After a
+/// refusal nothing was run, and the rack is as before.
+pub(crate) fn run_script<R: Threads + Wait + Sync, X: Reactor + Send, H: CompletionHandler + Send>(
+    rt: &R,
+    alloc: Global,
+    kind: ContextKind,
+    script: &Script,
+    reactor: X,
+    rack: &mut Rack<H>,
+) -> Result<(History, X), (SetupFault, X)>
+    requires whole { IsWholeRack rack.old }
+    requires count { length (handlers_in rack.old) ≡ most_acts }
+    ensures taken { OnOk result (TakesHandlers script.now rack.old rack.new) }
+    ensures kept { OnErr result (handlers_in rack.new ≡ handlers_in rack.old) }
+    ensures refused { IfErr result (λ back. IsRefused (tells (X.told reactor)) (X.faults reactor)
+        (X.faults back.1) (X.state back.1) (X.told back.1) back.0) }
+    ensures ended { IfOk result (λ ran. IsFinished script.now (tells (X.told reactor))
+        (rack_run_mark H.marks rack.old) (drop_mark H.marks rack.old) false (X.faults reactor)
+        (X.faults ran.1) ran.0.events (X.state ran.1) (X.told ran.1)) }
+{
+    match kind {
+        ContextKind::OneLock => run_locked::<Brand, R, X, H>(rt, alloc, script, reactor, rack),
+    }
+}
