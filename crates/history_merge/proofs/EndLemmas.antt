@@ -1,5 +1,5 @@
 -- The whole history and the drops behind it: from what holds of the last state to what is to be shown of a merging.
-use Rattle.std.proofs.Common.{◌≡◌, ℕ, zero, suc, ◌-◌, ◌<◌, ◌≤◌, Bool, true, false, cond, List, [], ◌∷◌, ◌++◌, inl, inr, ⊎_elim, filter, length, map, drop, refl, sym, ap, subst, ◌∙◌, arith, length-append}
+use Rattle.std.proofs.Common.{◌≡◌, ◌≢◌, ℕ, zero, suc, ◌-◌, ◌<◌, ◌≤◌, Bool, true, false, cond, List, [], ◌∷◌, ◌++◌, inl, inr, ⊎_elim, filter, length, map, drop, refl, sym, ap, subst, ◌∙◌, arith, length-append}
 use Rattle.std.specs.Prelude.{◌&&◌, ◌||◌, nat_lt, not}
 use Rattle.std.specs.List.{list_any, range_with_len}
 use Rattle.std.proofs.lemmas.Bool.{cases_lt}
@@ -45,6 +45,7 @@ use Rattle.history_merge.proofs.BetweenLemmas.{take_whole}
 use Rattle.history_merge.proofs.BeyondLemmas.{none_beyond}
 use Rattle.history_merge.proofs.DroppedLemmas.{EndsWhole, drops_from, ends_whole}
 use Rattle.history_merge.proofs.ExactLemmas.{left_exact}
+use Rattle.history_merge.proofs.FirstFaultLemmas.{is_other, reactor_silent}
 use Rattle.history_merge.proofs.HalfLemmas.{half_is}
 use Rattle.history_merge.proofs.HistoryLemmas.{AreLabelled, shown_in}
 use Rattle.history_merge.proofs.LabellingLemmas.{AreLabels}
@@ -53,7 +54,7 @@ use Rattle.history_merge.proofs.MarkedLemmas.{has_marks, none_outside}
 use Rattle.history_merge.proofs.MergedLemmas.{all_drawn, any_ordered, merged_is}
 use Rattle.history_merge.proofs.MissingLemmas.{none_missing}
 use Rattle.history_merge.proofs.PartLemmas.{all_made}
-use Rattle.history_merge.proofs.RestingLemmas.{take_works}
+use Rattle.history_merge.proofs.RestingLemmas.{either_false, take_works}
 use Rattle.history_merge.proofs.SinceLemmas.{labelled_at, legal_last, made_all}
 use Rattle.history_merge.proofs.SoLemmas.{IsSo, state_so}
 use Rattle.history_merge.proofs.StoodLemmas.{has_stand}
@@ -90,7 +91,7 @@ module _ (script : ScriptModel) (lane : ℕ) where
 
 -- a failure of the reactor shows in its half
 module _ (script : ScriptModel) (told : Bool) where
-  fails_after : (r : ReactorHalf) (shown : Event) → (reactor_after script told r shown).failed ≡ (is_fault shown || r.failed)
+  pub fails_after : (r : ReactorHalf) (shown : Event) → (reactor_after script told r shown).failed ≡ (is_fault shown || r.failed)
   fails_after r (event.Take a) = take_works script told r a
   fails_after r (event.Done o code size) = (time-done script r o).failed
   fails_after r (event.Tick now) = (settled-clock told (at_time script told now r)).failed
@@ -270,6 +271,22 @@ module _ (names : SessionNames) (well : IsWellFormed names.script) (logs : LogsV
         subst (IsLegalSoFar script names.told) (sym are_all)
         (legal-append script names.told (first_state script names.told) s all_shown drops so.legal refl ends.legal)
 
+    half_all : (state_of script names.told events).reactor ≡ half_of script names.told (entries_of logs (reactor_lane script))
+    half_all = ap (λ (t : State). t.reactor) state_is ∙ (ends.reactor ∙ half_at_end)
+
+    -- a failure alone would be the first that the reactor showed
+    set_up : events ≢ event.Fault ∷ []
+    set_up is =
+        let only =
+        either_false (list_any is_other all_shown) (list_any is_other drops)
+        (sym (list_any-append is_other all_shown drops) ∙ ap (list_any is_other) (sym are_all ∙ is)) in
+        let silent = reactor_silent names logs logged (sym (same_any is_other) ∙ only.0) in
+        let wrong : true ≡ false =
+        ap (λ shown. (state_of script names.told shown).reactor.failed) (sym is)
+        ∙ (ap (λ (r : ReactorHalf). r.failed) half_all
+        ∙ ap (λ xs. (half_of script names.told xs).failed) silent) in
+        absurd (cc wrong)
+
     -- the theorem from what holds of the last state
     pub merged_legal : IsLegalMerging names logs events
     merged_legal = record {
@@ -286,5 +303,6 @@ module _ (names : SessionNames) (well : IsWellFormed names.script) (logs : LogsV
       none_missing = none_missing names well logs labels logged are so.expected;
       none_beyond = none_beyond names well logs labels logged are so.expected;
       idle = moves_idly script names.told events legal_all;
-      half = ap (λ (t : State). t.reactor) state_is ∙ (ends.reactor ∙ half_at_end);
+      set_up = set_up;
+      half = half_all;
     }

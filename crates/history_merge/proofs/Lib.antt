@@ -73,6 +73,7 @@ pub mod TurnLemmas
 pub mod MergedLemmas
 pub mod MarkedLemmas
 pub mod ExactLemmas
+pub mod FirstFaultLemmas
 pub mod EndLemmas
 pub mod OpensLemmas
 pub mod AskLemmas

@@ -67,7 +67,7 @@ every_first P (x ∷ xs) ys all = (all.0, every_first P xs ys all.1)
 entries_size : (labels : List Labelled) → length (events_in (entries_in labels)) ≡ length (entries_in labels)
 entries_size labels = length-map (entries_in labels) (λ (entry : LogEntry). entry.event)
 
-events-entries : (xs ys : List Labelled) →
+pub events-entries : (xs ys : List Labelled) →
     events_in (entries_in (xs ++ ys)) ≡ events_in (entries_in xs) ++ events_in (entries_in ys)
 events-entries xs ys =
     ap events_in (entries-append xs ys)

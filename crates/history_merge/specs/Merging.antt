@@ -1,6 +1,6 @@
 -- The logs of a session put together: each entry at its position, and the drops behind them all; and
 -- that this is a legal history of the script on one io_context.
-use Rattle.std.specs.Prelude.{◌≡◌, ◌⊎◌, ℕ, ◌<◌, Bool, false, List, [], ◌∷◌, ◌++◌, None, slice_index}
+use Rattle.std.specs.Prelude.{◌≡◌, ◌≢◌, ◌⊎◌, ℕ, ◌<◌, Bool, false, List, [], ◌∷◌, ◌++◌, None, slice_index}
 use Rattle.asio_types.specs.declared.event.Event.{Event}
 use Rattle.asio_types.specs.declared.event.Event.TheVariants as event
 use Rattle.session_script.specs.Script.{ScriptModel}
@@ -62,6 +62,8 @@ pub record IsLegalMerging (names : SessionNames) (logs : LogsView) (events : Lis
   pub none_missing : NoneIsMissing names.script logs
   pub none_beyond : NoneIsBeyond names.script logs
   pub idle : MovesTimeIdly names.script names.told events
+  -- the reactor was set up: a failure isn't all that happened
+  pub set_up : events ≢ event.Fault ∷ []
   -- the turns of the reactor's log give what was sent, and the time
   pub half : (state_of names.script names.told events).reactor
       ≡ half_of names.script names.told (entries_of logs (reactor_lane names.script))

@@ -1,13 +1,12 @@
 -- All workers through an event of the opener: their seats are gathered, each takes part, and each
 -- gets a seat again.
-use Rattle.std.proofs.Common.{◌≡◌, ℕ, zero, suc, ◌+◌, ◌<◌, Bool, true, false, List, [], ◌∷◌, ◌++◌, Option, Some, None, length, refl, sym, ap, subst, ◌∙◌, arith}
+use Rattle.std.proofs.Common.{◌≡◌, ℕ, zero, suc, ◌+◌, ◌<◌, false, List, [], ◌∷◌, ◌++◌, Option, Some, None, length, refl, sym, ap, subst, ◌∙◌, arith}
 use Rattle.std.specs.Prelude.{IfSome, drop, is_some, map, slice_get, take}
 use Rattle.session_script.specs.Script.{ScriptModel}
 use Rattle.turn_table.specs.Seated.{Lanes, Seated}
 use Rattle.lane_clock.specs.Seats.{SeatView, own}
 use Rattle.lane_map.specs.LaneNumbers.{reactor_lane}
-use Rattle.lane_context.specs.declared.run_end.RunEnd.{RunEnd}
-use Rattle.lane_context.specs.AllWorkers.{AreReady, KnowTheRound, base_kept, clock_seat, last_of, runs_kept}
+use Rattle.lane_context.specs.AllWorkers.{AreReady, KnowTheRound, base_kept, clock_seat, last_of, log_of, runs_kept}
 use Rattle.std.specs.Option.{option_map}
 use Rattle.lane_context.specs.Attempts.{IsSeated, WorkerState}
 use Rattle.lane_context.specs.Benches.{AreInRound, AreWorkers, IsInRound, IsRow}
@@ -64,7 +63,7 @@ module _ {T S : Type 0} (f : T → S) where
       ap (λ z. z ∷ map f ys) (each 0 x y refl refl)
       ∙ ap (λ zs. f x ∷ zs) (same_images xs ys smaller (λ k. each (suc k)))
 
-  images_of : (g : T → T) → ((x : T) → f (g x) ≡ f x) → (xs : List T) → map f (map g xs) ≡ map f xs
+  pub images_of : (g : T → T) → ((x : T) → f (g x) ≡ f x) → (xs : List T) → map f (map g xs) ≡ map f xs
   images_of g same [] = refl
   images_of g same (x ∷ xs) = ap (λ z. z ∷ map f (map g xs)) (same x) ∙ ap (λ zs. f x ∷ zs) (images_of g same xs)
 
@@ -141,6 +140,9 @@ module _ {H X : Type 0} where
     pub lasts_sat : map last_of news ≡ map last_of olds
     lasts_sat = same_but_turns last_of (λ w s. refl)
 
+    pub logs_sat : map log_of news ≡ map log_of olds
+    logs_sat = same_but_turns log_of (λ w s. refl)
+
     pub seated_sat : length olds ≡ lanes.seats → AreSeated lanes news
     seated_sat count =
         record {
@@ -158,14 +160,24 @@ module _ {H X : Type 0} where
               };
         }
 
+  -- where all that workers have besides is the same, so is each part of it
+  pub parts_stay : {S : Type 0} (part : Besides → S) (xs ys : List (WorkerState H X)) →
+      rests_of besides_of ys ≡ rests_of besides_of xs →
+      map (λ w. part (besides_of w)) ys ≡ map (λ w. part (besides_of w)) xs
+  parts_stay part xs ys same =
+      sym (images_on besides_of part ys) ∙ ap (map part) same ∙ images_on besides_of part xs
+
   -- an event changes no last end
-  pub lasts_stay : (all now : List (WorkerState H X)) →
+  lasts_stay : (all now : List (WorkerState H X)) →
       rests_of besides_of now ≡ rests_of besides_of (map unseated all) → map last_of now ≡ map last_of all
   lasts_stay all now same =
-      sym (images_on besides_of (λ (b : Besides). b.last) now)
-      ∙ ap (map (λ (b : Besides). b.last)) same
-      ∙ images_on besides_of (λ (b : Besides). b.last) (map unseated all)
-      ∙ images_of last_of unseated (λ w. refl) all
+      parts_stay (λ (b : Besides). b.last) (map unseated all) now same ∙ images_of last_of unseated (λ w. refl) all
+
+  -- and no log
+  logs_stay : (all now : List (WorkerState H X)) →
+      rests_of besides_of now ≡ rests_of besides_of (map unseated all) → map log_of now ≡ map log_of all
+  logs_stay all now same =
+      parts_stay (λ (b : Besides). b.log) (map unseated all) now same ∙ images_of log_of unseated (λ w. refl) all
 
 -- between the opener's calls all is as it has to be again
 module _ {H X : Type 0} (script : ScriptModel) (lanes : Lanes) (all mid last : List (WorkerState H X))
@@ -183,6 +195,9 @@ module _ {H X : Type 0} (script : ScriptModel) (lanes : Lanes) (all mid last : L
 
   pub lasts_again : map last_of last ≡ map last_of all
   lasts_again = lasts_sat lanes mid last size sat ∙ lasts_stay all mid same
+
+  pub logs_again : map log_of last ≡ map log_of all
+  logs_again = logs_sat lanes mid last size sat ∙ logs_stay all mid same
 
 -- a list that was lent whole is what was left of it
 pub all_written : {T : Type 0} (n : ℕ) (xs ys : List T) → length ys ≡ length xs → n ≡ length xs →

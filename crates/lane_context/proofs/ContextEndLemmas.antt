@@ -1,6 +1,6 @@
 -- Lanes and workers come apart at the end of a context: the values of all lanes leave their boxes, and
 -- each worker leaves its seat.
-use Rattle.std.proofs.Common.{◌≡◌, ℕ, zero, suc, ◌+◌, ◌<◌, List, [], ◌∷◌, ◌++◌, None, Some, get_or, length, refl, sym, ap, subst, ◌∙◌, arith, length-append, append_assoc}
+use Rattle.std.proofs.Common.{◌≡◌, ℕ, zero, suc, ◌+◌, ◌<◌, List, [], ◌∷◌, ◌++◌, None, Option, Some, get_or, length, refl, sym, ap, subst, ◌∙◌, arith, length-append, append_assoc}
 use Rattle.std.specs.Prelude.{IfSome, map, slice_get}
 use Rattle.std.proofs.Math.ListN.{get_or-append}
 use Rattle.std.proofs.Math.Seq.{get_or-append_seam}
@@ -9,15 +9,19 @@ use Rattle.session_script.specs.Script.{ScriptModel}
 use Rattle.turn_table.specs.Laid.{AreAtHome}
 use Rattle.lane_map.specs.LaneNumbers.{reactor_lane}
 use Rattle.lane_map.proofs.NumberLemmas as lane_numbers
+use Rattle.lane_context.specs.declared.log.LogEntry.{LogEntry}
 use Rattle.lane_context.specs.AllWorkers.{clock_seat}
 use Rattle.lane_context.specs.Attempts.{WorkerState}
 use Rattle.lane_context.specs.Batons.{BatonView}
 use Rattle.lane_context.specs.Benches.{AreWorkers}
+use Rattle.lane_context.specs.Finishing.{KeepLogsOf}
 use Rattle.lane_context.specs.Gathering.{unseated}
 use Rattle.lane_context.specs.LaneValues.{LaneValue, handlers, home_of, reactor}
+use Rattle.lane_context.specs.Logs.{LogsView, entries_of}
 use Rattle.lane_context.specs.SeatNumbers.{lane_count}
 use Rattle.lane_context.specs.Turning.{ReactorView}
 use Rattle.lane_context.specs.Workers.{WorkerView}
+use Rattle.lane_context.proofs.AllWorkersLemmas.{image_at}
 use Rattle.lane_context.proofs.NewPenLemmas.{reached}
 
 -- of the values of all lanes the last is the reactor's
@@ -148,3 +152,14 @@ module _ {H X : Type 0} where
       ((k : ℕ) → IfSome (slice_get all k) (λ worker. worker.kept ≡ None)) → one.kept ≡ None
   next_kept all front next one is free =
       subst (λ o. IfSome o (λ worker. worker.kept ≡ None)) (reached all front one next is) (free (length front))
+
+-- the logs of images are those of what they are images of
+pub kept_of : {T S : Type 0} (f : T → S) (log : S → List LogEntry) (script : ScriptModel) (logs : LogsView)
+    (all : List T) → KeepLogsOf log script logs (map f all) → KeepLogsOf (λ one. log (f one)) script logs all
+kept_of {T} f log script logs all kept k = by_case (slice_get all k) refl
+  where
+    by_case : (o : Option T) → slice_get all k ≡ o →
+        IfSome o (λ one. entries_of logs (lane_count script + k) ≡ log (f one))
+    by_case None at = tt
+    by_case (Some one) at =
+        subst (λ o. IfSome o (λ it. entries_of logs (lane_count script + k) ≡ log it)) (image_at f all k one at) (kept k)

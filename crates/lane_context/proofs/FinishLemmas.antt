@@ -1,10 +1,11 @@
 -- The logs that a session leaves are logs: what lanes, workers and the opener kept of their own steps
 -- holds of the steps that the closed clock has.
-use Rattle.std.proofs.Common.{◌≡◌, ◌⊎◌, inl, inr, ⊎_elim, ℕ, ◌+◌, ◌-◌, ◌<◌, ◌≤◌, false, true, List, [], ◌∷◌, ◌++◌, None, length, get_or, sym, ap, subst, ◌∙◌, arith, length-append}
-use Rattle.std.specs.Prelude.{All, map}
+use Rattle.std.proofs.Common.{◌≡◌, ◌⊎◌, inl, inr, ⊎_elim, ℕ, ◌+◌, ◌-◌, ◌<◌, ◌≤◌, false, true, List, [], ◌∷◌, ◌++◌, None, Option, Some, length, get_or, refl, sym, ap, subst, ◌∙◌, arith, length-append}
+use Rattle.std.specs.Prelude.{All, IfSome, map, slice_get}
 use Rattle.std.proofs.Math.ListN.{get_or-append, get_or-map}
 use Rattle.std.proofs.Math.Seq.{get_or-append_right, get_or-append_seam}
 use Rattle.std.proofs.lemmas.List.{length-map}
+use Rattle.std.proofs.lemmas.Option.{slice_get-get_or}
 use Rattle.asio_types.specs.declared.event.Event.{Event}
 use Rattle.session_script.specs.Script.{ScriptModel}
 use Rattle.history_rules.specs.FromOutside.{has_fault}
@@ -37,6 +38,7 @@ use Rattle.lane_context.specs.WorkerLog.{IsWorkerLog}
 use Rattle.lane_context.specs.Workers.{IsWorker, WorkerView}
 use Rattle.lane_context.proofs.FaultLemmas.{fault_shown}
 use Rattle.lane_context.proofs.GrowingLemmas.{log_grows}
+use Rattle.lane_context.proofs.MeetAllLemmas.{below_size}
 use Rattle.lane_context.proofs.MeetingLemmas.{copied_steps}
 use Rattle.lane_context.proofs.WorkerLemmas.{still_worker}
 
@@ -183,6 +185,30 @@ module _ (names : SessionNames) (clock : ClockId) (lanes : List LaneView) (worke
           steps = steps ∙ is.log.steps;
           shown = log ∙ is.log.shown;
         }
+
+    -- each worker's is at its number
+    pub worker_logs : (k : ℕ) →
+        IfSome (slice_get workers k) (λ worker. get_or entries (lane_count script + k) [] ≡ worker.pen.log)
+    worker_logs k = by_case (slice_get workers k) refl
+      where
+        kept : (worker : WorkerView) → slice_get workers k ≡ Some worker →
+            get_or entries (lane_count script + k) [] ≡ worker.pen.log
+        kept worker at =
+            let n : ℕ = lane_count script + k in
+            let within : k < length workers = below_size workers k worker at in
+            let here : n - lane_count script ≡ k = omega arith in
+            let found : Some (get_or workers k none_worker) ≡ Some worker =
+            sym (slice_get-get_or workers k none_worker within) ∙ at in
+            let is : get_or workers k none_worker ≡ worker = cc found in
+            entry_is n (omega (arith, within, left.work_size))
+            ∙ ap (λ (pen : PenView). pen.log) (worker_pen n (omega arith))
+            ∙ ap (λ m. (get_or workers m none_worker).pen.log) here
+            ∙ ap (λ (w : WorkerView). w.pen.log) is
+
+        by_case : (o : Option WorkerView) → slice_get workers k ≡ o →
+            IfSome o (λ worker. get_or entries (lane_count script + k) [] ≡ worker.pen.log)
+        by_case None at = tt
+        by_case (Some worker) at = kept worker at
 
     own_last : own shut.opener.pen.seat ≡ lists o
     own_last = ap lists shut.is.number

@@ -4,7 +4,7 @@ use Rattle.std.specs.Prelude.{IsTrue}
 use Rattle.asio_types.specs.Faults.{Rose}
 use Rattle.history_rules.specs.State.{ReactorHalf}
 use Rattle.reactor_trait.specs.Reactor.{Outside, ReactorState}
-use Rattle.proactor_core.specs.Proactor.{Follows, IsSound, ProactorView, StandsAt}
+use Rattle.proactor_core.specs.Proactor.{Follows, IsSound, ProactorView, StandsAt, tells}
 use Rattle.lane_context.specs.Finishing.{IsGivenBack}
 use Rattle.lane_context.specs.Names.{SessionNames}
 use Rattle.lane_context.specs.Turning.{KeepsTurns}
@@ -14,9 +14,10 @@ pub given_back : {X : Type 0} (names : SessionNames) (state : X → ReactorState
     KeepsTurns names state told faults named half view → reactor ≡ view.reactor →
     ((half : ReactorHalf) → IsSound state told view → Follows told view half →
     StandsAt (state reactor) (told reactor) half) →
-    IsGivenBack half named (faults reactor) (state reactor) (told reactor)
+    IsGivenBack names.told half named (faults reactor) (state reactor) (told reactor)
 given_back {X} names state told faults named half view reactor keeps same stands =
     record {
+      tells = subst (λ (x : X). tells (told x) ≡ names.told) (sym same) keeps.in_step.tells;
       up = subst (λ (x : X). IsTrue (state x).up) (sym same) keeps.in_step.up;
       now = subst (λ (x : X). (state x).now ≡ half.now) (sym same) keeps.in_step.now;
       least = subst (λ (x : X). named ≤ faults x) (sym same) keeps.least;

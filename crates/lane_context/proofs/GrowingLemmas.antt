@@ -67,6 +67,7 @@ module _ (names : SessionNames) (opener longer : List ClockStep) (lane : ℕ) (m
         working = is.working;
         next = is.next;
         going = is.going ∙ ap (base_of names.script) (same_opener parts knows);
+        pending = is.pending;
       }
   still_follows parts (missing place note) knows is =
       record {

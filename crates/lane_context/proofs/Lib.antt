@@ -27,6 +27,7 @@ pub mod LaneLogLemmas
 pub mod LaneMeetingLemmas
 pub mod LaneStartedLemmas
 pub mod LaneStepLemmas
+pub mod LastEndLemmas
 pub mod LeftLemmas
 pub mod LogRoomLemmas
 pub mod LookLemmas
@@ -60,6 +61,7 @@ pub mod ScanLemmas
 pub mod SeeingLemmas
 pub mod SettingOutLemmas
 pub mod ShuttingLemmas
+pub mod SideBySideLemmas
 pub mod StandLemmas
 pub mod StartLemmas
 pub mod SteppingLemmas

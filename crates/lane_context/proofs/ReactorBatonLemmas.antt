@@ -1,10 +1,11 @@
 -- The reactor's lane, after an attempt.
 use Rattle.std.proofs.Common.{◌≡◌, ◌⊎◌, ℕ, ◌+◌, Bool, true, false, cond, List, [], ◌∷◌, ◌++◌, Option, None, inl, inr, ⊎_elim, refl, sym, ap, subst, ◌∙◌, arith}
 use Rattle.std.proofs.lemmas.List.{append_assoc, append-nil}
-use Rattle.std.specs.Prelude.{◌||◌, nat_lt, slice_index, if◌then◌else◌}
+use Rattle.std.specs.Prelude.{◌||◌, ◌≤◌, nat_lt, slice_index, if◌then◌else◌}
 use Rattle.session_script.specs.Script.{ScriptModel}
 use Rattle.history_rules.specs.Legal.{reactor_after}
 use Rattle.history_rules.specs.State.{ReactorHalf, first_reactor}
+use Rattle.history_rules.specs.Time.{pending_count}
 use Rattle.reactor_trait.specs.Reactor.{Outside, ReactorState}
 use Rattle.proactor_core.specs.Proactor.{ProactorView}
 use Rattle.lane_clock.specs.declared.found.Change.TheVariants as change
@@ -229,6 +230,7 @@ module _ (names : SessionNames) (clock : ClockId) (old new : LaneView) (is : IsL
         working = works_still did.waits.works;
         next = did.at ∙ is.next;
         going = found_going names clock old is part.load did.going;
+        pending = subst (λ h. 1 ≤ pending_count h) half_is did.waits.pending;
       }
       (or_none old.missed))
       (let e : next_place is.log.parts ≡ next_place is.log.parts + 0 = omega arith in is.next ∙ e))

@@ -1,11 +1,9 @@
 -- How a round ends: the caller's own worker runs as often as a closing is refuted.
-use Rattle.std.proofs.Common.{◌≡◌, ◌≢◌, ◌⊎◌, inl, inr, ⊎_elim, ℕ, ◌+◌, ◌-◌, ◌<◌, ◌≤◌, true, false, List, [], ◌++◌, Option, Some, None, length, set, refl, sym, ap, subst, ◌∙◌, arith}
-use Rattle.std.specs.Prelude.{◌==◌, IfNone, IfSome, is_some, map, slice_get}
-use Rattle.std.proofs.Math.ListN.{length-set}
+use Rattle.std.proofs.Common.{◌≡◌, ◌≢◌, ◌⊎◌, inl, inr, ⊎_elim, ℕ, ◌+◌, ◌-◌, ◌<◌, ◌≤◌, true, false, List, [], ◌++◌, Option, Some, None, length, refl, sym, ap, subst, ◌∙◌, arith}
+use Rattle.std.specs.Prelude.{◌==◌, IfNone, IfSome, map, slice_get}
 use Rattle.std.proofs.lemmas.Bool.{cases_lt}
 use Rattle.std.proofs.lemmas.Bool.Decides.{eqb_tells}
 use Rattle.std.proofs.lemmas.List.{append-nil}
-use Rattle.std.proofs.lemmas.Option.{slice_get_cases}
 use Rattle.session_script.specs.Script.{ScriptModel}
 use Rattle.lane_clock.specs.declared.step.Known.{Known}
 use Rattle.lane_clock.specs.Knowledge.{StartOf}
@@ -20,182 +18,36 @@ use Rattle.lane_context.specs.declared.round_end.RoundEnd.{RoundEnd}
 use Rattle.lane_context.specs.declared.round_end.RoundEnd.TheVariants as round
 use Rattle.lane_context.specs.declared.run_end.RunEnd.{RunEnd}
 use Rattle.lane_context.specs.declared.run_end.RunEnd.TheVariants as end
-use Rattle.lane_context.specs.AllWorkers.{KnowTheRound, NoneFaulted, clock_seat, last_of}
+use Rattle.lane_context.specs.AllWorkers.{KnowTheRound, NoneFaulted, clock_seat, last_of, log_of}
 use Rattle.lane_context.specs.Attempts.{WorkerState}
 use Rattle.lane_context.specs.Attending.{HasGoneOn, KnowsAllOf}
 use Rattle.lane_context.specs.Benches.{AreWorkers, HasHeld}
-use Rattle.lane_context.specs.Besides.{Besides, besides_of, rests_of}
+use Rattle.lane_context.specs.Besides.{besides_of, rests_of}
 use Rattle.lane_context.specs.ClosingTries.{HasClosedRound, TriedToClose}
 use Rattle.lane_context.specs.Gathering.{NoneKeeps, unseated}
-use Rattle.lane_context.specs.KnownFaults.{has_faulted}
 use Rattle.lane_context.specs.Labels.{Labelled, entries_in, steps_in}
-use Rattle.lane_context.specs.LaneValues.{Terms, Tries}
+use Rattle.lane_context.specs.LaneValues.{Tries}
 use Rattle.lane_context.specs.Meeting.{lists_of}
 use Rattle.lane_context.specs.OpenerEvents.{HasWaited, weighing_labels}
 use Rattle.lane_context.specs.OpenerLog.{look_label}
 use Rattle.lane_context.specs.Openers.{OpenerView}
-use Rattle.lane_context.specs.OwnRuns.{HasRunInVain, LastHasRun, LastIsNow}
+use Rattle.lane_context.specs.OwnRuns.{HasRunInVain, LastHasRun}
 use Rattle.lane_context.specs.Pens.{HasGone, PenView}
-use Rattle.lane_context.specs.RoundEnds.{EndsRound, FaultCame, HasEndedRound, OneFaulted, OneKnowsFault, OtherLastsStay, OwnRanLast, closing_after, end_after, end_by, run_end_of}
+use Rattle.lane_context.specs.RoundEnds.{EndsRound, HasEndedRound, OneFaulted, OneKnowsFault, OtherLastsStay, OwnRanLast, closing_after, end_after, end_by, run_end_of}
 use Rattle.lane_context.specs.Runs.{last_end}
 use Rattle.lane_context.specs.Scanning.{SeatGoesOn}
 use Rattle.lane_context.specs.Workers.{WorkerView}
-use Rattle.lane_context.proofs.AllWorkersLemmas.{image_at, images_on, images_size, none_kept, same_source, source_of}
-use Rattle.lane_context.proofs.AttendingLemmas.{at_or_before, get_set_other, get_set_same, on_and_on, on_same}
+use Rattle.lane_context.proofs.AllWorkersLemmas.{image_at, images_of, images_size, same_source, source_of}
+use Rattle.lane_context.proofs.AttendingLemmas.{on_and_on, on_same}
 use Rattle.lane_context.proofs.BenchLemmas.{same_one}
 use Rattle.lane_context.proofs.EventLemmas.{weighing_draws}
+use Rattle.lane_context.proofs.LastEndLemmas.{came_still, last_and_last, last_logs, last_same, lasts_of_rests, logs_of_rests, none_faulted_still, one_faulted_still, others_still, ran_still, there_is_last}
 use Rattle.lane_context.proofs.MeetAllLemmas.{below_size}
 use Rattle.lane_context.proofs.OpenerEventLemmas.{looks_entries}
 use Rattle.lane_context.proofs.PenLemmas.{step_count-append}
 use Rattle.lane_context.proofs.ReactorFaultLemmas.{fault_remembered}
 use Rattle.lane_context.proofs.ScanLemmas.{seat_and_on, seat_same}
 use Rattle.lane_context.proofs.SteppingLemmas.{stepped_known, stepped_number}
-
--- whether a last end is a fault
-pub faulted_is : (o : Option RunEnd) → has_faulted o ≡ true → o ≡ Some end.Fault
-faulted_is None is = absurd (cc is)
-faulted_is (Some end.Ended) is = absurd (cc is)
-faulted_is (Some end.Stopped) is = absurd (cc is)
-faulted_is (Some end.Idle) is = absurd (cc is)
-faulted_is (Some end.Fault) is = refl
-
-pub faulted_not : (o : Option RunEnd) → has_faulted o ≡ false → o ≢ Some end.Fault
-faulted_not o isnt is = absurd (let so = ap has_faulted is in cc (so, isnt))
-
--- none of the first workers met a fault
-abbrev pub NoneFaultedBelow : {H X : Type 0} → List (WorkerState H X) → ℕ → Type 0
-NoneFaultedBelow {H} {X} all count =
-    (k : ℕ) (one : WorkerState H X) → k < count → slice_get all k ≡ Some one → one.last ≢ Some end.Fault
-
-module _ {H X : Type 0} (all : List (WorkerState H X)) where
-  pub no_faulted_below : NoneFaultedBelow all 0
-  no_faulted_below k one less at = absurd (omega (arith, less))
-
-  pub more_none_faulted : (i : ℕ) (one : WorkerState H X) → slice_get all i ≡ Some one → has_faulted one.last ≡ false →
-      NoneFaultedBelow all i → NoneFaultedBelow all (i + 1)
-  more_none_faulted i one at works none k other less is =
-      ⊎_elim (λ (before : k < i). none k other before is)
-      (λ (here : k ≡ i).
-      subst (λ (w : WorkerState H X). w.last ≢ Some end.Fault) (same_one all i k one other at here is)
-      (faulted_not one.last works))
-      (at_or_before k i less)
-
-  pub none_faulted_of : (count : ℕ) → NoneFaultedBelow all count → length all ≤ count → NoneFaulted all
-  none_faulted_of count none past k one at =
-      none k one (let less = below_size all k one at in omega (arith, less, past)) at
-
--- where all but the last stay
-module _ {H X : Type 0} where
-  pub last_set : (all : List (WorkerState H X)) (i : ℕ) (old new : WorkerState H X) → i ≡ length all - 1 →
-      slice_get all i ≡ Some old → LastIsNow all (set all i new) old new
-  last_set all i old new here at =
-      record {
-        size = length-set all i new;
-        was = subst (λ k. slice_get all k ≡ Some old) here at;
-        is = subst (λ k. slice_get (set all i new) k ≡ Some new) here (get_set_same all i old new at);
-        others =
-            λ k below.
-            get_set_other all i k new (λ same. absurd (omega (arith, same, below, here)));
-      }
-
-  pub last_same : (all : List (WorkerState H X)) (one : WorkerState H X) → slice_get all (length all - 1) ≡ Some one →
-      LastIsNow all all one one
-  last_same all one at = record { size = refl; was = at; is = at; others = λ k below. refl }
-
-  pub last_and_last : (a b c : List (WorkerState H X)) (one two three four : WorkerState H X) → LastIsNow a b one two →
-      LastIsNow b c three four → (LastIsNow a c one four) × (two ≡ three)
-  last_and_last a b c one two three four first second =
-      let size : length b - 1 ≡ length a - 1 = ap (λ n. n - 1) first.size in (
-        record {
-          size = second.size ∙ first.size;
-          was = first.was;
-          is = subst (λ k. slice_get c k ≡ Some four) size second.is;
-          others =
-              λ k below.
-              second.others k (let same = first.size in omega (arith, below, same)) ∙ first.others k below;
-        },
-        same_one b (length a - 1) (length b - 1) two three first.is size second.was,
-      )
-
-  there_is_last : (all : List (WorkerState H X)) → 0 < length all →
-      (one : WorkerState H X) × (slice_get all (length all - 1) ≡ Some one)
-  there_is_last all some =
-      ⊎_elim (λ there. (there.0, there.2)) (λ past. absurd (omega (arith, past.0, some)))
-      (slice_get_cases all (length all - 1)).1
-
-  -- what the last ends alone say
-  module _ (xs ys : List (WorkerState H X)) (same : map last_of ys ≡ map last_of xs) where
-    pub none_faulted_still : NoneFaulted xs → NoneFaulted ys
-    none_faulted_still none k one at faulted =
-        let from = same_source last_of xs ys k one same at in
-        none k from.source from.at (from.is ∙ faulted)
-
-    pub one_faulted_still : OneFaulted xs → OneFaulted ys
-    one_faulted_still one =
-        let to = same_source last_of ys xs one.index one.worker (sym same) one.at in
-        record { index = one.index; worker = to.source; at = to.at; last = to.is ∙ one.last }
-
-    pub came_still : (t : Terms H X) → FaultCame t xs → FaultCame t ys
-    came_still t (inl one) = inl (one_faulted_still one)
-    came_still t (inr had) = inr had
-
-    pub others_still : (before : List (WorkerState H X)) → OtherLastsStay before xs → OtherLastsStay before ys
-    others_still before others k old new below was is =
-        let from = same_source last_of xs ys k new same is in
-        sym from.is ∙ others k old from.source below was from.at
-
-    pub ran_still : (t : Tries H X) (lanes : ℕ) (now : RunEnd) (before : List (WorkerState H X)) →
-        OwnRanLast t lanes now before xs → OwnRanLast t lanes now before ys
-    ran_still t lanes now before ran =
-        let to = same_source last_of ys xs (length before - 1) ran.after (sym same) ran.is in
-        record {
-          before = ran.before;
-          after = to.source;
-          was = ran.was;
-          is = to.at;
-          from = ran.from;
-          ran = ran.ran;
-          since = ran.since;
-          run = ran.run;
-          last = to.is ∙ ran.last;
-        }
-
-  -- and what nothing but the seat at the table changes
-  pub lasts_of_rests : (xs ys : List (WorkerState H X)) → rests_of besides_of ys ≡ rests_of besides_of xs →
-      map last_of ys ≡ map last_of xs
-  lasts_of_rests xs ys same =
-      sym (images_on besides_of (λ (b : Besides). b.last) ys) ∙ ap (map (λ (b : Besides). b.last)) same
-      ∙ images_on besides_of (λ (b : Besides). b.last) xs
-
-  pub keep_none_still : (xs ys : List (WorkerState H X)) → rests_of besides_of ys ≡ rests_of besides_of xs →
-      ((k : ℕ) → IfSome (slice_get xs k) (λ one. one.kept ≡ None)) → (k : ℕ) →
-      IfSome (slice_get ys k) (λ one. one.kept ≡ None)
-  keep_none_still xs ys same free k = by_case (slice_get ys k) refl
-    where
-      kept_none : (one : WorkerState H X) → slice_get ys k ≡ Some one → one.kept ≡ None
-      kept_none one at =
-          let from = same_source besides_of xs ys k one same at in
-          let none : from.source.kept ≡ None =
-          subst (λ o. IfSome o (λ w. w.kept ≡ None)) from.at (free k) in
-          none_kept one.kept
-          (sym (ap (λ (b : Besides). b.keeps) from.is) ∙ ap is_some none)
-
-      by_case : (o : Option (WorkerState H X)) → slice_get ys k ≡ o → IfSome o (λ one. one.kept ≡ None)
-      by_case None at = tt
-      by_case (Some one) at = kept_none one at
-
--- whose seats were gathered keep no lane
-pub gathered_free : {H X : Type 0} (all now : List (WorkerState H X)) → now ≡ map unseated all → NoneKeeps now
-gathered_free all now same k =
-    subst (λ ws. IfSome (slice_get ws k) (λ one. one.kept ≡ None)) (sym same) (by_case (slice_get (map unseated all) k) refl)
-  where
-    by_case : (o : Option (WorkerState _ _)) → slice_get (map unseated all) k ≡ o →
-        IfSome (slice_get (map unseated all) k) (λ one. one.kept ≡ None)
-    by_case None at = subst (λ o. IfSome o (λ one. one.kept ≡ None)) (sym at) tt
-    by_case (Some one) at =
-        let from = source_of unseated all k one at in
-        subst (λ o. IfSome o (λ one. one.kept ≡ None)) (sym at)
-        (sym (ap (λ (w : WorkerState _ _). w.kept) from.is))
 
 -- the answer of `run` to which a closing belongs
 pub ran_as : (now : RunEnd) (how : Closing) → Some how ≡ closing_after now → now ≡ run_end_of (end_by how)
@@ -355,14 +207,15 @@ module _ {H X : Type 0} (t : Tries H X) (lanes : ℕ) where
             λ k old new below was is.
             it.others k old new (let long = vain.only.size in omega (arith, below, long))
             (vain.only.others k below ∙ was) is;
+        logs = it.logs ∙ last_logs xs ys vain.old vain.new vain.only vain.seat.log;
         rounds = it.rounds;
       }
 
-  -- what stands behind the end changes no last end
+  -- what stands behind the end changes no last end and no log
   pub ended_still : (now : RoundEnd) (a b : OpenerView) (xs ys zs : List (WorkerState H X)) →
-      HasEndedRound t lanes now a b xs ys → map last_of zs ≡ map last_of ys →
+      HasEndedRound t lanes now a b xs ys → map last_of zs ≡ map last_of ys → map log_of zs ≡ map log_of ys →
       KnowTheRound t.terms.names.script b.stand zs → HasEndedRound t lanes now a b xs zs
-  ended_still now a b xs ys zs it same rounds =
+  ended_still now a b xs ys zs it same logs rounds =
       record {
         ended = it.ended;
         knows = it.knows;
@@ -370,6 +223,7 @@ module _ {H X : Type 0} (t : Tries H X) (lanes : ℕ) where
         none = λ works. none_faulted_still ys zs same (it.none works);
         ran = λ works. ran_still ys zs same t lanes (run_end_of now) xs (it.ran works);
         others = others_still ys zs same xs it.others;
+        logs = logs ∙ it.logs;
         rounds = rounds;
       }
 
@@ -404,14 +258,16 @@ module _ {H X : Type 0} (t : Tries H X) (lanes : ℕ) where
         others =
             λ k old new below was is.
             it.others k (unseated old) new (omega (arith, below, size)) (image_at unseated xs k old was) is;
+        logs = it.logs ∙ images_of log_of unseated (λ w. refl) xs;
         rounds = it.rounds;
       }
 
   -- a worker had met a fault before
   pub ended_faulted : (a b : OpenerView) (xs ys : List (WorkerState H X)) → HasGoneOn a b → KnowsAllOf clock_seat b xs →
-      OneFaulted xs → OneKnowsFault t.terms.names.script xs → map last_of ys ≡ map last_of xs →
+      OneFaulted xs → OneKnowsFault t.terms.names.script xs → rests_of besides_of ys ≡ rests_of besides_of xs →
       KnowTheRound t.terms.names.script b.stand ys → HasEndedRound t lanes round.Fault a b xs ys
-  ended_faulted a b xs ys on known one knows same rounds =
+  ended_faulted a b xs ys on known one knows rests rounds =
+      let same = lasts_of_rests xs ys rests in
       record {
         ended = on;
         knows =
@@ -426,6 +282,7 @@ module _ {H X : Type 0} (t : Tries H X) (lanes : ℕ) where
             let from = same_source last_of xs ys k new same is in
             let it : from.source ≡ old = same_one xs k k from.source old from.at refl was in
             sym from.is ∙ ap last_of it;
+        logs = logs_of_rests xs ys rests;
         rounds = rounds;
       }
 
@@ -436,6 +293,9 @@ module _ {H X : Type 0} (t : Tries H X) (lanes : ℕ) where
         let it : old ≡ new =
         same_one xs k k old new was refl (sym (run.only.others k below) ∙ is) in
         sym (ap last_of it)
+
+    run_logs : map log_of ys ≡ map log_of xs
+    run_logs = last_logs xs ys run.old run.new run.only (ap log_of run.ran.left ∙ run.ran.on.log)
 
     run_last : OwnRanLast t lanes now xs ys
     run_last =
@@ -497,23 +357,27 @@ module _ {H X : Type 0} (t : Tries H X) (lanes : ℕ) where
 
     -- it met a fault itself
     pub run_faulted : (a b : OpenerView) (zs : List (WorkerState H X)) → HasGoneOn a b → KnowsAllOf clock_seat b ys →
-        OneFaulted ys → OneKnowsFault t.terms.names.script ys → map last_of zs ≡ map last_of ys →
+        OneFaulted ys → OneKnowsFault t.terms.names.script ys → rests_of besides_of zs ≡ rests_of besides_of ys →
         KnowTheRound t.terms.names.script b.stand zs → HasEndedRound t lanes round.Fault a b xs zs
-    run_faulted a b zs on known one knows same rounds =
-        let it = ended_faulted a b ys zs on known one knows same rounds in
+    run_faulted a b zs on known one knows rests rounds =
+        let it = ended_faulted a b ys zs on known one knows rests rounds in
         record {
           ended = it.ended;
           knows = it.knows;
           came = it.came;
           none = it.none;
           ran = λ works. absurd (works refl);
-          others = others_still ys zs same xs run_others;
+          others = others_still ys zs (lasts_of_rests ys zs rests) xs run_others;
+          logs = it.logs ∙ run_logs;
           rounds = rounds;
         }
 
     -- what a try to close the round comes to
     module _ (how : Closing) (is : Some how ≡ closing_after now) (none : NoneFaulted ys) (a b : OpenerView)
-        (zs : List (WorkerState H X)) (same : map last_of zs ≡ map last_of ys) where
+        (zs : List (WorkerState H X)) (rests : rests_of besides_of zs ≡ rests_of besides_of ys) where
+      abbrev same : map last_of zs ≡ map last_of ys
+      same = lasts_of_rests ys zs rests
+
       pub tried_ended : (tries : ClosingTry) → TriedToClose t.terms how tries a b →
           (tries ≢ tried.Refuted → KnowTheRound t.terms.names.script b.stand zs) →
           IfSome (end_after tries how) (λ ends. HasEndedRound t lanes ends a b xs zs)
@@ -528,6 +392,7 @@ module _ {H X : Type 0} (t : Tries H X) (lanes : ℕ) where
                 ran_still ys zs same t lanes (run_end_of (end_by how)) xs
                 (subst (λ ends. OwnRanLast t lanes ends xs ys) (ran_as now how is) run_last);
             others = others_still ys zs same xs run_others;
+            logs = logs_of_rests ys zs rests ∙ run_logs;
             rounds = rounds (λ refuted. absurd (cc refuted));
           }
       tried_ended tried.Refuted it rounds = tt
@@ -539,6 +404,7 @@ module _ {H X : Type 0} (t : Tries H X) (lanes : ℕ) where
             none = λ works. absurd (works refl);
             ran = λ works. absurd (works refl);
             others = others_still ys zs same xs run_others;
+            logs = logs_of_rests ys zs rests ∙ run_logs;
             rounds = rounds (λ refuted. absurd (cc refuted));
           }
 

@@ -21,7 +21,7 @@ use Rattle.lane_context.specs.Gathering.{HaveSatDown, turns_below}
 use Rattle.lane_context.specs.LaneOf.{seat_of}
 use Rattle.lane_context.specs.LaneValues.{LaneValue, handlers, reactor}
 use Rattle.lane_context.specs.Openers.{OpenerView}
-use Rattle.lane_context.specs.Rooms.{lane_room, worker_room}
+use Rattle.lane_context.specs.Rooms.{EachAt, lane_room, worker_room}
 use Rattle.lane_context.specs.SeatNumbers.{lane_count, worker_count}
 use Rattle.lane_context.specs.SessionRooms.{AreFresh, standing_by}
 use Rattle.lane_context.specs.Turning.{ReactorView}
@@ -106,13 +106,15 @@ module _ {H X : Type 0} (script : ScriptModel) where
   rows_standing seats row =
       row_mapped clock_seat (lane_count script) standing_by (worker_count script) seats row
 
--- none of them keeps a lane
-pub fresh_standing : {H X : Type 0} (seats : List WorkerView) → AreFresh {H = H} {X = X} (map standing_by seats)
-fresh_standing {H} {X} seats k one at =
+-- none of them keeps a lane, or drew anything
+pub fresh_standing : {H X : Type 0} (seats : List WorkerView) → EachAt (λ k seat. seat.pen.log ≡ []) seats →
+    AreFresh {H = H} {X = X} (map standing_by seats)
+fresh_standing {H} {X} seats none k one at =
     let from = source_of standing_by seats k one at in
     record {
       kept = ap (λ (w : WorkerState H X). w.kept) (sym from.is);
       last = ap (λ (w : WorkerState H X). w.last) (sym from.is);
+      log = ap (λ (w : WorkerState H X). w.seat.pen.log) (sym from.is) ∙ none k from.source from.at;
     }
 
 -- the seat that has all turns
@@ -144,6 +146,7 @@ module _ {H X : Type 0} (script : ScriptModel) (lanes : Lanes) (olds news : List
       record {
         kept = ap (λ (w : WorkerState H X). w.kept) sits.is ∙ was.kept;
         last = ap (λ (w : WorkerState H X). w.last) sits.is ∙ was.last;
+        log = ap (λ (w : WorkerState H X). w.seat.pen.log) sits.is ∙ was.log;
       }
 
 -- nobody keeps a lane
@@ -182,3 +185,6 @@ module _ {H X : Type 0} (script : ScriptModel) (clock : ClockId) (listed : List 
             λ k one at.
             new_number clock (lane_count script + k) (worker_room script) one.pen (begun.workers_are k one at).pen;
       }
+
+  pub none_begins : EachAt (λ k seat. seat.pen.log ≡ []) workers
+  none_begins k one at = (begun.workers_are k one at).pen.log

@@ -4,6 +4,7 @@ use Rattle.std.specs.Prelude.{◌≡◌, ◌≢◌, ℕ, Bool, true, List, Optio
 use Rattle.session_script.specs.Script.{ScriptModel}
 use Rattle.turn_table.specs.Seated.{Lanes, Seated}
 use Rattle.lane_clock.specs.Seats.{SeatView}
+use Rattle.lane_context.specs.declared.log.LogEntry.{LogEntry}
 use Rattle.lane_context.specs.declared.run_end.RunEnd.{RunEnd}
 use Rattle.lane_context.specs.declared.run_end.RunEnd.TheVariants as end
 use Rattle.lane_context.specs.Attempts.{WorkerState}
@@ -35,6 +36,10 @@ module _ {H X : Type 0} where
 
   abbrev pub last_of : WorkerState H X → Option RunEnd
   last_of worker = worker.last
+
+  -- what it drew itself: stops from outside of every handler
+  abbrev pub log_of : WorkerState H X → List LogEntry
+  log_of worker = worker.seat.pen.log
 
   -- the workers have their seats of the clock and of the table, each its number's
   pub record AreReady (script : ScriptModel) (lanes : Lanes) (all : List (WorkerState H X)) : Type 0

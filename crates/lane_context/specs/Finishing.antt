@@ -1,22 +1,23 @@
 -- The end of a session without a lock: what is known when all seats were taken in and the clock is
 -- closed, and what is given back (Asio reference, io_context::~io_context).
-use Rattle.std.specs.Prelude.{◌≡◌, ◌⊎◌, ◌≤◌, ℕ, true, false, List, [], ◌∷◌, ◌++◌, Option, IfSome, IsTrue, length, map}
+use Rattle.std.specs.Prelude.{◌≡◌, ◌⊎◌, ◌≤◌, ◌+◌, ℕ, Bool, true, false, List, [], ◌∷◌, ◌++◌, Option, IfSome, IsTrue, length, map, slice_get}
 use Rattle.asio_types.specs.Faults.{Rose}
 use Rattle.asio_types.specs.declared.event.Event.{Event}
 use Rattle.session_script.specs.Script.{ScriptModel}
 use Rattle.history_rules.specs.State.{ReactorHalf}
 use Rattle.reactor_trait.specs.Reactor.{Outside, ReactorState}
-use Rattle.proactor_core.specs.Proactor.{sent_to_peer}
+use Rattle.proactor_core.specs.Proactor.{sent_to_peer, tells}
 use Rattle.lane_clock.specs.declared.found.Found.{Found}
 use Rattle.lane_clock.specs.Closing.{Closed}
 use Rattle.lane_clock.specs.Seats.{ClockId, SeatView, copy_seat}
 use Rattle.lane_context.specs.declared.log.LogEntry.{LogEntry}
 use Rattle.lane_context.specs.Batons.{BatonView, LaneView}
 use Rattle.lane_context.specs.KnownFaults.{KnowsFault}
-use Rattle.lane_context.specs.Logs.{LogsView}
+use Rattle.lane_context.specs.Logs.{LogsView, entries_of}
 use Rattle.lane_context.specs.Meeting.{lists_of}
 use Rattle.lane_context.specs.Openers.{IsOpener, OpenerView}
 use Rattle.lane_context.specs.Pens.{PenView}
+use Rattle.lane_context.specs.SeatNumbers.{lane_count}
 use Rattle.lane_context.specs.TakingIn.{AreTakenIn}
 use Rattle.lane_context.specs.Workers.{WorkerView}
 
@@ -61,10 +62,16 @@ logs_in kept = record {
   drops = kept.drops;
 }
 
--- the reactor that is given back: it is up, its time is that of the last turn, its bytes are those
--- that were sent, and its count of faults rose where it failed and only there
-pub record IsGivenBack (half : ReactorHalf) (before after : ℕ) (state : ReactorState)
+-- the log of each worker is kept at its number
+abbrev pub KeepLogsOf : {T : Type 0} → (T → List LogEntry) → ScriptModel → LogsView → List T → Type 0
+KeepLogsOf log script logs all =
+    (k : ℕ) → IfSome (slice_get all k) (λ one. entries_of logs (lane_count script + k) ≡ log one)
+
+-- the reactor that is given back: it tells its bytes as it did, it is up, its time is that of the last
+-- turn, its bytes are those that were sent, and its count of faults rose where it failed and only there
+pub record IsGivenBack (told : Bool) (half : ReactorHalf) (before after : ℕ) (state : ReactorState)
     (outside : Option Outside) : Type 0 where
+  pub tells : tells outside ≡ told
   pub up : IsTrue state.up
   pub now : state.now ≡ half.now
   pub least : before ≤ after

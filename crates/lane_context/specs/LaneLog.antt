@@ -1,7 +1,7 @@
 -- A lane's log: its own steps are whole executions or whole turns of the reactor, one after another,
 -- and the log has their events at the positions that were drawn (Asio reference,
 -- io_context::strand; Overview, "Strands: Use Threads Without Explicit Locking").
-use Rattle.std.specs.Prelude.{◌≡◌, ℕ, ◌<◌, Bool, false, not, ◌&&◌, ◌==◌, List, [], ◌∷◌, Option, None}
+use Rattle.std.specs.Prelude.{◌≡◌, ℕ, ◌<◌, ◌≤◌, Bool, false, not, ◌&&◌, ◌==◌, List, [], ◌∷◌, Option, None}
 use Rattle.std.specs.List.{list_any}
 use Rattle.asio_types.specs.declared.event.Event.{Event}
 use Rattle.asio_types.specs.declared.event.Event.TheVariants as event
@@ -9,6 +9,7 @@ use Rattle.session_script.specs.Lanes.{is_inline}
 use Rattle.strand_core.specs.Execution.{IsWholeExecution}
 use Rattle.history_rules.specs.Legal.{reactor_after}
 use Rattle.history_rules.specs.State.{ReactorHalf}
+use Rattle.history_rules.specs.Time.{pending_count}
 use Rattle.lane_clock.specs.declared.found.Found.{Found}
 use Rattle.lane_clock.specs.declared.note.Note.{Note}
 use Rattle.lane_clock.specs.declared.step.ClockStep.{ClockStep}
@@ -77,12 +78,13 @@ module _ (names : SessionNames) (opener : List ClockStep) (lane : ℕ) where
     pub ends : EndsTurn names.script names.told
         (reactor_after names.script names.told (half_after parts) (start_event part.start)) part.end
 
-  -- the reactor fails before its time has moved
+  -- the reactor fails before its time has moved, which moves only where something is pending
   pub record IsFailedPart (parts : List Part) (part : FailedPart) : Type 0 where
     pub reactor : lane ≡ reactor_lane names.script
     pub working : are_broken parts ≡ false
     pub next : part.place ≡ next_place parts
     pub going : FoundGoing parts part.load
+    pub pending : 1 ≤ pending_count (half_after parts)
 
   -- the lane neither has the handler of what it saw at its next place, nor is that a request that it
   -- may take; only the first is kept

@@ -47,6 +47,7 @@ pub mod Rooms
 pub mod SeatNumbers
 pub mod SessionRooms
 pub mod Setup
+pub mod SideBySide
 pub mod Stand
 pub mod TakingIn
 pub mod Telling

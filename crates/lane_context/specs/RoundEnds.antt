@@ -1,5 +1,5 @@
 -- How a round ends, and why (Asio reference, io_context::run, ::poll, ::stopped).
-use Rattle.std.specs.Prelude.{◌≡◌, ◌≢◌, ◌⊎◌, ℕ, ◌+◌, ◌-◌, ◌<◌, List, Option, Some, None, length, slice_get}
+use Rattle.std.specs.Prelude.{◌≡◌, ◌≢◌, ◌⊎◌, ℕ, ◌+◌, ◌-◌, ◌<◌, List, Option, Some, None, length, map, slice_get}
 use Rattle.session_script.specs.Script.{ScriptModel}
 use Rattle.lane_context.specs.declared.closing.Closing.{Closing}
 use Rattle.lane_context.specs.declared.closing.Closing.TheVariants as closing
@@ -9,7 +9,7 @@ use Rattle.lane_context.specs.declared.round_end.RoundEnd.{RoundEnd}
 use Rattle.lane_context.specs.declared.round_end.RoundEnd.TheVariants as round
 use Rattle.lane_context.specs.declared.run_end.RunEnd.{RunEnd}
 use Rattle.lane_context.specs.declared.run_end.RunEnd.TheVariants as end
-use Rattle.lane_context.specs.AllWorkers.{HadFailed, KnowTheRound, NoneFaulted, clock_seat}
+use Rattle.lane_context.specs.AllWorkers.{HadFailed, KnowTheRound, NoneFaulted, clock_seat, log_of}
 use Rattle.lane_context.specs.Attempts.{WorkerState}
 use Rattle.lane_context.specs.Attending.{HasGoneOn}
 use Rattle.lane_context.specs.ClosingTries.{HasClosedRound}
@@ -97,4 +97,6 @@ module _ {H X : Type 0} where
     pub none : now ≢ round.Fault → NoneFaulted news
     pub ran : now ≢ round.Fault → OwnRanLast t lanes (run_end_of now) olds news
     pub others : OtherLastsStay olds news
+    -- nobody draws a stop
+    pub logs : map log_of news ≡ map log_of olds
     pub rounds : KnowTheRound t.terms.names.script opener_now.stand news

@@ -1,9 +1,9 @@
 //! The end of a context without a lock.
 ghost use Rattle.std.specs.Prelude.{◌≡◌, ◌<◌, ◌≤◌, [], ℕ, IfSome, None, length, map, slice_get, slice_index_or, vec_capacity};
 ghost use Rattle.lane_map.specs.LaneNumbers.{reactor_lane};
-ghost use Rattle.lane_context.specs.AllWorkers.{AreCuts, AreReady, clock_seat};
+ghost use Rattle.lane_context.specs.AllWorkers.{AreCuts, AreReady, clock_seat, log_of};
 ghost use Rattle.lane_context.specs.Benches.{AreWorkers};
-ghost use Rattle.lane_context.specs.Finishing.{IsGivenBack, IsOver, logs_in};
+ghost use Rattle.lane_context.specs.Finishing.{IsGivenBack, IsOver, KeepLogsOf, logs_in};
 ghost use Rattle.lane_context.specs.Gathering.{AreSeated, StandsForFirst, unseated};
 ghost use Rattle.lane_context.specs.Logs.{AreLogs};
 ghost use Rattle.lane_context.specs.Turning.{log_half};
@@ -88,7 +88,8 @@ impl<'a, X: Reactor, H: CompletionHandler, N: LaneSession> Context<'a, X, H, N> 
         requires cuts { AreCuts N.names.script opener }
         requires over { IsOver N.names.script opener }
         ensures logs { AreLogs N.names (logs_in result.0) }
-        ensures reactor { IsGivenBack (log_half N.names
+        ensures worker_logs { KeepLogsOf log_of N.names.script (logs_in result.0) workers.entry.items }
+        ensures reactor { IsGivenBack N.names.told (log_half N.names
             (slice_index_or result.0.entries (reactor_lane N.names.script) []))
             N.faults (X.faults result.1) (X.state result.1) (X.told result.1) }
     {
@@ -123,7 +124,8 @@ impl<'a, X: Reactor, H: CompletionHandler, N: LaneSession> Context<'a, X, H, N> 
         requires cuts { AreCuts N.names.script workers.opener }
         requires over { IsOver N.names.script workers.opener }
         ensures logs { AreLogs N.names (logs_in result.0) }
-        ensures reactor { IsGivenBack (log_half N.names
+        ensures worker_logs { KeepLogsOf log_of N.names.script (logs_in result.0) workers.entry.all }
+        ensures reactor { IsGivenBack N.names.told (log_half N.names
             (slice_index_or result.0.entries (reactor_lane N.names.script) []))
             N.faults (X.faults result.1) (X.state result.1) (X.told result.1) }
     {

@@ -4,7 +4,7 @@ ghost use Rattle.lane_clock.specs.Seats.{Owns};
 ghost use Rattle.lane_map.specs.LaneNumbers.{reactor_lane};
 ghost use Rattle.lane_context.specs.Cuts.{EventsAreCuts};
 ghost use Rattle.lane_context.specs.EndingRooms.{HasLeavingRoom};
-ghost use Rattle.lane_context.specs.Finishing.{AreClosed, IsGivenBack, IsOver, logs_in};
+ghost use Rattle.lane_context.specs.Finishing.{AreClosed, IsGivenBack, IsOver, KeepLogsOf, logs_in};
 ghost use Rattle.lane_context.specs.Logs.{AreLogs, session_layout};
 ghost use Rattle.lane_context.specs.Meeting.{lists_of};
 ghost use Rattle.lane_context.specs.Openers.{IsOpener};
@@ -118,7 +118,9 @@ pub(crate) fn finish<'a, X: Reactor, H: CompletionHandler, N: LaneSession>(
     requires over { IsOver N.names.script ending.opener }
     requires room { HasLeavingRoom N.names.script room }
     ensures logs { AreLogs N.names (logs_in result.0) }
-    ensures reactor { IsGivenBack (log_half N.names
+    ensures worker_logs { KeepLogsOf (λ worker. worker.pen.log) N.names.script (logs_in result.0)
+        ending.entry.workers.items }
+    ensures reactor { IsGivenBack N.names.told (log_half N.names
         (slice_index_or result.0.entries (reactor_lane N.names.script) []))
         N.faults (X.faults result.1) (X.state result.1) (X.told result.1) }
 {

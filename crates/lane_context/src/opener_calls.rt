@@ -1,6 +1,6 @@
 //! The opener's calls: at each, all turns are in its hands, and every lane and worker takes part.
 ghost use Rattle.std.specs.Prelude.{◌≡◌, ◌<◌, ◌≤◌, [], ℕ, IfSome, IsFalse, IsTrue, None, length, map, slice_get, true, vec_capacity};
-ghost use Rattle.lane_context.specs.AllWorkers.{AreCuts, AreReady, HadFailed, HasAllTurns, KnowTheRound, NoneFaulted, clock_seat, last_of};
+ghost use Rattle.lane_context.specs.AllWorkers.{AreCuts, AreReady, HadFailed, HasAllTurns, KnowTheRound, NoneFaulted, clock_seat, last_of, log_of};
 ghost use Rattle.lane_context.specs.Benches.{AreLanes, AreWorkers, HasHeld, ReactorGoesOn};
 ghost use Rattle.lane_context.specs.Besides.{besides_of, rests_of};
 ghost use Rattle.lane_context.specs.ClosingTries.{HasHeardFailure};
@@ -83,6 +83,7 @@ impl<'a, X: Reactor, H: CompletionHandler, N: LaneSession> Context<'a, X, H, N> 
         ensures ready { AreReady N.names.script self.now workers.new }
         ensures rounds { KnowTheRound N.names.script opener.new.stand workers.new }
         ensures lasts { map last_of workers.new ≡ map last_of workers.old }
+        ensures logs { map log_of workers.new ≡ map log_of workers.old }
         ensures none { bench.new.items ≡ [] }
         ensures room { vec_capacity bench.new ≡ vec_capacity bench.old }
     {
@@ -110,6 +111,7 @@ impl<'a, X: Reactor, H: CompletionHandler, N: LaneSession> Context<'a, X, H, N> 
         ensures ready { AreReady N.names.script self.new workers.new.all }
         ensures rounds { KnowTheRound N.names.script workers.new.opener.stand workers.new.all }
         ensures lasts { map last_of workers.new.all ≡ map last_of workers.old.all }
+        ensures logs { map log_of workers.new.all ≡ map log_of workers.old.all }
     {
         self.open_bench(
             &mut workers.opener,
@@ -138,6 +140,7 @@ impl<'a, X: Reactor, H: CompletionHandler, N: LaneSession> Context<'a, X, H, N> 
         ensures rounds { IsTrue result →
             KnowTheRound N.names.script workers.new.opener.stand workers.new.all }
         ensures lasts { map last_of workers.new.all ≡ map last_of workers.old.all }
+        ensures logs { map log_of workers.new.all ≡ map log_of workers.old.all }
     {
         self.restart_bench(
             &mut workers.opener,
@@ -167,6 +170,7 @@ impl<'a, X: Reactor, H: CompletionHandler, N: LaneSession> Context<'a, X, H, N> 
         ensures rounds { IsTrue result →
             KnowTheRound N.names.script opener.new.stand workers.new }
         ensures lasts { map last_of workers.new ≡ map last_of workers.old }
+        ensures logs { map log_of workers.new ≡ map log_of workers.old }
         ensures none { bench.new.items ≡ [] }
         ensures room { vec_capacity bench.new ≡ vec_capacity bench.old }
     {

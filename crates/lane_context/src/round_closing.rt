@@ -1,8 +1,8 @@
 //! Closing a round, with all turns in one hand.
-ghost use Rattle.std.specs.Prelude.{◌≡◌, ◌≢◌, ◌<◌, ◌≤◌, [], IfNone, IfSome, length, true, vec_capacity};
+ghost use Rattle.std.specs.Prelude.{◌≡◌, ◌≢◌, ◌<◌, ◌≤◌, [], IfNone, IfSome, length, map, true, vec_capacity};
 ghost use Rattle.lane_context.specs.declared.closing_try.ClosingTry.TheVariants.{Refuted};
 ghost use Rattle.lane_context.specs.declared.round_end.RoundEnd.TheVariants.{Fault};
-ghost use Rattle.lane_context.specs.AllWorkers.{AreCuts, AreReady, KnowTheRound, NoneFaulted, clock_seat};
+ghost use Rattle.lane_context.specs.AllWorkers.{AreCuts, AreReady, KnowTheRound, NoneFaulted, clock_seat, log_of};
 ghost use Rattle.lane_context.specs.Attending.{HasGoneOn, KnowsAllOf};
 ghost use Rattle.lane_context.specs.Benches.{AreLanes, AreWorkers};
 ghost use Rattle.lane_context.specs.Besides.{besides_of, rests_of};
@@ -324,6 +324,7 @@ impl<'a, X: Reactor, H: CompletionHandler, N: LaneSession> Context<'a, X, H, N> 
             (tries (terms N.names H.marks X.state X.told X.faults N.faults N.clock) 16)
             self.now.lanes (run_end_of result) workers.old workers.new }
         ensures others { OtherLastsStay workers.old workers.new }
+        ensures logs { map log_of workers.new ≡ map log_of workers.old }
         ensures rounds { KnowTheRound N.names.script opener.new.stand workers.new }
         ensures cuts { AreCuts N.names.script opener.new }
         ensures ready { AreReady N.names.script self.now workers.new }
@@ -355,6 +356,7 @@ impl<'a, X: Reactor, H: CompletionHandler, N: LaneSession> Context<'a, X, H, N> 
             (tries (terms N.names H.marks X.state X.told X.faults N.faults N.clock) 16)
             self.old.lanes (run_end_of result) workers.old.all workers.new.all }
         ensures others { OtherLastsStay workers.old.all workers.new.all }
+        ensures logs { map log_of workers.new.all ≡ map log_of workers.old.all }
         ensures rounds { KnowTheRound N.names.script workers.new.opener.stand workers.new.all }
         ensures cuts { AreCuts N.names.script workers.new.opener }
         ensures ready { AreReady N.names.script self.new workers.new.all }

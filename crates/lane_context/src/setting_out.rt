@@ -7,6 +7,7 @@ ghost use Rattle.lane_context.specs.Benches.{AreLanes, AreWorkers, IsRow};
 ghost use Rattle.lane_context.specs.LaneOf.{seat_of};
 ghost use Rattle.lane_context.specs.LaneValues.{handlers, reactor};
 ghost use Rattle.lane_context.specs.Logs.{session_layout};
+ghost use Rattle.lane_context.specs.Rooms.{EachAt};
 ghost use Rattle.lane_context.specs.SeatNumbers.{worker_count};
 ghost use Rattle.lane_context.specs.SessionRooms.{AreCallRooms, AreFresh, standing_by};
 
@@ -155,6 +156,7 @@ impl<'a, X: Reactor, H: CompletionHandler, N: LaneSession> SessionRoom<'a, X, H,
             begun.batons.items }
         requires last { begun.reactor.lane.pen.seat.number ≡ reactor_lane N.names.script }
         requires workers { AreWorkers (λ seat. seat.pen.seat) N.names.script begun.workers.items }
+        requires none_drawn { EachAt (λ k seat. seat.pen.log ≡ []) begun.workers.items }
         ensures ready { AreReady N.names.script result.0 result.1.all }
         ensures fresh { AreFresh result.1.all }
         ensures opener { result.1.opener ≡ begun.entry.opener }

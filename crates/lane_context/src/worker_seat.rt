@@ -151,9 +151,9 @@ impl<N: LaneSession> Attendee<N> for WorkerSeat<N> {
 
     ghost place = { λ w. 0 };
 
-    ghost use Rattle.lane_context.specs.Besides.{nothing_besides};
+    ghost use Rattle.lane_context.specs.Besides.{only_log};
 
-    ghost rest = { λ w. nothing_besides };
+    ghost rest = { λ w. only_log w.pen.log };
 
     fn report(&mut self, opener: &mut Opener<N>, clock: &LaneClock) {
         opener.hear(clock, &mut self.pen);

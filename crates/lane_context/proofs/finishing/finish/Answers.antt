@@ -15,7 +15,7 @@ use Rattle.lane_context.specs.Meeting.{lists_of}
 use Rattle.lane_context.specs.Pens.{PenView}
 use Rattle.lane_context.specs.Turning.{log_half}
 use Rattle.lane_context.proofs.EndingLemmas.{baton_entry, baton_number, have_left, pens_clocks, pens_numbers, pens_own, reactor_entry}
-use Rattle.lane_context.proofs.FinishLemmas.{HaveLeft, are_logs, pen_count}
+use Rattle.lane_context.proofs.FinishLemmas.{HaveLeft, are_logs, pen_count, worker_logs}
 use Rattle.lane_context.proofs.GivingBackLemmas.{given_back}
 use Rattle.lane_context.proofs.LeftLemmas.{none_discarded}
 use Rattle.lane_context.proofs.finishing.finish.Given.{Over}
@@ -141,9 +141,18 @@ pub returns-clause-reactor : goal.returns-clause-reactor
 returns-clause-reactor g c =
     let at = (goal.at.returns-clause-reactor g c).After-close_all-entries in
     subst (λ (log : List LogEntry).
-    IsGivenBack (log_half g.N.LaneSession.names log) g.N.LaneSession.faults
+    IsGivenBack g.N.LaneSession.names.told (log_half g.N.LaneSession.names log) g.N.LaneSession.faults
     (g.X.Reactor.faults c.into_reactor.result) (g.X.Reactor.state c.into_reactor.result)
     (g.X.Reactor.told c.into_reactor.result)) (sym (last_log g at))
     (given_back g.N.LaneSession.names g.X.Reactor.state g.X.Reactor.told g.X.Reactor.faults g.N.LaneSession.faults
     (log_half g.N.LaneSession.names c.reactor.inside.lane.pen.log) c.reactor.inside.proactor c.into_reactor.result
     c.reactor.invariant.keeps c.into_reactor.ensures.reactor c.into_reactor.ensures.stands)
+
+pub returns-clause-worker_logs : goal.returns-clause-worker_logs
+returns-clause-worker_logs g c =
+    let first = (goal.at.returns-clause-worker_logs g c).After-part_all-pens in
+    let at = (goal.at.returns-clause-worker_logs g c).After-close_all-entries in
+    worker_logs g.N.LaneSession.names g.N.LaneSession.clock (lanes_in c.args.ending.batons.items c.reactor.inside.lane)
+    c.args.ending.workers.items (left_of g first) c.args.ending.opener
+    (map (λ log. log.items) c.close_all-entries.result.entries.items) c.close_all-entries.result.known
+    c.close_all-entries.result.last (shut_of g at)

@@ -1,7 +1,7 @@
 use Rattle.std.proofs.Common.{◌≡◌, Some, length, refl, sym, ◌∙◌}
 use Rattle.std.specs.Prelude.{slice_get}
 use Rattle.std.proofs.lemmas.Option.{slice_get_read}
-use Rattle.lane_context.proofs.RoundEndLemmas.{faulted_is, more_none_faulted, no_faulted_below, none_faulted_of}
+use Rattle.lane_context.proofs.LastEndLemmas.{faulted_is, more_none_faulted, no_faulted_below, none_faulted_of}
 use Rattle.lane_context.proofs.own_runs.has_one_faulted.Goals as goal
 
 pub loop-worker-init : goal.loop-worker-init

@@ -1,4 +1,4 @@
-use Rattle.lane_context.proofs.RoundEndLemmas.{NoneFaultedBelow}
+use Rattle.lane_context.proofs.LastEndLemmas.{NoneFaultedBelow}
 use Rattle.lane_context.proofs.own_runs.has_one_faulted.Given as goal
 
 abbrev pub invariant-loop-worker : goal.invariant-loop-worker

@@ -20,3 +20,6 @@ returns-clause-others g c = c.close_bench.ensures.ended.others
 
 pub returns-clause-rounds : goal.returns-clause-rounds
 returns-clause-rounds g c = c.close_bench.ensures.ended.rounds
+
+pub returns-clause-logs : goal.returns-clause-logs
+returns-clause-logs g c = c.close_bench.ensures.ended.logs

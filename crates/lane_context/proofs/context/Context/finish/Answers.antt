@@ -1,11 +1,12 @@
 use Rattle.std.proofs.Common.{◌≡◌, ℕ, List, None, subst, sym}
 use Rattle.std.specs.Prelude.{IfSome, slice_get}
-use Rattle.lane_context.specs.AllWorkers.{AreCuts, WorkersView, clock_seat}
+use Rattle.lane_context.specs.AllWorkers.{AreCuts, WorkersView, clock_seat, log_of}
 use Rattle.lane_context.specs.Attempts.{WorkerState}
 use Rattle.lane_context.specs.Benches.{AreWorkers}
-use Rattle.lane_context.specs.Finishing.{IsOver}
+use Rattle.lane_context.specs.Finishing.{IsOver, KeepLogsOf, logs_in}
+use Rattle.lane_context.specs.Gathering.{unseated}
 use Rattle.lane_context.proofs.AllWorkersLemmas.{rows_gathered}
-use Rattle.lane_context.proofs.ContextEndLemmas.{none_kept}
+use Rattle.lane_context.proofs.ContextEndLemmas.{kept_of, none_kept}
 use Rattle.lane_context.proofs.context.Context.finish.Goals as goal
 
 pub end-requires-clause-workers : goal.end-requires-clause-workers
@@ -31,3 +32,13 @@ pub end-requires-clause-over : goal.end-requires-clause-over
 end-requires-clause-over g c =
     subst (λ (w : WorkersView g.row.H.Denot g.row.X.Denot). IsOver g.N.LaneSession.names.script w.opener)
     (sym c.workers.view_is) c.requires.over
+
+pub returns-clause-worker_logs : goal.returns-clause-worker_logs
+returns-clause-worker_logs g c =
+    subst (λ (w : WorkersView g.row.H.Denot g.row.X.Denot).
+    KeepLogsOf log_of g.N.LaneSession.names.script (logs_in c.end.result.0) w.all) c.workers.view_is
+    (kept_of (λ (w : WorkerState g.row.H.Denot g.row.X.Denot). unseated w) log_of g.N.LaneSession.names.script
+    (logs_in c.end.result.0) c.workers.inside.all.items
+    (subst (λ (ws : List (WorkerState g.row.H.Denot g.row.X.Denot)).
+    KeepLogsOf log_of g.N.LaneSession.names.script (logs_in c.end.result.0) ws) c.gather_all-seat.ensures.left
+    c.end.ensures.worker_logs))

@@ -1,10 +1,8 @@
-use Rattle.std.proofs.Common.{◌≡◌, length, subst, sym, ◌∙◌}
-use Rattle.std.specs.Prelude.{map}
+use Rattle.std.proofs.Common.{◌≡◌, subst, sym}
 use Rattle.lane_context.specs.AllWorkers.{clock_seat}
 use Rattle.lane_context.specs.Benches.{AreWorkers}
 use Rattle.lane_context.specs.Besides.{besides_of, rests_of}
-use Rattle.lane_context.specs.Gathering.{unseated}
-use Rattle.lane_context.proofs.AllWorkersLemmas.{free_there, lasts_again, ready_again, rounds_sat, rows_gathered}
+use Rattle.lane_context.proofs.AllWorkersLemmas.{free_there, lasts_again, logs_again, ready_again, rounds_sat, rows_gathered}
 use Rattle.lane_context.proofs.context.Context.open_bench.Goals as goal
 
 pub open_all-requires-clause-workers : goal.open_all-requires-clause-workers
@@ -34,6 +32,14 @@ returns-clause-rounds g c =
 pub returns-clause-lasts : goal.returns-clause-lasts
 returns-clause-lasts g c =
     lasts_again g.N.LaneSession.names.script c.args.self.now c.args.workers.now c.open_all.new.workers
+    c.put_away.new.workers c.requires.ready c.open_all.ensures.workers
+    (subst (λ ws. rests_of besides_of c.open_all.new.workers ≡ rests_of besides_of ws) c.lay_out-seat.ensures.left
+    c.open_all.ensures.rest)
+    c.put_away.auto.workers c.put_away.ensures.sat
+
+pub returns-clause-logs : goal.returns-clause-logs
+returns-clause-logs g c =
+    logs_again g.N.LaneSession.names.script c.args.self.now c.args.workers.now c.open_all.new.workers
     c.put_away.new.workers c.requires.ready c.open_all.ensures.workers
     (subst (λ ws. rests_of besides_of c.open_all.new.workers ≡ rests_of besides_of ws) c.lay_out-seat.ensures.left
     c.open_all.ensures.rest)

@@ -2,7 +2,7 @@ use Rattle.std.proofs.Common.{◌≡◌, subst, sym}
 use Rattle.lane_context.specs.AllWorkers.{clock_seat}
 use Rattle.lane_context.specs.Benches.{AreWorkers}
 use Rattle.lane_context.specs.Besides.{besides_of, rests_of}
-use Rattle.lane_context.proofs.AllWorkersLemmas.{free_there, lasts_again, ready_again, rounds_sat, rows_gathered}
+use Rattle.lane_context.proofs.AllWorkersLemmas.{free_there, lasts_again, logs_again, ready_again, rounds_sat, rows_gathered}
 use Rattle.lane_context.proofs.context.Context.restart_bench.Goals as goal
 
 pub restart_on_bench-restarted-requires-clause-rows : goal.restart_on_bench-restarted-requires-clause-rows
@@ -34,6 +34,15 @@ returns-clause-rounds g c done =
 pub returns-clause-lasts : goal.returns-clause-lasts
 returns-clause-lasts g c =
     lasts_again g.N.LaneSession.names.script c.args.self.now c.args.workers.now
+    c.restart_on_bench-restarted.new.workers
+    c.put_away.new.workers c.requires.ready c.restart_on_bench-restarted.ensures.rows
+    (subst (λ ws. rests_of besides_of c.restart_on_bench-restarted.new.workers ≡ rests_of besides_of ws)
+    c.lay_out-seat.ensures.left c.restart_on_bench-restarted.ensures.rest)
+    c.put_away.auto.workers c.put_away.ensures.sat
+
+pub returns-clause-logs : goal.returns-clause-logs
+returns-clause-logs g c =
+    logs_again g.N.LaneSession.names.script c.args.self.now c.args.workers.now
     c.restart_on_bench-restarted.new.workers
     c.put_away.new.workers c.requires.ready c.restart_on_bench-restarted.ensures.rows
     (subst (λ ws. rests_of besides_of c.restart_on_bench-restarted.new.workers ≡ rests_of besides_of ws)

@@ -2,7 +2,7 @@ use Rattle.std.proofs.Common.{◌≡◌, ◌<◌, ◌-◌, ℕ, Some, None, get_
 use Rattle.std.specs.Prelude.{IfSome, slice_get}
 use Rattle.std.proofs.lemmas.Option.{slice_get-get_or}
 use Rattle.lane_context.specs.Attempts.{WorkerState}
-use Rattle.lane_context.proofs.RoundEndLemmas.{last_set}
+use Rattle.lane_context.proofs.LastEndLemmas.{last_set}
 use Rattle.lane_context.proofs.context.Context.run_last.Goals as goal
 
 pub run_own-requires-clause-free : goal.run_own-requires-clause-free

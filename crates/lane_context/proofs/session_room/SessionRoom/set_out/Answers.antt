@@ -14,7 +14,8 @@ seat_first-requires-clause-rows g c =
 
 pub seat_first-requires-clause-fresh : goal.seat_first-requires-clause-fresh
 seat_first-requires-clause-fresh g c =
-    subst AreFresh (sym (c.as_mut_slice.ensures.value ∙ c.stand_by-all.ensures)) (fresh_standing c.args.begun.workers.items)
+    subst AreFresh (sym (c.as_mut_slice.ensures.value ∙ c.stand_by-all.ensures))
+    (fresh_standing c.args.begun.workers.items c.requires.none_drawn)
 
 pub seat_first-requires-clause-lanes : goal.seat_first-requires-clause-lanes
 seat_first-requires-clause-lanes g c =

@@ -1,0 +1,22 @@
+-- Workers that run at the same time (Asio reference, io_context::run).
+use Rattle.std.specs.Prelude.{◌≡◌, ℕ, ◌<◌, ◌≤◌, List, Some, slice_get}
+use Rattle.turn_table.specs.Seated.{Lanes}
+use Rattle.lane_context.specs.declared.run_end.RunEnd.{RunEnd}
+use Rattle.lane_context.specs.Attempts.{IsSeated, WorkerState}
+use Rattle.lane_context.specs.LaneValues.{Tries}
+use Rattle.lane_context.specs.Runs.{HasRun}
+use Rattle.lane_context.specs.Scanning.{GoesOn}
+
+module _ {H X : Type 0} (t : Tries H X) (lanes : Lanes) where
+  -- a worker called `run`, and has its seat at the table
+  pub record HasCalledRun (old new : WorkerState H X) : Type 0 where
+    pub answer : RunEnd
+    pub run : HasRun t lanes.lanes answer old new
+    pub on : GoesOn old new
+    pub seated : IsSeated lanes new
+
+  -- the first of all workers, so many, did, and the others are as they were
+  pub record FirstHaveRun (count : ℕ) (olds news : List (WorkerState H X)) : Type 0 where
+    pub ran : (k : ℕ) (old new : WorkerState H X) → k < count → slice_get olds k ≡ Some old →
+        slice_get news k ≡ Some new → HasCalledRun old new
+    pub others : (k : ℕ) → count ≤ k → slice_get news k ≡ slice_get olds k
