@@ -1,6 +1,6 @@
 //! Operations of a context without a lock as futures: a task is a state machine that gets the results
 //! of operations, while a worker executes handlers beside others. It promises which receipts a task
-//! gets, and why it ends. Nothing stands on it yet.
+//! gets, and why it ends. Sessions of tasks will stand on it.
 #![tactic(auto)]
 
 mod collecting;

@@ -1,7 +1,10 @@
 pub mod CompleteLemmas
 pub mod FormLemmas
 pub mod GenLemmas
+pub mod LaneRoundLemmas
+pub mod LaneWorkerLemmas
 pub mod LastLemmas
+pub mod MergedLemmas
 pub mod NumberLemmas
 pub mod RackLemmas
 pub mod RunLemmas

@@ -2,6 +2,8 @@ pub mod Answer
 pub mod Ending
 pub mod Form
 pub mod Given
+pub mod LaneNames
+pub mod LaneRounds
 pub mod Last
 pub mod Origin
 pub mod Outcome

@@ -1,4 +1,4 @@
-//! The one seam of a session: behind it an io_context runs a script, and the rest doesn't know which.
+//! A script is run on one io_context, without a lock or with one.
 ghost use Rattle.std.specs.Prelude.{◌≡◌, false, length, IfErr, IfOk, OnErr, OnOk};
 ghost use Rattle.book_context.specs.Finished.{IsFinished};
 ghost use Rattle.book_context.specs.Setup.{IsRefused, TakesHandlers};
@@ -8,6 +8,7 @@ ghost use Rattle.session_run.specs.RackMarks.{drop_mark, rack_run_mark};
 ghost use Rattle.session_script.specs.Limits.{most_acts};
 
 use crate::one_lock::run_locked;
+use crate::without_lock::run_unlocked;
 use asio_types::SetupFault;
 use history_book::History;
 use op_handlers::{CompletionHandler, Rack};
@@ -20,15 +21,34 @@ use std::thread::Threads;
 
 /// The io_context that a session runs on.
 #[derive(Clone, Copy, Debug, PartialEq, Eq)]
-pub(crate) enum ContextKind {
+pub enum ContextKind {
+    /// Without a lock: handlers of different lanes execute at the same time.
+    WithoutLock,
     /// One lock round it: a handler executes inside one hold of the lock.
     OneLock,
 }
 
 /// Runs a script on one io_context, from the set-up of its reactor to the destruction of every
-/// handler that never ran, and gives the history and the reactor. Takes all memory first. After a
-/// refusal nothing was run, and the rack is as before.
-pub(crate) fn run_script<R: Threads + Wait + Sync, X: Reactor + Send, H: CompletionHandler + Send>(
+/// handler that never ran, each round by as many threads as it names, as far as the system has them;
+/// and gives the history and the reactor (Asio reference, io_context). The rack loses the handlers of
+/// the script's operations, and no other.
+///
+/// `Failed`: the reactor couldn't be set up. `NoMemory`: some memory wasn't given. Both come before
+/// anything is run, and leave the rack as it was. Takes all memory first. May wait, as a guard that
+/// is never released does.
+///
+/// In `crates/session_run/src/running.rt`:
+///
+/// ```rust
+/// match run_script(rt, alloc, kind, script, reactor, rack) {
+///     Ok(ran) => {
+/// ..
+///     Err((SetupFault::Failed, reactor)) => {
+/// ..
+///     Err((SetupFault::NoMemory, reactor)) => Err(reactor),
+/// }
+/// ```
+pub fn run_script<R: Threads + Wait + Sync, X: Reactor + Send, H: CompletionHandler + Send>(
     rt: &R,
     alloc: Global,
     kind: ContextKind,
@@ -47,6 +67,7 @@ pub(crate) fn run_script<R: Threads + Wait + Sync, X: Reactor + Send, H: Complet
         (X.faults ran.1) ran.0.events (X.state ran.1) (X.told ran.1)) }
 {
     match kind {
+        ContextKind::WithoutLock => run_unlocked(rt, alloc, script, reactor, rack),
         ContextKind::OneLock => run_locked::<Brand, R, X, H>(rt, alloc, script, reactor, rack),
     }
 }

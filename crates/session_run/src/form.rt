@@ -94,6 +94,16 @@ pub(crate) fn form_of(words: &[String]) -> Option<Form>
 }
 
 /// Whether the words ask for a session over sockets, whose reactor the caller makes.
+///
+/// In `crates/asio_run/src/main.rt`:
+///
+/// ```rust
+/// let ended = if asks_for_sockets(words) {
+///     let reactor = MioReactor::make(rt);
+/// ..
+/// } else {
+///     match ScriptReactor::make(alloc, &[]) {
+/// ```
 pub fn asks_for_sockets(words: &[String]) -> bool
     ensures { IsTrue result ↔ IsNet (map string_bytes words.now) }
 {

@@ -1,3 +1,4 @@
+//! The rounds of a script on the io_context with one lock.
 use book_context::{BookContext, Session};
 use op_handlers::CompletionHandler;
 use reactor_trait::Reactor;
@@ -49,10 +50,10 @@ fn run_round<
     context.close_round(rt);
 }
 
-/// Runs the rounds of a script on its context, in their order, each by as many threads as it names,
-/// as far as the system has them. No clause can say that a handler was executed or by which thread:
-/// what isn't done here, the end of the context does. Takes no memory; the threads are the
-/// system's. May wait, as a guard that is never released does.
+/// Runs the rounds of a script on its context with one lock, in their order, each by as many threads
+/// as it names, as far as the system has them. No clause can say that a handler was executed or by
+/// which thread: what isn't done here, the end of the context does. Takes no memory; the threads are
+/// the system's. May wait, as a guard that is never released does.
 pub fn run_rounds<
     'a,
     R: Threads + Wait + Sync,

@@ -20,20 +20,42 @@ use std::thread::Threads;
 
 /// Does what the words say, which are those behind the program's name. `run` reads a script from
 /// the source and runs it on one io_context over the reactor, with the handlers of the rack: each
-/// round by as many threads as it names, as far as the system has them; and it writes its trace to
-/// out. `run --net` does the same; whoever makes the reactor sees by it what is asked for
-/// (`asks_for_sockets`). `gen START SIZE` makes a script from two numbers, START to 65,536 and SIZE
-/// from 1 to 1,024, both without leading zeros; it reads nothing, runs the script so, and writes
-/// the summary of its history. `upgrade` reads a script and writes its text in version 2 to out,
-/// its words with one space between two, and one line feed; it runs nothing, and leaves rack and
-/// reactor as they were. The status says how far this went, with its cause; the notes get the
-/// status's note, and change no status. The reactor comes back.
+/// round by as many threads as it names, as far as the system has them, so that handlers of
+/// different strands may execute at the same time; and it writes its trace to out. `run --net` does
+/// the same; whoever makes the reactor sees by it what is asked for (`asks_for_sockets`). `gen START
+/// SIZE` makes a script from two numbers, START to 65,536 and SIZE from 1 to 1,024, both without
+/// leading zeros; it reads nothing, runs the script so, and writes the summary of its history.
+/// `upgrade` reads a script and writes its text in version 2 to out, its words with one space between
+/// two, and one line feed; it runs nothing, and leaves rack and reactor as they were. The status says
+/// how far this went, with its cause; the notes get the status's note, and change no status. The
+/// reactor comes back.
 ///
 /// Reads at most `MOST_READ` bytes. With the statuses 1, 2, 3 and 6 nothing was run and nothing
 /// written; with 0, 4 and 5 every handler was spent by `run` and `gen`, and none by `upgrade`. A
 /// reactor that can't be set up gives the history `fault` alone. Memory is taken for the text, the
 /// script, and the context with its history or the upgrade with its text, before the first handler
 /// runs and before anything is written. May wait, as a guard that is never released does.
+///
+/// In `crates/prime_count/src/main.rt`:
+///
+/// ```rust
+/// let words = [String::from_str(alloc, "run")?];
+/// let mut source = SureSource::make(alloc, script.as_bytes())?;
+/// let mut out = TextSink::make(alloc, ROOM, &[])?;
+/// let mut notes = SureSink::make(alloc, ROOM)?;
+/// ..
+/// let reactor = SilentReactor::empty(alloc);
+/// let (status, _) = asio_session(
+///     rt,
+///     alloc,
+///     &words,
+///     &mut source,
+///     &mut out,
+///     &mut notes,
+///     reactor,
+///     rack,
+/// );
+/// ```
 pub fn asio_session<
     R: Threads + Wait + Sync,
     S: Source,
@@ -73,7 +95,7 @@ pub fn asio_session<
     session_on(
         rt,
         alloc,
-        ContextKind::OneLock,
+        ContextKind::WithoutLock,
         words,
         source,
         out,
@@ -84,7 +106,7 @@ pub fn asio_session<
 }
 
 /// The same session, promised in the same words, on the io_context with one lock: a handler executes
-/// inside one hold of it, so no two do at the same time.
+/// inside one hold of it, so no two do at the same time. It is called as `asio_session` is.
 pub fn book_session<
     R: Threads + Wait + Sync,
     S: Source,

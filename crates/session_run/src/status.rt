@@ -5,6 +5,16 @@ ghost use Rattle.session_run.specs.Status.{number_of, note_of};
 use asio_types::Failed;
 
 /// How a session ended: the program's exit status.
+///
+/// In `crates/prime_count/src/main.rt`:
+///
+/// ```rust
+/// if status != Status::Done {
+///     return Ok(status);
+/// }
+/// ..
+/// ExitCode::from(run(&rt).unwrap_or(Status::NoMemory).number())
+/// ```
 #[derive(Clone, Copy, Debug, PartialEq, Eq)]
 pub enum Status {
     /// The script was read to its end or made, and it was run to its end and the whole trace or

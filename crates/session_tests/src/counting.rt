@@ -1,4 +1,4 @@
-//! Handlers that count their executions.
+//! Handlers that count their executions, and that may wait for another one.
 
 ghost use Rattle.std.specs.Prelude.{◌≡◌, length};
 ghost use Rattle.op_handlers.specs.Rack.{IsWholeRack, handlers_in};
@@ -12,17 +12,27 @@ use std::alloc::Global;
 use std::process::Abort;
 use std::sync::atomic::{AtomicU64, Ordering};
 
-/// How many handlers were executed.
+/// How many handlers were executed, and how many of them saw that a second one was.
 #[derive(Drop)]
 pub(crate) struct Executions {
     count: AtomicU64,
+    met: AtomicU64,
+    /// How often each looks for a second one.
+    looks: u32,
 }
 
 impl Executions {
-    /// Where none was.
+    /// Where none was, and none looks for another one.
     pub(crate) fn none() -> Executions {
+        Executions::with_looks(0)
+    }
+
+    /// Where none was, and each looks so often for a second one.
+    pub(crate) fn with_looks(looks: u32) -> Executions {
         Executions {
             count: AtomicU64::new(0),
+            met: AtomicU64::new(0),
+            looks,
         }
     }
 
@@ -30,9 +40,25 @@ impl Executions {
     pub(crate) fn count(&self) -> u64 {
         self.count.load(Ordering::SeqCst)
     }
+
+    /// How many saw a second one.
+    pub(crate) fn met(&self) -> u64 {
+        self.met.load(Ordering::SeqCst)
+    }
+
+    /// One more is executed, and looks for a second one until it sees it or gives up.
+    fn come(&self) {
+        self.count.fetch_add(1, Ordering::SeqCst);
+        for _ in 0..self.looks {
+            if self.count() >= 2 {
+                self.met.fetch_add(1, Ordering::SeqCst);
+                return;
+            }
+        }
+    }
 }
 
-/// A handler that counts its execution.
+/// A handler that counts its execution, and then waits for a second one.
 pub(crate) struct Counting<'a> {
     number: u64,
     executions: &'a Executions,
@@ -43,7 +69,7 @@ impl<'a> CompletionHandler for Counting<'a> {
 
     fn call(self, call: Call) -> Ran {
         let Counting { number, executions } = self;
-        executions.count.fetch_add(1, Ordering::SeqCst);
+        executions.come();
         Ran {
             mark: number,
             class: class_of(call.code),

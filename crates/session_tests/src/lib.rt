@@ -13,6 +13,8 @@ mod generated;
 #[cfg(test)]
 mod marked;
 #[cfg(test)]
+mod meeting;
+#[cfg(test)]
 mod outside;
 #[cfg(test)]
 mod recorded;

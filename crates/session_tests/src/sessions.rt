@@ -247,7 +247,7 @@ pub(crate) fn writes<R: Abort + Threads + Wait + Sync>(
 }
 
 /// The same of one of the calls.
-fn writes_by<R: Abort + Threads + Wait + Sync>(
+pub(crate) fn writes_by<R: Abort + Threads + Wait + Sync>(
     rt: &R,
     alloc: Global,
     call: Call,

@@ -2,7 +2,7 @@
 //! is legal.
 
 use crate::marked::{Marks, PLAIN};
-use crate::sessions::{BOTH, Call, is_legal, left_by, ran_well, writes};
+use crate::sessions::{BOTH, Call, is_legal, left_by, ran_well, writes, writes_by};
 use crate::wanted::{MEMORY, has, is_bytes, is_text, lacks, lines};
 use std::alloc::Global;
 use std::process::Abort;
@@ -15,6 +15,23 @@ fn sessions_with_one_text_write_it(rt: HostRuntime) {
         writes(&rt, rt.alloc(), script, PLAIN, trace);
     }
 }
+
+#[test]
+fn one_worker_goes_first_where_work_was_put_first(rt: HostRuntime) {
+    for &script in PUT {
+        writes_by(&rt, rt.alloc(), Call::Asio, script, PLAIN, IN_THEIR_ORDER);
+    }
+}
+
+/// A handler posts to two strands: to the second one first, or to the first one.
+const PUT: &[&str] = &[
+    "session 1 strands 2 open { post - { post 1 { } post 0 { } } } run 1",
+    "session 1 strands 2 open { post - { post 0 { } post 1 { } } } run 1",
+];
+
+/// The rules allow other orders too.
+const IN_THEIR_ORDER: &str =
+    "call 0 / back 0 / begin 0 ok 0 / call 1 / back 1 / call 2 / back 2 / end 0 1000 / begin 1 ok 0 / end 1 1001 / begin 2 ok 0 / end 2 1002 / ended";
 
 #[test]
 fn sessions_with_several_texts_write_a_legal_one(rt: HostRuntime) {
