@@ -14,3 +14,6 @@ pub(crate) const MOST_TURNS: u32 = 1_000_000;
 
 /// How often a measure does its whole work at most.
 pub(crate) const MOST_TIMES: u32 = 100_000;
+
+/// How many workers a session has at most.
+pub(crate) const MOST_WORKERS: u32 = 16;

@@ -1,8 +1,8 @@
 use crate::failure::Failure;
 use crate::stopwatch::Measured;
 use crate::{
-    adds, cells, channel, copies, draws, messages, pairs, proactor, replay, sessions, sockets,
-    turns,
+    adds, cells, channel, copies, draws, histories, messages, pairs, proactor, replay, sessions,
+    sockets, turns,
 };
 use std::alloc::Global;
 use std::net::Net;
@@ -11,8 +11,8 @@ use std::sync::Wait;
 use std::thread::Threads;
 use std::time::CpuClock;
 
-/// The measures of a clock, its seats and its turns.
-fn of_threads<R: Clock + CpuClock + Threads + Sync>(
+/// The measures of a clock, its seats and its turns, and of sessions in memory.
+fn of_threads<R: Clock + CpuClock + Threads + Wait + Sync>(
     rt: &R,
     alloc: Global,
     measure: &str,
@@ -26,7 +26,7 @@ fn of_threads<R: Clock + CpuClock + Threads + Sync>(
         "cells" => cells::cells(rt, alloc, first, second),
         "turn" => turns::one_lane(rt, alloc, first, second),
         "turns" => turns::four_lanes(rt, alloc, first, second),
-        _ => Err(Failure::Usage),
+        _ => histories::histories(rt, alloc, measure, first, second),
     }
 }
 

@@ -3,21 +3,20 @@ ghost use Rattle.op_handlers.specs.Rack.{IsWholeRack, handlers_in};
 ghost use Rattle.session_script.specs.Limits.{most_acts};
 
 use crate::failure::Failure;
-use crate::limits::MOST_TIMES;
+use crate::limits::{MOST_TIMES, MOST_WORKERS};
 use crate::session_handlers::rack_of;
-use crate::session_postings::text_of;
+use crate::session_shapes::{Shape, text_of};
 use crate::stopwatch::{Measured, Stopwatch};
 use asio_types::{NoMemory, Sink, Source, SureSink, SureSource};
 use op_handlers::{CompletionHandler, Rack};
 use reactor_trait::{Reactor, SilentReactor};
 use session_run::{Status, asio_session};
+use session_script::MOST_ACTS;
 use std::alloc::Global;
 use std::rt::Clock;
 use std::sync::Wait;
 use std::thread::Threads;
 use std::time::CpuClock;
-
-const MOST_WORKERS: u32 = 16;
 
 /// More bytes than the trace has.
 const ROOM: u32 = 1_048_576;
@@ -106,7 +105,7 @@ pub(crate) fn sessions<R: Clock + CpuClock + Threads + Wait + Sync>(
     if workers == 0 || workers > MOST_WORKERS || times > MOST_TIMES {
         return Err(Failure::Usage);
     }
-    let text = text_of(alloc, workers)?;
+    let text = text_of(alloc, Shape::ManyStrands, MOST_ACTS, workers)?;
     let words = words_of(alloc)?;
     let mut done = Measured::none();
     for _ in 0..times {
