@@ -1,8 +1,8 @@
 #!/usr/bin/env bash
 # Runs what the documents show, in a copy of the tree: each command of README.md, docs/LIBRARY.md and docs/SCRIPT.md, by the programs that
 # were built, the first one also by `rt try` as it stands; each script of docs/SCRIPT.md, and each example of a refusal there. What stands in the block
-# under one has to come out. And each piece of code in docs/LIBRARY.md has to stand in the file that the line above it names. Ends with
-# 'commands: N passed, M failed'.
+# under one has to come out. And each piece of code in docs/LIBRARY.md, and in the comments on what a program calls, has to stand in the file
+# that the line above it names. Ends with 'commands: N passed, M failed'.
 set -u
 cd "$(dirname "$0")/.." || exit 1
 room=$(mktemp -d) || exit 1
@@ -121,6 +121,16 @@ for document in README.md docs/LIBRARY.md docs/SCRIPT.md; do
     esac
   done
 done
+
+# The code in comments.
+while IFS= read -r source; do
+  rm -f "$room"/blocks/*
+  sed -nE 's|^ *///( (.*))?$|\2|p' "$source" > "$room/comments"
+  cut_blocks "$room/comments"
+  for block in "$room"/blocks/???; do
+    has_code "$block" "$(cat "$block.above")"
+  done
+done < <(git grep -lE '^ */// ```rust$' -- 'crates/*.rt')
 
 # The table of refusals: a script in backticks, and where it is refused.
 while IFS='|' read -r _ _ _ _ example refused _; do

@@ -11,9 +11,10 @@ if ! command -v valgrind > /dev/null; then
 fi
 room=$(mktemp -d) || exit 1
 trap 'rm -rf "$room"' EXIT
+# (BUILT names another folder than crates/ in which the programs lie.)
 for program in asio_run asio_check; do
   # (what 'rt ci' keeps of a program may have lost the right to be run)
-  if ! install -m 755 "crates/$program/out/$program" "$room/$program"; then
+  if ! install -m 755 "${BUILT:-crates}/$program/out/$program" "$room/$program"; then
     echo "memory: $program isn't built ('rt ci' builds it, and 'rt run' in its crate's folder)"
     exit 1
   fi

@@ -5,7 +5,8 @@
     random_sessions.py check FOLDER COUNT   runs the scripts of 1 to COUNT by FOLDER/asio_run, each with 1, 2, 4 and 16
                                             workers in every round, and has FOLDER/asio_check judge each trace
 
-A script is valid by construction: a refusal counts as a failure. `check` ends with 'N passed, M failed'."""
+A script is valid by construction: a refusal counts as a failure. Many scripts allow several orders: where a thousand and more
+showed none two, on a machine with two processors, that is a failure too. `check` ends with 'N passed, M failed'."""
 import os
 import re
 import subprocess
@@ -228,7 +229,11 @@ def check(folder, count):
             for fault in faults:
                 print(fault)
     print(f"random_sessions: more than one order was seen of {several} of {count} scripts")
-    print(f"random_sessions: {count * len(WORKERS) - failed} passed, {failed} failed")
+    passed = count * len(WORKERS) - failed
+    if count >= 1000 and os.cpu_count() > 1:
+        passed += several > 0
+        failed += several == 0
+    print(f"random_sessions: {passed} passed, {failed} failed")
     return failed == 0
 
 

@@ -47,4 +47,17 @@ report ms 10 "$program" replay 4096 10
 report us 1000 "$program" replay 100 1000
 report us 100 "$program" proactor 4096 100
 for workers in 1 2 4; do report us 10 "$program" sessions "$workers" 10; done
+# A handler of a session, from its script to its history: acts, and of these the operations.
+handlers() {
+  local acts=$1 operations=$2 shape kind
+  shift 2
+  for shape in "$@"; do
+    for kind in '' locked_; do
+      for workers in 1 2 4; do report ns $((20 * operations)) "$program" "$kind$shape" "$acts" "$workers"; done
+    done
+  done
+}
+handlers 1024 1024 four_strands many_strands no_strand one_strand computing
+handlers 4096 4096 four_strands many_strands no_strand
+handlers 1024 992 expired
 echo "load $(cut -d ' ' -f 1-3 /proc/loadavg)"
