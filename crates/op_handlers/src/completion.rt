@@ -8,6 +8,29 @@ use crate::handler::Handler;
 /// A handler that is spent once, for code that is generic in it: a type over a bound whose facts
 /// name that bound's members holds an `H: CompletionHandler`, where it could not hold the boxed
 /// `Handler` itself.
+///
+/// In `crates/prime_count/src/counter.rt`:
+///
+/// ```rust
+/// impl<'a> CompletionHandler for Counter<'a> {
+/// ..
+///     ghost marks = { λ h. record { run = h.number; drop = h.number } };
+/// ..
+///     fn call(self, call: Call) -> Ran {
+///         let Counter { number, sum } = self;
+/// ..
+///         Ran {
+///             mark: u64::from(number),
+///             class: class_of(call.code),
+///             begun: call.begun,
+///         }
+///     }
+/// ..
+///     fn discard(self) -> u64 {
+///         let Counter { number, sum: _ } = self;
+///         u64::from(number)
+///     }
+/// ```
 pub trait CompletionHandler {
     /// The run mark and the drop mark.
     ghost marks: { Self → Marks };

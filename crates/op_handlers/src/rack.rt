@@ -20,6 +20,16 @@ impl<H> Rack<H> {
     ghost use Rattle.op_handlers.specs.Rack.{handlers_in, handler_at, IsWholeRack};
 
     /// The rack of these handlers, where a `None` counts as taken. It takes no memory.
+    ///
+    /// In `crates/prime_count/src/counter.rt`:
+    ///
+    /// ```rust
+    /// let mut handlers = Vec::with_capacity(alloc, MOST_ACTS as usize)?;
+    /// for number in 0..MOST_ACTS {
+    ///     handlers.push_reserved(Some(Counter { number, sum }));
+    /// }
+    /// Ok(Rack::of(handlers))
+    /// ```
     pub fn of(handlers: Vec<Option<H>>) -> Rack<H>
         requires { vec_len handlers < 2 ^ 32 }
         ensures { handlers_in result ≡ handlers.items }

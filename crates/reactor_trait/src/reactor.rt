@@ -17,6 +17,26 @@ use std::alloc::Global;
 /// call fails only where that count rose, and the count never falls. A reactor may also tell its
 /// bytes: for each stream what arrived and wasn't given, the room, the marks and what was sent, and
 /// the lines to come. A reactor that tells them goes on telling them.
+///
+/// In `crates/reactor_trait/src/silent_reactor.rt`:
+///
+/// ```rust
+/// impl Reactor for SilentReactor {
+///     ghost faults = { λ r. 0 };
+///
+///     ghost state = { λ r. r };
+///
+///     ghost told = { λ r. None };
+/// ..
+///     fn advance(&mut self, limit: Option<u64>) -> Result<Point, Failed> {
+///         let point = self.schedule.advance(limit);
+///         match point {
+///             Point::Time(_) => {}
+///             Point::Last => self.last = true,
+///         }
+///         Ok(point)
+///     }
+/// ```
 pub trait Reactor: Drop {
     /// How often it has failed.
     ghost faults: { Self → ℕ };

@@ -21,6 +21,22 @@ use std::marker::Model;
 
 /// A session as its script says it. Contracts see its acts with their places, what it declares, its
 /// world and its rounds, apart from how the text spelled them.
+///
+/// In `crates/foundation_tests/src/script_questions.rt`:
+///
+/// ```rust
+/// if a < script.acts() {
+///     Some((
+///         script.parent_of(a),
+///         script.is_op(a),
+///         script.is_inline(a),
+///         script.lane_of(a),
+///     ))
+/// ..
+/// script.version(),
+/// script.world().streams,
+/// script.rounds().len(),
+/// ```
 #[derive(Debug, Drop)]
 pub struct Script {
     /// What it says.
@@ -89,6 +105,12 @@ impl Script {
     }
 
     /// The act with this number.
+    ///
+    /// In `crates/foundation_tests/src/script_questions.rt`:
+    ///
+    /// ```rust
+    /// a < script.acts() && script.is_stop(a) && matches!(script.act(a), Act::Stop)
+    /// ```
     #[tactic(auto, unfolding(crate::specs::Outcome::model_of))]
     pub fn act(&self, a: ActNo) -> &Act
         requires { a < length self.now.acts }
@@ -152,6 +174,12 @@ impl Script {
 
     /// The acts of the branch of an operation for a class, in text order. A posting has only the
     /// branch of class Ok.
+    ///
+    /// In `crates/foundation_tests/src/script_questions.rt`:
+    ///
+    /// ```rust
+    /// o < script.acts() && script.is_op(o) && script.branch(o, class) == acts
+    /// ```
     #[tactic(auto, unfolding(crate::specs::Outcome::model_of))]
     pub fn branch(&self, o: OpNo, class: Class) -> &[ActNo]
         requires { o < length self.now.acts }
@@ -219,6 +247,13 @@ impl Script {
 
 /// The script that the bytes spell, or their first fault. Takes time and memory in proportion to
 /// the bytes.
+///
+/// In `crates/foundation_tests/src/script_questions.rt`:
+///
+/// ```rust
+/// let script = read_script(rt.alloc(), BRANCHES_TEXT)?;
+/// assert_eq!(rt; script.opening(), [0, 3, 8].as_slice());
+/// ```
 pub fn read_script(alloc: Global, bytes: &[u8]) -> Result<Script, ScriptFault>
     // What is read is a script of this text.
     ensures script { IfOk result (λ script. IsScript bytes.now script) }
