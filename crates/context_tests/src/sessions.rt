@@ -52,6 +52,10 @@ const SESSIONS: &[(&str, &str)] = &[
         "call 0 / back 0 / call 1 / back 1 / begin 0 ok 0 / end 0 1000 / begin 1 ok 0 / end 1 1001 / ended / ",
     ),
     (
+        "session 1 open { post - { } post - { } } run #",
+        "call 0 / back 0 / call 1 / back 1 / begin ",
+    ),
+    (
         "session 1 strands 1 open { post 0 { dispatch 0 { } } } run #",
         "call 0 / back 0 / begin 0 ok 0 / call 1 / begin 1 ok 0 / end 1 1001 / back 1 / end 0 1000 / ended / ",
     ),
@@ -72,16 +76,44 @@ const SESSIONS: &[(&str, &str)] = &[
         "call 0 / back 0 / call 1 / back 1 / call 2 / back 2 / take 0 / take 1 / take 2 / tick 4 / done 1 ok 2 / begin 1 ok 2 / end 1 1001 / ended / ",
     ),
     (
+        "session 1 slots 1 streams 1 at 4 feed 0 x6162 open { emit 0 1 read 0 2 - 0 { } emit 0 2 } run #",
+        "call 0 / back 0 / call 1 / back 1 / call 2 / back 2 / take 0 / take 1 / take 2 / done 1 aborted 0 / begin 1 aborted 0 / end 1 1001 / ended / ",
+    ),
+    (
         "session 1 strands 1 timers 2 open { expires 0 3 expires 1 3 wait 1 0 - { } wait 0 0 - { } } run #",
         "call 0 / back 0 / call 1 / back 1 / call 2 / back 2 / call 3 / back 3 / take 0 / take 1 / take 2 / take 3 / tick 3 / done 2 ok 0 / ",
+    ),
+    (
+        "session 1 strands 1 timers 1 open { expires 0 9 wait 0 0 - { } wait 0 0 - { } expires 0 4 } run #",
+        "call 0 / back 0 / call 1 / back 1 / call 2 / back 2 / call 3 / back 3 / take 0 / take 1 / take 2 / take 3 / done 1 aborted 0 / ",
     ),
     (
         "session 1 streams 1 at 1 feed 0 x616263 at 2 feed 0 x646566 at 3 feed 0 x6768696a open { read 0 10 - - { } } run #",
         "call 0 / back 0 / take 0 / tick 1 / tick 2 / tick 3 / done 0 ok 10 / begin 0 ok 10 / end 0 1000 / ended / ",
     ),
     (
+        "session 1 strands 1 streams 1 at 1 feed 0 x61620d at 2 feed 0 x0a63640d0a open { until 0 x0d0a 64 0 - { } until 0 x0d0a 64 0 - { } } run #",
+        "call 0 / back 0 / call 1 / back 1 / take 0 / take 1 / tick 1 / tick 2 / done 0 ok 4 / ",
+    ),
+    (
         "session 1 streams 1 at 1 feed 0 x61626364 open { until 0 x0a 4 - - { } } run #",
         "call 0 / back 0 / take 0 / tick 1 / done 0 not_found 0 / begin 0 not_found 0 / end 0 1000 / ended / ",
+    ),
+    (
+        "session 1 streams 1 at 1 feed 0 x6162630a open { until 0 x0a 4 - - { } } run #",
+        "call 0 / back 0 / take 0 / tick 1 / done 0 ok 4 / begin 0 ok 4 / end 0 1000 / ended / ",
+    ),
+    (
+        "session 1 streams 1 at 1 feed 0 x61626364 at 1 end 0 open { read 0 10 - - { } } run #",
+        "call 0 / back 0 / take 0 / tick 1 / done 0 eof 4 / begin 0 eof 4 / end 0 1000 / ended / ",
+    ),
+    (
+        "session 1 streams 1 at 1 feed 0 x61626364 open { read 0 10 - - { } } run #",
+        "call 0 / back 0 / take 0 / tick 1 / last / done 0 eof 4 / begin 0 eof 4 / end 0 1000 / ended / ",
+    ),
+    (
+        "session 1 strands 1 streams 1 open { read 0 4 0 - { } close 0 read 0 4 0 - { } } run #",
+        "call 0 / back 0 / call 1 / back 1 / call 2 / back 2 / take 0 / take 1 / done 0 aborted 0 / ",
     ),
     (
         "session 1 strands 1 open { post 0 { stop } post 0 { } post 0 { } } run #",
@@ -104,7 +136,19 @@ const SESSIONS: &[(&str, &str)] = &[
         "call 0 / back 0 / take 0 / tick 1 / tick 3 / done 0 ok 4 / begin 0 ok 4 / end 0 1000 / ended / ",
     ),
     (
+        "session 1 streams 1 at 1 room 0 2 open { write 0 x61626364 - - { } } run #",
+        "call 0 / back 0 / take 0 / tick 1 / last / done 0 broken 2 / begin 0 broken 2 / end 0 1000 / ended / ",
+    ),
+    (
         "session 1 strands 1 timers 1 slots 1 streams 1 at 0 room 0 64 at 2 feed 0 x68690a open { expires 0 10 wait 0 0 - { emit 0 1 } until 0 x0a 64 0 0 { write 0 x68690a 0 - { cancel 0 } } } run #",
         "call 0 / back 0 / call 1 / back 1 / call 3 / back 3 / take 0 / take 1 / take 3 / tick 2 / done 3 ok 3 / begin 3 ok 3 / call 4 / ",
+    ),
+    (
+        "session 1 strands 4 timers 4 open { post 1 { post - { } } post - { } } run #",
+        "call 0 / back 0 / call 2 / back 2 / begin ",
+    ),
+    (
+        "session 1 strands 4 timers 4 open { expires 3 74 wait 3 3 - { } } run #",
+        "call 0 / back 0 / call 1 / back 1 / take 0 / take 1 / tick 74 / done 1 ok 0 / begin 1 ok 0 / end 1 1001 / ended / ",
     ),
 ];
