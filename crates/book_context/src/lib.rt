@@ -1,6 +1,7 @@
 //! The context under one lock. It promises that what it recorded is a legal history with the marks
 //! of its handlers, and that it does what the rounds of its script allow, the oldest first. Its
-//! laws say what is known of a session while the lock is free. The sessions that run stand on it.
+//! laws say what is known of a session while the lock is free. `history_merge` stands on these laws,
+//! and `book_session` of `session_run` on the context.
 #![tactic(auto)]
 
 mod answer;

@@ -1,6 +1,6 @@
 //! The logs of a context without a lock, put together into one history. It promises that this is one
 //! legal history of the script, with the marks that are named (`specs/Merging.antt`), for every
-//! number of lanes and workers and every order of their steps. The session will stand on it.
+//! number of lanes and workers and every order of their steps. `session_run` stands on it.
 #![tactic(auto)]
 
 mod law;

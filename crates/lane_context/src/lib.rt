@@ -1,6 +1,9 @@
 //! The context without a lock: lanes that execute handlers side by side, each with a log of its own
-//! (Asio reference, io_context; Overview, "Strands: Use Threads Without Explicit Locking"). What
-//! these logs are stands in `specs/Logs.antt`. `history_merge` stands on it, and puts them together.
+//! (Asio reference, io_context; Overview, "Strands: Use Threads Without Explicit Locking"). It
+//! promises that what it leaves are the logs of a session (`specs/Logs.antt`), with the reactor as
+//! they say, however many workers ran it and in whatever order; and that no call takes memory once
+//! it is made. `history_merge`, which makes one history of the logs, `op_future` and `session_run`
+//! stand on it.
 #![tactic(auto)]
 
 mod attendee;
