@@ -1,10 +1,11 @@
 //! Calls of a worker, and what they answer.
 
 ghost use Rattle.std.specs.Prelude.{◌<◌, length};
-ghost use Rattle.lane_context.specs.AllWorkers.{AreReady};
+ghost use Rattle.lane_turns.specs.AllWorkers.{AreReady};
 ghost use Rattle.context_tests.specs.Asking.{IsReadyAs};
 
-use lane_context::{Context, LaneSession, One, Worker};
+use lane_context::{Context, Worker};
+use lane_turns::{LaneSession, One};
 use op_handlers::CompletionHandler;
 use reactor_trait::Reactor;
 

@@ -1,9 +1,9 @@
 -- What wasn't found behind the closing of the last round neither completed nor was posted: by then all places that were
 -- drawn had their notes, and nothing is drawn behind it.
-use Rattle.std.proofs.Common.{◌≡◌, ◌≢◌, ◌⊎◌, inl, inr, ⊎_elim, ℕ, zero, suc, ◌+◌, ◌-◌, ◌<◌, true, false, cond, List, [], ◌∷◌, ◌++◌, Some, length, map, take, refl, sym, ap, subst, ◌∙◌, arith}
+use Rattle.std.proofs.Common.{◌≡◌, ◌≢◌, ◌⊎◌, inl, inr, ⊎_elim, ℕ, ◌+◌, ◌-◌, ◌<◌, true, false, cond, List, [], ◌∷◌, None, Some, length, take, refl, sym, ap, subst, ◌∙◌, arith}
 use Rattle.std.specs.Prelude.{not, slice_index}
-use Rattle.std.proofs.lemmas.Bool.{and_parts, cases_eq, cases_lt, eq-eqb, eqb-true}
-use mathlib.Core.Option.{some, some-injective, some-ne-none}
+use Rattle.std.proofs.lemmas.Bool.{and_parts, cases_eq, cases_lt, eq-eqb}
+use mathlib.Core.Option.{some}
 use lib.ListN.{get_elem?}
 use Rattle.asio_types.specs.declared.code.Code.{Code}
 use Rattle.asio_types.specs.declared.event.Event.{Event}
@@ -27,22 +27,22 @@ use Rattle.lane_clock.specs.Knowledge.{StartOf}
 use Rattle.lane_clock.specs.Rule.{StepAt}
 use Rattle.lane_clock.specs.Seats.{own}
 use Rattle.lane_clock.proofs.KnownLemmas.{at_within, event as step_event}
-use Rattle.lane_clock.proofs.MomentLemmas.{Moment, Tail, at_start, moment_of, sound_tail, tail_more, tail_refl, tail_same, tail_trans, tails_order, under_grows, under_length}
+use Rattle.lane_clock.proofs.MomentLemmas.{Moment, Tail, at_start, moment_of, sound_tail, tail_more, tail_refl, tail_same, tail_trans, tails_order, under_grows}
 use Rattle.lane_map.specs.LaneNumbers.{cells_of, has_cell, home_lane, reactor_lane}
-use Rattle.lane_context.specs.Drops.{dropped, has_call, is_call_of}
-use Rattle.lane_context.specs.Labels.{Labelled, allots, shows}
-use Rattle.lane_context.specs.Logs.{AreLogs, LogsView, session_layout}
-use Rattle.lane_context.specs.Names.{SessionNames}
-use Rattle.lane_context.specs.OpenerLog.{ClosedPart, Closes, OpenerPart, closed, opened, resting, restarted}
-use Rattle.lane_context.specs.Receipts.{HasFoundNone, holds_op}
-use Rattle.lane_context.specs.SeatNumbers.{lane_count, opener_seat}
-use Rattle.lane_context.specs.Stand.{Stand, after_draw, after_opening_draw, is_round_open, stand_from, stand_of, wants_restart}
-use Rattle.lane_context.specs.Workers.{WorkerView}
-use Rattle.lane_context.proofs.ReceiptLemmas.{none_at}
-use Rattle.lane_context.proofs.StandLemmas.{open_stand}
-use Rattle.lane_context.proofs.WorkerLemmas.{closings_rise}
+use Rattle.lane_turns.specs.Labels.{Labelled, allots, shows}
+use Rattle.lane_turns.specs.Logs.{AreLogs, LogsView, session_layout}
+use Rattle.lane_turns.specs.Names.{SessionNames}
+use Rattle.lane_turns.specs.OpenerLog.{ClosedPart, Closes, OpenerPart, closed, opened, resting, restarted}
+use Rattle.lane_turns.specs.Receipts.{HasFoundNone, SeatHasGone, holds_op}
+use Rattle.lane_turns.specs.SeatNumbers.{lane_count, opener_seat}
+use Rattle.lane_turns.specs.Stand.{Stand, after_draw, after_opening_draw, is_round_open, stand_from, stand_of, wants_restart}
+use Rattle.lane_turns.specs.Workers.{WorkerView}
+use Rattle.lane_turns.proofs.ReceiptLemmas.{none_at, pen_finds}
+use Rattle.lane_turns.proofs.StandLemmas.{open_stand}
+use Rattle.lane_turns.proofs.WorkerLemmas.{closings_rise}
 use Rattle.history_merge.specs.Merging.{IsMerging}
 use Rattle.history_merge.specs.Receipts.{ClosesLast, FoundNoneAtEnd, IsAbsent, LooksInVain}
+use Rattle.history_merge.proofs.AbsenceLemmas.{absent, before_steps}
 use Rattle.history_merge.proofs.AcceptedLemmas.{posted_asks}
 use Rattle.history_merge.proofs.AlikeLemmas.{is_not, never}
 use Rattle.history_merge.proofs.AskedLemmas.{asked_label}
@@ -57,12 +57,11 @@ use Rattle.history_merge.proofs.HalfLemmas.{off_turn}
 use Rattle.history_merge.proofs.HistoryLemmas.{AreLabelled, label_of, shown_in}
 use Rattle.history_merge.proofs.InductionLemmas.{so_at}
 use Rattle.history_merge.proofs.LabellingLemmas.{AreLabels, are_labels, labels_under}
-use Rattle.history_merge.proofs.MergedLemmas.{any_passes, merged_is}
 use Rattle.history_merge.proofs.NoteLemmas.{lift_made}
 use Rattle.history_merge.proofs.OpenedLemmas.{opened_stand}
 use Rattle.history_merge.proofs.OpenerLemmas.{opening_falls, stand_at, stand_here}
 use Rattle.history_merge.proofs.OpenerPartLemmas.{opener_at}
-use Rattle.history_merge.proofs.PartLemmas.{at_left, at_right, step_of_label}
+use Rattle.history_merge.proofs.PartLemmas.{step_of_label}
 use Rattle.history_merge.proofs.PolledLemmas.{place_full}
 use Rattle.history_merge.proofs.PositionLemmas.{shown_by_draw}
 use Rattle.history_merge.proofs.SoLemmas.{IsSo, state_so}
@@ -71,17 +70,6 @@ use Rattle.history_merge.proofs.StagedLemmas.{labelled_to, reactor_within, seats
 use Rattle.history_merge.proofs.StoodLemmas.{closed_behind, closed_part, has_stand, labels_of_part, restart_part, restart_shows, restart_stood}
 use Rattle.history_merge.proofs.TimeLemmas.{IsMade, index_in, made_of, made_shown, made_there, made_within, shown_made}
 use Rattle.history_merge.proofs.ToldLemmas.{done_at}
-
--- of two steps the one before which a number had made fewer came first
-before_steps : (n : ℕ) (es a b : List ClockEvent) (x y : ClockEvent) → Tail (x ∷ a) es → Tail (y ∷ b) es →
-    length (steps_under n a) < length (steps_under n b) → Tail (x ∷ a) b
-before_steps n es a b x y first second less = elim (cases_lt (length a) (length b)) [
-  | inl shorter ↦ tails_order (x ∷ a) b es first (tail_more b y es second) (omega (arith, shorter))
-  | inr most ↦
-      absurd (let more =
-      under_length n b a (tails_order b a es (tail_more b y es second) (tail_more a x es first) most) in
-      omega (arith, less, more))
-]
 
 -- the draw that closes a round
 closing_draw : (script : ScriptModel) (stand : Stand) (found : Found) → stand.opening ≡ 0 →
@@ -92,17 +80,6 @@ closing_draw script stand found none started =
     (λ wants.
     (cond wants (record stand { restarted = true; base = found.stops })
     (record stand { closings = stand.closings + 1; restarted = false })).closings) started
-
--- drops are drops
-dropped_only : (names : SessionNames) (ops : List ℕ) (i : ℕ) (shown : Event) →
-    get_elem? (map (dropped names) ops) i ≡ some shown → (op : ℕ) × (shown ≡ dropped names op)
-dropped_only names [] i shown at = absurd (some-ne-none shown (sym at))
-dropped_only names (op ∷ ops) zero shown at = (op, sym (some-injective (dropped names op) shown at))
-dropped_only names (op ∷ ops) (suc i) shown at = dropped_only names ops i shown at
-
-call_of : (op : ℕ) (shown : Event) → is_call_of op shown ≡ true → shown ≡ event.Call op
-call_of op (event.Call other) is = ap event.Call (eqb-true other op is)
-call_of op other is = absurd (cc)
 
 returned_by : (of : CallPhase) → was_called of ≡ true → is_open of ≡ false →
     (c : ℕ) × (b : ℕ) × (of ≡ call.Back c b)
@@ -451,60 +428,30 @@ module _ (names : SessionNames) (well : IsWellFormed names.script) (logs : LogsV
         not_placed placed.number placed.place
         (subst (λ lane. IsMade labels es placed.number (allots op lane placed.place)) (asked.asks ∙ asks.asks) placed.made)
 
-    -- a history has what the logs show, and drops
-    module _ (events : List Event) (merging : IsMerging logs events) where
-      in_history : (i : ℕ) (shown : Event) → get_elem? events i ≡ some shown →
-          (get_elem? (shown_in labels whole) i ≡ some shown) ⊎ ((o : ℕ) × (shown ≡ dropped names o))
-      in_history i shown at =
-          let here : get_elem? (shown_in labels whole ++ logs.drops) i ≡ some shown =
-          subst (λ xs. get_elem? (xs ++ logs.drops) i ≡ some shown) (merged_is names logs labels logged are events merging)
-          (subst (λ xs. get_elem? xs i ≡ some shown) merging.is at) in
-          elim (cases_lt i (length (shown_in labels whole))) [
-            | inl less ↦ inl (sym (at_left (shown_in labels whole) logs.drops i less) ∙ here)
-            | inr most ↦
-                let k : ℕ = i - length (shown_in labels whole) in
-                let there : get_elem? logs.drops k ≡ some shown =
-                sym (at_right (shown_in labels whole) logs.drops i k (omega (arith, most))) ∙ here in
-                inr (dropped_only names _ k shown (subst (λ xs. get_elem? xs k ≡ some shown) logged.drops there))
-          ]
-
-      pub absent : IsAbsent script events op
-      absent =
-          record {
-            undone = λ given size i at.
-                ⊎_elim
-                (λ (there : get_elem? (shown_in labels whole) i ≡ some (event.Done op given size)).
-                not_done given size i there)
-                (λ (drop : (o : ℕ) × (event.Done op given size ≡ dropped names o)).
-                absurd (let wrong = drop.1 in cc))
-                (in_history i (event.Done op given size) at);
-            uncalled = λ posting. is_not (has_call op events) (λ called.
-                let found = any_passes (is_call_of op) events called in
-                let is = call_of op found.it found.passes in
-                ⊎_elim
-                (λ (there : get_elem? (shown_in labels whole) found.at ≡ some (event.Call op)).
-                not_called posting found.at there)
-                (λ (drop : (o : ℕ) × (event.Call op ≡ dropped names o)).
-                absurd (let wrong = drop.1 in cc))
-                (in_history found.at (event.Call op) (found.there ∙ ap some is)));
-          }
-
 pub unfound_are_absent : (names : SessionNames) (logs : LogsView) (events : List Event) → IsWellFormed names.script →
     AreLogs names logs → IsMerging logs events → (n op : ℕ) → has_cell names.script op ≡ true →
     FoundNoneAtEnd names.script logs.lists n op → IsAbsent names.script events op
 unfound_are_absent names logs events well logged merging n op has none =
-    absent names well logs (labels_under names logs logged) logged (are_labels names logs logged)
-    (so_at names well logs logged) none.closing none.closes op has n none.joined none.counts none.joins none.knows none.looks
-    events merging
+    let labels : ℕ → List Labelled = labels_under names logs logged in
+    let are = are_labels names logs logged in
+    let so = so_at names well logs logged in
+    absent names logs labels logged are events merging op
+    (λ given size i at.
+    not_done names well logs labels logged are so none.closing none.closes op has n none.joined none.counts none.joins
+    none.knows none.looks given size i at)
+    (λ posting i at.
+    not_called names well logs labels logged are so none.closing none.closes op has n none.joined none.counts none.joins
+    none.knows none.looks posting i at)
 
 -- A worker that found none behind the closing of the last round, of which it knew before, looked so
 pub found_none_at_end : (script : ScriptModel) (lists : ℕ → List ClockStep) (n op : ℕ) (old new : WorkerView) →
-    HasFoundNone (home_lane script op) (slice_index (cells_of script) (home_lane script op)) op old new →
+    HasFoundNone SeatHasGone (home_lane script op) (slice_index (cells_of script) (home_lane script op)) op old new →
     StartOf (own new.pen.seat) (lists n) → (at : ℕ) → ClosesLast script lists at → (joined : ℕ) (counts : List ℕ) →
     get_elem? (own old.pen.seat) joined ≡ some (Join counts) → at < slice_index counts (opener_seat script) →
     FoundNoneAtEnd script lists n op
 found_none_at_end script lists n op old new found all at closes joined counts joins knows =
     let grown : StartOf (own old.pen.seat) (own new.pen.seat) = (_, found.others.gone.gone.steps) in
+    let pens = pen_finds (home_lane script op) _ op None old new found in
     record {
       closing = at;
       closes = closes;
@@ -515,7 +462,7 @@ found_none_at_end script lists n op old new found all at closes joined counts jo
           (at_start (own old.pen.seat) (own new.pen.seat) joined (Join counts) grown joins);
       knows = knows;
       looks = λ place less.
-          let it = none_at (home_lane script op) _ op old new found place less in
+          let it = none_at (home_lane script op) _ op old.pen new.pen pens place less in
           let before = at_within (own old.pen.seat) joined (Join counts) joins in
           record {
             at = it.0;

@@ -26,14 +26,14 @@ use Rattle.lane_clock.specs.History.{ClockEvent, steps_under, word_after}
 use Rattle.lane_clock.proofs.KnownLemmas.{event}
 use Rattle.lane_clock.proofs.MomentLemmas.{Tail, sound_tail, tail_more, tail_refl, tail_trans, under_length}
 use Rattle.lane_map.specs.LaneNumbers.{home_lane, lane_number, reactor_lane}
-use Rattle.lane_context.specs.Labels.{Labelled, allots, shows, silent, step_of}
-use Rattle.lane_context.specs.LaneLog.{FoundGoing, MayFollow, opener_after}
-use Rattle.lane_context.specs.Logs.{AreLogs, LogsView, session_layout}
-use Rattle.lane_context.specs.Names.{SessionNames}
-use Rattle.lane_context.specs.Parts.{Part, executed, failed, idle, labels_in, missing, turned}
-use Rattle.lane_context.specs.SeatNumbers.{IsWorkerSeat, lane_count, opener_seat}
-use Rattle.lane_context.specs.Stand.{Stand, stand_of}
-use Rattle.lane_context.specs.WorkerLog.{WorkerPart, stopped, waiting}
+use Rattle.lane_turns.specs.Labels.{Labelled, allots, shows, silent, step_of}
+use Rattle.lane_turns.specs.LaneLog.{FoundGoing, MayFollow, opener_after}
+use Rattle.lane_turns.specs.Logs.{AreLogs, LogsView, session_layout}
+use Rattle.lane_turns.specs.Names.{SessionNames}
+use Rattle.lane_turns.specs.Parts.{Part, executed, failed, idle, labels_in, missing, turned}
+use Rattle.lane_turns.specs.SeatNumbers.{IsWorkerSeat, lane_count, opener_seat}
+use Rattle.lane_turns.specs.Stand.{Stand, stand_of}
+use Rattle.lane_turns.specs.WorkerLog.{WorkerPart, stopped, waiting}
 use Rattle.book_context.proofs.FreeLemmas.{free_may_start}
 use Rattle.history_merge.proofs.BetweenLemmas.{IsOwnMoment, begins_at, kept_from, none_drawn, own_before, own_moment, stand_since}
 use Rattle.history_merge.proofs.ClosingLemmas.{restart_closed}

@@ -19,15 +19,15 @@ use Rattle.lane_clock.specs.declared.step.ClockStep.TheVariants.{Draw, Load, Pla
 use Rattle.lane_clock.specs.History.{ClockEvent, places_after, places_with}
 use Rattle.lane_clock.specs.Steps.{place_count}
 use Rattle.lane_map.specs.LaneNumbers.{asked_lane, cells_of, reactor_lane}
-use Rattle.lane_context.specs.Labels.{AreDrawn, IsDrawn, Labelled, allots, begins, call_note, dispatches, ends, none_drawn, one_drawn, posts, returns, shows, silent, step_of, stops_context}
-use Rattle.lane_context.specs.LaneLog.{MayFollow}
-use Rattle.lane_context.specs.Logs.{LogsView}
-use Rattle.lane_context.specs.Names.{IsNamedMark, SessionNames}
-use Rattle.lane_context.specs.OpenerLog.{Looked, MayFollowOpened, OpenerPart, closed, look_label, opened, opener_labels, resting, restarted}
-use Rattle.lane_context.specs.Parts.{Part, executed, failed, idle, labels_in, missing, turned}
-use Rattle.lane_context.specs.Posting.{CallsActs}
-use Rattle.lane_context.specs.SeatNumbers.{opener_seat}
-use Rattle.lane_context.specs.WorkerLog.{MayFollowStopped, WorkerPart, stopped, waiting}
+use Rattle.lane_turns.specs.Labels.{AreDrawn, IsDrawn, Labelled, allots, begins, call_note, dispatches, ends, none_drawn, one_drawn, posts, returns, shows, silent, step_of, stops_context}
+use Rattle.lane_turns.specs.LaneLog.{MayFollow}
+use Rattle.lane_turns.specs.Logs.{LogsView}
+use Rattle.lane_turns.specs.Names.{IsNamedMark, SessionNames}
+use Rattle.lane_turns.specs.OpenerLog.{Looked, MayFollowOpened, OpenerPart, closed, look_label, opened, opener_labels, resting, restarted}
+use Rattle.lane_turns.specs.Parts.{Part, executed, failed, idle, labels_in, missing, turned}
+use Rattle.lane_turns.specs.Posting.{CallsActs}
+use Rattle.lane_turns.specs.SeatNumbers.{opener_seat}
+use Rattle.lane_turns.specs.WorkerLog.{MayFollowStopped, WorkerPart, stopped, waiting}
 use Rattle.history_merge.proofs.HistoryLemmas.{AreLabelled, IsPlain, label_of}
 use Rattle.history_merge.proofs.LabellingLemmas.{AreLabels, each_label}
 use Rattle.history_merge.proofs.PartLemmas.{Every, every-append, every_all, every_so, labels_worker}

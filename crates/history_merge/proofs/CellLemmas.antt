@@ -8,9 +8,9 @@ use Rattle.session_script.specs.WellFormed.{IsWellFormed}
 use Rattle.history_rules.specs.State.{first_state}
 use Rattle.lane_clock.specs.History.{ClockEvent, IsSoundHistory}
 use Rattle.lane_map.specs.LaneNumbers.{asked_lane, reactor_lane}
-use Rattle.lane_context.specs.Labels.{Labelled, allots, shows, silent}
-use Rattle.lane_context.specs.Logs.{LogsView}
-use Rattle.lane_context.specs.Names.{SessionNames}
+use Rattle.lane_turns.specs.Labels.{Labelled, allots, shows, silent}
+use Rattle.lane_turns.specs.Logs.{LogsView}
+use Rattle.lane_turns.specs.Names.{SessionNames}
 use Rattle.book_context.proofs.CountingLemmas.{counted}
 use Rattle.reactor_turns.proofs.SummingLemmas.{one_if, only, summed, summed-both, summed-only, summed-same}
 use Rattle.history_merge.proofs.AlikeLemmas.{never}

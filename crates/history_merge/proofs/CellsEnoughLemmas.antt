@@ -15,7 +15,7 @@ use Rattle.book_context.proofs.CountingLemmas.{counted, counted-either, counted-
 use Rattle.lane_clock.specs.History.{ClockEvent}
 use Rattle.lane_map.specs.LaneNumbers.{act_passes, asked_lane, asks_its_lane, asks_reactor, cells_on, has_cell, has_cell_on, home_lane, passing_before, reactor_lane}
 use Rattle.lane_map.proofs.RankLemmas.{op_within}
-use Rattle.lane_context.specs.Labels.{Labelled, allots, shows, silent}
+use Rattle.lane_turns.specs.Labels.{Labelled, allots, shows, silent}
 use Rattle.history_merge.proofs.AlikeLemmas.{is_not, never}
 use Rattle.history_merge.proofs.AskedLemmas.{allots_on}
 use Rattle.history_merge.proofs.BackLemmas.{allots_for}

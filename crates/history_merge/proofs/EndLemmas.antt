@@ -28,16 +28,16 @@ use Rattle.lane_clock.specs.History.{ClockEvent, steps_under}
 use Rattle.lane_clock.proofs.MomentLemmas.{tail_refl}
 use Rattle.lane_map.specs.LaneNumbers.{home_lane, reactor_lane}
 use Rattle.lane_map.proofs.RankLemmas.{op_within}
-use Rattle.lane_context.specs.declared.log.LogEntry.{LogEntry}
-use Rattle.lane_context.specs.Drops.{has_call, is_call_of, is_left}
-use Rattle.lane_context.specs.Half.{half_from, half_of}
-use Rattle.lane_context.specs.Labels.{Labelled, entries_in, events_in}
-use Rattle.lane_context.specs.LaneLog.{has_begun, is_begin_of}
-use Rattle.lane_context.specs.Logs.{AreLogs, LogsView, all_events, entries_of}
-use Rattle.lane_context.specs.Names.{SessionNames}
-use Rattle.lane_context.specs.Parts.{Part, executed, failed, idle, labels_in, missing, turned}
-use Rattle.lane_context.specs.SeatNumbers.{lane_count, opener_seat}
-use Rattle.lane_context.specs.Stand.{stand_of}
+use Rattle.lane_turns.specs.declared.log.LogEntry.{LogEntry}
+use Rattle.lane_turns.specs.Drops.{has_call, is_call_of, is_left}
+use Rattle.lane_turns.specs.Half.{half_from, half_of}
+use Rattle.lane_turns.specs.Labels.{Labelled, entries_in, events_in}
+use Rattle.lane_turns.specs.LaneLog.{has_begun, is_begin_of}
+use Rattle.lane_turns.specs.Logs.{AreLogs, LogsView, all_events, entries_of}
+use Rattle.lane_turns.specs.Names.{SessionNames}
+use Rattle.lane_turns.specs.Parts.{Part, executed, failed, idle, labels_in, missing, turned}
+use Rattle.lane_turns.specs.SeatNumbers.{lane_count, opener_seat}
+use Rattle.lane_turns.specs.Stand.{stand_of}
 use Rattle.history_merge.specs.Among.{LaneIsIdle, is_underway}
 use Rattle.history_merge.specs.Merging.{IsLegalMerging, IsMerging, MovesTimeIdly}
 use Rattle.history_merge.proofs.AmongLemmas.{IsGoing, going_ends}

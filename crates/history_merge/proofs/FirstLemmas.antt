@@ -26,10 +26,10 @@ use Rattle.lane_clock.specs.declared.note.Note.{Note}
 use Rattle.lane_clock.specs.History.{ClockEvent, steps_under}
 use Rattle.lane_clock.proofs.MomentLemmas.{Tail}
 use Rattle.lane_map.specs.LaneNumbers.{act_passes, asks_its_lane, home_lane, reactor_lane}
-use Rattle.lane_context.specs.Labels.{Labelled, allots, shows, silent}
-use Rattle.lane_context.specs.Logs.{AreLogs, LogsView}
-use Rattle.lane_context.specs.Names.{SessionNames}
-use Rattle.lane_context.specs.SeatNumbers.{lane_count}
+use Rattle.lane_turns.specs.Labels.{Labelled, allots, shows, silent}
+use Rattle.lane_turns.specs.Logs.{AreLogs, LogsView}
+use Rattle.lane_turns.specs.Names.{SessionNames}
+use Rattle.lane_turns.specs.SeatNumbers.{lane_count}
 use Rattle.history_merge.proofs.AlikeLemmas.{is_not, never}
 use Rattle.history_merge.proofs.AskedLemmas.{IsAskedPlace, asked_label}
 use Rattle.history_merge.proofs.BackLemmas.{at_least, find, placed_before}

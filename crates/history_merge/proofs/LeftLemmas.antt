@@ -31,14 +31,14 @@ use Rattle.lane_clock.specs.declared.found.Found.{Found}
 use Rattle.lane_clock.specs.declared.step.ClockStep.{ClockStep}
 use Rattle.lane_map.specs.LaneNumbers.{home_lane}
 use Rattle.lane_map.proofs.RankLemmas.{op_within}
-use Rattle.lane_context.specs.Labels.{AreDrawn, IsDrawn, Labelled, begins, dispatches, ends, entries_in, events_in, none_drawn, one_drawn, posts, returns, shows, stops_context}
-use Rattle.lane_context.specs.LaneLog.{MayFollow}
-use Rattle.lane_context.specs.Logs.{LogsView}
-use Rattle.lane_context.specs.Names.{SessionNames}
-use Rattle.lane_context.specs.Parts.{Part, executed, failed, idle, labels_in, missing, turned}
-use Rattle.lane_context.specs.SeatNumbers.{lane_count, opener_seat}
-use Rattle.lane_context.specs.declared.log.LogEntry.{LogEntry}
-use Rattle.lane_context.proofs.PenLemmas.{entries-append}
+use Rattle.lane_turns.specs.Labels.{AreDrawn, IsDrawn, Labelled, begins, dispatches, ends, entries_in, events_in, none_drawn, one_drawn, posts, returns, shows, stops_context}
+use Rattle.lane_turns.specs.LaneLog.{MayFollow}
+use Rattle.lane_turns.specs.Logs.{LogsView}
+use Rattle.lane_turns.specs.Names.{SessionNames}
+use Rattle.lane_turns.specs.Parts.{Part, executed, failed, idle, labels_in, missing, turned}
+use Rattle.lane_turns.specs.SeatNumbers.{lane_count, opener_seat}
+use Rattle.lane_turns.specs.declared.log.LogEntry.{LogEntry}
+use Rattle.lane_turns.proofs.PenLemmas.{entries-append}
 use Rattle.history_merge.specs.Among.{IsPlaceOn, LaneIsIdle, is_underway}
 use Rattle.history_merge.proofs.AlikeLemmas.{is_executed, is_not, never}
 use Rattle.history_merge.proofs.AmongLemmas.{IsGoing, going_ends, not_underway}

@@ -127,3 +127,7 @@ pub mod FitsLemmas
 pub mod InductionLemmas
 pub mod ReceiptLemmas
 pub mod AbsentLemmas
+pub mod AbsenceLemmas
+pub mod CalledNextLemmas
+pub mod WholeLemmas
+pub mod UnfoundLemmas

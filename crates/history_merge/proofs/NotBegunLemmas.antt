@@ -20,10 +20,10 @@ use Rattle.lane_clock.proofs.CountLemmas.{few_drawn}
 use Rattle.lane_clock.proofs.MomentLemmas.{Tail, tail_same, tails_order, tail_more}
 use Rattle.lane_map.specs.LaneNumbers.{reactor_lane}
 use Rattle.lane_map.proofs.RankLemmas.{op_within}
-use Rattle.lane_context.specs.Labels.{Labelled, allots}
-use Rattle.lane_context.specs.LaneLog.{is_begin_of}
-use Rattle.lane_context.specs.Logs.{AreLogs, LogsView}
-use Rattle.lane_context.specs.Names.{SessionNames}
+use Rattle.lane_turns.specs.Labels.{Labelled, allots}
+use Rattle.lane_turns.specs.LaneLog.{is_begin_of}
+use Rattle.lane_turns.specs.Logs.{AreLogs, LogsView}
+use Rattle.lane_turns.specs.Names.{SessionNames}
 use Rattle.history_merge.proofs.BegunLemmas.{begins_of, begun_shown}
 use Rattle.history_merge.proofs.CalledLemmas.{first_order}
 use Rattle.history_merge.proofs.DatesLemmas.{is_dropped, is_past}

@@ -19,15 +19,15 @@ use Rattle.lane_clock.specs.History.{ClockEvent, cell_after, places_after, steps
 use Rattle.lane_clock.proofs.KnownLemmas.{event}
 use Rattle.lane_clock.proofs.MomentLemmas.{Tail, moment_of, sound_tail, tail_more, tail_refl, tail_trans, within_before}
 use Rattle.lane_map.specs.LaneNumbers.{cells_of}
-use Rattle.lane_context.specs.Cuts.{HasStarted}
-use Rattle.lane_context.specs.Labels.{Labelled, allots, shows, silent, steps_in}
-use Rattle.lane_context.specs.LaneLog.{MayFollow}
-use Rattle.lane_context.specs.Logs.{AreLogs, LogsView, session_layout}
-use Rattle.lane_context.specs.Names.{SessionNames}
-use Rattle.lane_context.specs.OpenerLog.{ClosedPart, ClosesPolled, Looked, MayFollowOpened, OpenerPart, closed, labels_of_opener, look_label, opener_labels, opener_steps}
-use Rattle.lane_context.specs.Parts.{Part, labels_in}
-use Rattle.lane_context.specs.SeatNumbers.{IsWorkerSeat, lane_count, opener_seat}
-use Rattle.lane_context.specs.WorkerLog.{MayFollowStopped, WorkerPart, stopped, waiting}
+use Rattle.lane_turns.specs.Cuts.{HasStarted}
+use Rattle.lane_turns.specs.Labels.{Labelled, allots, shows, silent, steps_in}
+use Rattle.lane_turns.specs.LaneLog.{MayFollow}
+use Rattle.lane_turns.specs.Logs.{AreLogs, LogsView, session_layout}
+use Rattle.lane_turns.specs.Names.{SessionNames}
+use Rattle.lane_turns.specs.OpenerLog.{ClosedPart, ClosesPolled, Looked, MayFollowOpened, OpenerPart, closed, labels_of_opener, look_label, opener_labels, opener_steps}
+use Rattle.lane_turns.specs.Parts.{Part, labels_in}
+use Rattle.lane_turns.specs.SeatNumbers.{IsWorkerSeat, lane_count, opener_seat}
+use Rattle.lane_turns.specs.WorkerLog.{MayFollowStopped, WorkerPart, stopped, waiting}
 use Rattle.history_merge.proofs.AtEventLemmas.{lane_between}
 use Rattle.history_merge.proofs.HistoryLemmas.{AreLabelled, label_of}
 use Rattle.history_merge.proofs.LabellingLemmas.{AreLabels}
@@ -42,12 +42,12 @@ use Rattle.history_merge.proofs.StillReactorLemmas.{others_are}
 use Rattle.history_merge.proofs.StoodLemmas.{closed_behind}
 
 -- the labels of a worker get no place
-abbrev GetsNone : Labelled → Type 0
+abbrev pub GetsNone : Labelled → Type 0
 GetsNone (silent step) = Unit {0}
 GetsNone (shows shown changes found) = Unit {0}
 GetsNone (allots act lane place) = ⊥
 
-none_soon : (script : ScriptModel) (labels : List Labelled) (n : ℕ) → Every GetsNone labels →
+pub none_soon : (script : ScriptModel) (labels : List Labelled) (n : ℕ) → Every GetsNone labels →
     AllSoon script (take n labels)
 none_soon script labels zero all = tt
 none_soon script [] (suc n) all = tt
@@ -55,7 +55,7 @@ none_soon script (silent step ∷ labels) (suc n) all = (tt, none_soon script la
 none_soon script (shows shown changes found ∷ labels) (suc n) all = (tt, none_soon script labels n all.1)
 none_soon script (allots act lane place ∷ labels) (suc n) all = absurd all.0
 
-worker_none : (script : ScriptModel) (opener : List ClockStep) (earlier : List WorkerPart) (part : WorkerPart) →
+pub worker_none : (script : ScriptModel) (opener : List ClockStep) (earlier : List WorkerPart) (part : WorkerPart) →
     MayFollowStopped script opener earlier part → Every GetsNone (labels_worker part)
 worker_none script opener earlier (waiting step) may = (tt, tt)
 worker_none script opener earlier (stopped drawn) may = (tt, tt)

@@ -10,7 +10,7 @@ use Rattle.history_rules.specs.declared.phase.ActState.{ActState}
 use Rattle.history_rules.specs.Time.{pending_count}
 use Rattle.history_rules.specs.declared.phase.ActPhase.{ActPhase}
 use Rattle.history_rules.specs.declared.phase.ActPhase.TheVariants as phase
-use Rattle.lane_context.specs.Half.{held_guards}
+use Rattle.lane_turns.specs.Half.{held_guards}
 use Rattle.book_context.specs.Rest.{waits_inside}
 use Rattle.book_context.specs.Work.{is_pending, is_requested, pending_acts}
 use Rattle.book_context.proofs.CountingLemmas.{counted, counted-either, counted-range, counted-same}

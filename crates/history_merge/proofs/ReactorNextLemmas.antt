@@ -21,9 +21,9 @@ use Rattle.reactor_turns.proofs.SummingLemmas.{one_if}
 use Rattle.lane_clock.specs.History.{ClockEvent}
 use Rattle.lane_clock.proofs.MomentLemmas.{Tail, tail_refl}
 use Rattle.lane_map.specs.LaneNumbers.{reactor_lane}
-use Rattle.lane_context.specs.Labels.{Labelled, allots, shows, silent}
-use Rattle.lane_context.specs.Logs.{AreLogs, LogsView}
-use Rattle.lane_context.specs.Names.{SessionNames}
+use Rattle.lane_turns.specs.Labels.{Labelled, allots, shows, silent}
+use Rattle.lane_turns.specs.Logs.{AreLogs, LogsView}
+use Rattle.lane_turns.specs.Names.{SessionNames}
 use Rattle.history_merge.proofs.AskLemmas.{IsNoDrop}
 use Rattle.history_merge.proofs.GoingNextLemmas.{IsExpectedLabel}
 use Rattle.history_merge.proofs.HistoryLemmas.{label_of}

@@ -27,13 +27,13 @@ use Rattle.lane_clock.specs.declared.note.Note.{Note}
 use Rattle.lane_clock.specs.declared.step.ClockStep.{ClockStep}
 use Rattle.lane_clock.specs.declared.step.ClockStep.TheVariants.{Load, Look, Put}
 use Rattle.lane_map.specs.LaneNumbers.{cells_of, home_lane, reactor_lane}
-use Rattle.lane_context.specs.Half.{half_from}
-use Rattle.lane_context.specs.Labels.{Labelled, allots, entries_in, shows, silent}
-use Rattle.lane_context.specs.LaneLog.{AreParts, MayFollow, half_after}
-use Rattle.lane_context.specs.Names.{SessionNames}
-use Rattle.lane_context.specs.Parts.{FailedPart, Part, TurnEnd, TurnPart, TurnStart, are_broken, end_labels, executed, failed, fails, fault_label, idle, is_broken, is_failing, labels_in, labels_of, looks_empty, missing, passes, start_labels, takes, tells, turned}
-use Rattle.lane_context.specs.ReactorTurns.{AreTold, EndsTurn, MayStartTurn, done_labels, done_note, may_take, none_told, one_told, point_event, start_event}
-use Rattle.lane_context.proofs.TakingLemmas.{open_request, request_within}
+use Rattle.lane_turns.specs.Half.{half_from}
+use Rattle.lane_turns.specs.Labels.{Labelled, allots, entries_in, shows, silent}
+use Rattle.lane_turns.specs.LaneLog.{AreParts, MayFollow, half_after}
+use Rattle.lane_turns.specs.Names.{SessionNames}
+use Rattle.lane_turns.specs.Parts.{FailedPart, Part, TurnEnd, TurnPart, TurnStart, are_broken, end_labels, executed, failed, fails, fault_label, idle, is_broken, is_failing, labels_in, labels_of, looks_empty, missing, passes, start_labels, takes, tells, turned}
+use Rattle.lane_turns.specs.ReactorTurns.{AreTold, EndsTurn, MayStartTurn, done_labels, done_note, may_take, none_told, one_told, point_event, start_event}
+use Rattle.lane_turns.proofs.TakingLemmas.{open_request, request_within}
 use Rattle.history_merge.proofs.BackLemmas.{allots_for}
 use Rattle.history_merge.proofs.PartLemmas.{Every, every-append}
 use Rattle.history_merge.proofs.RestingLemmas.{IsResting, either_false, goes_on, half-append, look_entries, put_entries, rests, turn_half}

@@ -15,9 +15,9 @@ use Rattle.lane_clock.specs.declared.note.Note.{Note}
 use Rattle.lane_clock.specs.History.{ClockEvent}
 use Rattle.lane_clock.proofs.MomentLemmas.{Tail}
 use Rattle.lane_map.specs.LaneNumbers.{reactor_lane}
-use Rattle.lane_context.specs.Labels.{Labelled}
-use Rattle.lane_context.specs.Logs.{AreLogs, LogsView}
-use Rattle.lane_context.specs.Names.{SessionNames}
+use Rattle.lane_turns.specs.Labels.{Labelled}
+use Rattle.lane_turns.specs.Logs.{AreLogs, LogsView}
+use Rattle.lane_turns.specs.Names.{SessionNames}
 use Rattle.history_merge.proofs.AlikeLemmas.{never}
 use Rattle.history_merge.proofs.DatesLemmas.{StandsTold, is_over, is_past, is_told}
 use Rattle.history_merge.proofs.FirstLemmas.{called_before}

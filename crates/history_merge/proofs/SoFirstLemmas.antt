@@ -22,10 +22,10 @@ use Rattle.book_context.specs.Work.{is_pending, is_requested, pending_acts}
 use Rattle.book_context.proofs.CountingLemmas.{counted-never, counted-range}
 use Rattle.reactor_turns.proofs.AheadLemmas.{none_first, starts_bounded}
 use Rattle.lane_map.specs.LaneNumbers.{home_lane}
-use Rattle.lane_context.specs.Labels.{Labelled}
-use Rattle.lane_context.specs.Logs.{AreLogs, LogsView, session_layout}
-use Rattle.lane_context.specs.Names.{SessionNames}
-use Rattle.lane_context.specs.SeatNumbers.{lane_count}
+use Rattle.lane_turns.specs.Labels.{Labelled}
+use Rattle.lane_turns.specs.Logs.{AreLogs, LogsView, session_layout}
+use Rattle.lane_turns.specs.Names.{SessionNames}
+use Rattle.lane_turns.specs.SeatNumbers.{lane_count}
 use Rattle.asio_types.specs.declared.number.Lane.{Lane}
 use Rattle.history_merge.specs.Among.{is_underway}
 use Rattle.history_merge.proofs.AlikeLemmas.{LooksAlike, never}

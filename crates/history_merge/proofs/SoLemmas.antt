@@ -16,10 +16,10 @@ use Rattle.reactor_turns.specs.Ahead.{IsHalfOf}
 use Rattle.lane_clock.specs.History.{ClockEvent, word_after}
 use Rattle.lane_clock.specs.ClockWord.{found_of}
 use Rattle.lane_map.specs.LaneNumbers.{act_passes, asks_reactor, home_lane}
-use Rattle.lane_context.specs.Labels.{Labelled}
-use Rattle.lane_context.specs.Logs.{LogsView}
-use Rattle.lane_context.specs.Names.{SessionNames}
-use Rattle.lane_context.specs.SeatNumbers.{lane_count}
+use Rattle.lane_turns.specs.Labels.{Labelled}
+use Rattle.lane_turns.specs.Logs.{LogsView}
+use Rattle.lane_turns.specs.Names.{SessionNames}
+use Rattle.lane_turns.specs.SeatNumbers.{lane_count}
 use Rattle.history_merge.proofs.AmongLemmas.{IsGoing}
 use Rattle.history_merge.proofs.CalledLemmas.{AreExpected}
 use Rattle.history_merge.proofs.DatesLemmas.{AreDated}

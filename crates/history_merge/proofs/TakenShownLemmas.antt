@@ -17,9 +17,9 @@ use Rattle.lane_clock.specs.History.{ClockEvent}
 use Rattle.lane_clock.specs.declared.found.Change.{Change}
 use Rattle.lane_clock.specs.declared.found.Found.{Found}
 use Rattle.lane_clock.proofs.MomentLemmas.{Tail, tail_more}
-use Rattle.lane_context.specs.Labels.{Labelled, allots, shows, silent}
-use Rattle.lane_context.specs.Logs.{AreLogs, LogsView}
-use Rattle.lane_context.specs.Names.{SessionNames}
+use Rattle.lane_turns.specs.Labels.{Labelled, allots, shows, silent}
+use Rattle.lane_turns.specs.Logs.{AreLogs, LogsView}
+use Rattle.lane_turns.specs.Names.{SessionNames}
 use Rattle.book_context.proofs.RestLemmas.{is_within}
 use Rattle.reactor_turns.proofs.TakenLemmas.{done-taken, last-taken, take-taken, tick-taken}
 use Rattle.history_merge.proofs.AllowanceLemmas.{shown_may}

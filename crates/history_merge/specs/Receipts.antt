@@ -18,13 +18,14 @@ use Rattle.lane_clock.specs.declared.step.ClockStep.{ClockStep}
 use Rattle.lane_clock.specs.declared.step.ClockStep.TheVariants.{Draw, Look, Join}
 use Rattle.lane_clock.specs.Rule.{StepAt}
 use Rattle.lane_map.specs.LaneNumbers.{cells_of, has_cell, home_lane}
-use Rattle.lane_context.specs.declared.receipt.Receipt.{Receipt}
-use Rattle.lane_context.specs.Drops.{has_call}
-use Rattle.lane_context.specs.Logs.{AreLogs, LogsView}
-use Rattle.lane_context.specs.Names.{SessionNames}
-use Rattle.lane_context.specs.Receipts.{IsReceiptOf, holds_op}
-use Rattle.lane_context.specs.SeatNumbers.{opener_seat}
-use Rattle.lane_context.specs.Stand.{Stand, is_round_open, stand_of}
+use Rattle.lane_turns.specs.declared.receipt.Receipt.{Receipt}
+use Rattle.lane_turns.specs.AtRest.{FoundNoneFrom, IsAtRest}
+use Rattle.lane_turns.specs.Drops.{has_call}
+use Rattle.lane_turns.specs.Logs.{AreLogs, LogsView}
+use Rattle.lane_turns.specs.Names.{SessionNames}
+use Rattle.lane_turns.specs.Receipts.{IsReceiptOf, holds_op}
+use Rattle.lane_turns.specs.SeatNumbers.{opener_seat}
+use Rattle.lane_turns.specs.Stand.{Stand, is_round_open, stand_of}
 use Rattle.history_merge.specs.Merging.{IsMerging}
 
 -- the completion of which a receipt tells
@@ -125,3 +126,11 @@ UnfoundAreAbsent =
     IsWellFormed names.script → AreLogs names logs → IsMerging logs events →
     (n op : ℕ) → has_cell names.script op ≡ true → FoundNoneAtEnd names.script logs.lists n op →
     IsAbsent names.script events op
+
+-- The same at rest, however the session ended: what the opener didn't find then was never there
+abbrev pub UnfoundAtRestAreAbsent : Type 0
+UnfoundAtRestAreAbsent =
+    (names : SessionNames) (logs : LogsView) (events : List Event) →
+    IsWellFormed names.script → AreLogs names logs → IsMerging logs events →
+    (since op : ℕ) → IsAtRest names.script logs.lists since → has_cell names.script op ≡ true →
+    FoundNoneFrom names.script logs.lists since op → IsAbsent names.script events op

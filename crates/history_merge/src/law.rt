@@ -1,10 +1,10 @@
 //! What holds of the logs of a session and of what is made of them. These functions run nothing.
-ghost use Rattle.lane_context.specs.Logs.{AreLogs, LogsView};
-ghost use Rattle.lane_context.specs.Names.{SessionNames};
+ghost use Rattle.lane_turns.specs.Logs.{AreLogs, LogsView};
+ghost use Rattle.lane_turns.specs.Names.{SessionNames};
 ghost use Rattle.history_merge.specs.Among.{ExecutionsStayLegal};
 ghost use Rattle.history_merge.specs.Merging.{MergedIsLegal};
 ghost use Rattle.history_merge.specs.Ordering.{ArePositioned};
-ghost use Rattle.history_merge.specs.Receipts.{ReceiptsOfSessionsHold, UnfoundAreAbsent};
+ghost use Rattle.history_merge.specs.Receipts.{ReceiptsOfSessionsHold, UnfoundAreAbsent, UnfoundAtRestAreAbsent};
 ghost use Rattle.history_merge.specs.Room.{MergedFits};
 
 use lane_clock::positions_are_drawn_once;
@@ -51,4 +51,10 @@ pub fn receipts_hold()
 /// execute inside its call, the operation didn't complete, and if it is a posting it wasn't called.
 pub fn unfound_are_absent()
     ensures { UnfoundAreAbsent }
+{}
+
+/// Where nothing of an operation that doesn't execute inside its call is found at rest, the operation
+/// didn't complete, and if it is a posting it wasn't called: also where the reactor failed.
+pub fn unfound_at_rest_are_absent()
+    ensures { UnfoundAtRestAreAbsent }
 {}

@@ -11,7 +11,7 @@ mod room;
 
 pub use law::{
     executions_stay_legal, logs_are_positioned, merged_logs_are_legal, merged_logs_fit,
-    receipts_hold, unfound_are_absent,
+    receipts_hold, unfound_are_absent, unfound_at_rest_are_absent,
 };
 pub use merging::{merge, put_together};
 pub use room::HistoryRoom;

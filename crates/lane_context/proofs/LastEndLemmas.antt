@@ -4,20 +4,20 @@ use Rattle.std.specs.Prelude.{IfSome, is_some, map, slice_get}
 use Rattle.std.proofs.Math.ListN.{length-set}
 use Rattle.std.proofs.lemmas.Bool.{cases_lt}
 use Rattle.std.proofs.lemmas.Option.{slice_get_cases}
-use Rattle.lane_context.specs.declared.run_end.RunEnd.{RunEnd}
-use Rattle.lane_context.specs.declared.run_end.RunEnd.TheVariants as end
-use Rattle.lane_context.specs.AllWorkers.{NoneFaulted, last_of, log_of}
-use Rattle.lane_context.specs.Attempts.{WorkerState}
-use Rattle.lane_context.specs.Besides.{Besides, besides_of, rests_of}
-use Rattle.lane_context.specs.Gathering.{NoneKeeps, unseated}
-use Rattle.lane_context.specs.KnownFaults.{has_faulted}
-use Rattle.lane_context.specs.LaneValues.{Terms, Tries}
-use Rattle.lane_context.specs.OwnRuns.{LastIsNow}
+use Rattle.lane_turns.specs.declared.run_end.RunEnd.{RunEnd}
+use Rattle.lane_turns.specs.declared.run_end.RunEnd.TheVariants as end
+use Rattle.lane_turns.specs.AllWorkers.{NoneFaulted, last_of, log_of}
+use Rattle.lane_turns.specs.Attempts.{WorkerState}
+use Rattle.lane_turns.specs.Besides.{Besides, besides_of, rests_of}
+use Rattle.lane_turns.specs.Gathering.{NoneKeeps, unseated}
+use Rattle.lane_turns.specs.KnownFaults.{has_faulted}
+use Rattle.lane_turns.specs.LaneValues.{Terms, Tries}
+use Rattle.lane_turns.specs.OwnRuns.{LastIsNow}
 use Rattle.lane_context.specs.RoundEnds.{FaultCame, OneFaulted, OtherLastsStay, OwnRanLast}
-use Rattle.lane_context.proofs.AllWorkersLemmas.{none_kept, parts_stay, same_images, same_source, source_of}
-use Rattle.lane_context.proofs.AttendingLemmas.{at_or_before, get_set_other, get_set_same}
-use Rattle.lane_context.proofs.BenchLemmas.{same_one}
-use Rattle.lane_context.proofs.MeetAllLemmas.{below_size}
+use Rattle.lane_turns.proofs.AllWorkersLemmas.{none_kept, parts_stay, same_images, same_source, source_of}
+use Rattle.lane_turns.proofs.AttendingLemmas.{at_or_before, get_set_other, get_set_same}
+use Rattle.lane_turns.proofs.BenchLemmas.{same_one}
+use Rattle.lane_turns.proofs.MeetAllLemmas.{below_size}
 
 -- whether a last end is a fault
 pub faulted_is : (o : Option RunEnd) → has_faulted o ≡ true → o ≡ Some end.Fault

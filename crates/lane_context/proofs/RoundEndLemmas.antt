@@ -10,44 +10,46 @@ use Rattle.lane_clock.specs.Knowledge.{StartOf}
 use Rattle.lane_clock.specs.Seats.{Remembers, SeatView, own}
 use Rattle.lane_clock.specs.Steps.{draw_count, step_count}
 use Rattle.lane_clock.proofs.KeepLemmas.{start_same}
-use Rattle.lane_context.specs.declared.closing.Closing.{Closing}
-use Rattle.lane_context.specs.declared.closing.Closing.TheVariants as closing
-use Rattle.lane_context.specs.declared.closing_try.ClosingTry.{ClosingTry}
-use Rattle.lane_context.specs.declared.closing_try.ClosingTry.TheVariants as tried
+use Rattle.lane_turns.specs.declared.closing.Closing.{Closing}
+use Rattle.lane_turns.specs.declared.closing.Closing.TheVariants as closing
+use Rattle.lane_turns.specs.declared.closing_try.ClosingTry.{ClosingTry}
+use Rattle.lane_turns.specs.declared.closing_try.ClosingTry.TheVariants as tried
 use Rattle.lane_context.specs.declared.round_end.RoundEnd.{RoundEnd}
 use Rattle.lane_context.specs.declared.round_end.RoundEnd.TheVariants as round
-use Rattle.lane_context.specs.declared.run_end.RunEnd.{RunEnd}
-use Rattle.lane_context.specs.declared.run_end.RunEnd.TheVariants as end
-use Rattle.lane_context.specs.AllWorkers.{KnowTheRound, NoneFaulted, clock_seat, last_of, log_of}
-use Rattle.lane_context.specs.Attempts.{WorkerState}
-use Rattle.lane_context.specs.Attending.{HasGoneOn, KnowsAllOf}
-use Rattle.lane_context.specs.Benches.{AreWorkers, HasHeld}
-use Rattle.lane_context.specs.Besides.{besides_of, rests_of}
-use Rattle.lane_context.specs.ClosingTries.{HasClosedRound, TriedToClose}
-use Rattle.lane_context.specs.Gathering.{NoneKeeps, unseated}
-use Rattle.lane_context.specs.Labels.{Labelled, entries_in, steps_in}
-use Rattle.lane_context.specs.LaneValues.{Tries}
-use Rattle.lane_context.specs.Meeting.{lists_of}
-use Rattle.lane_context.specs.OpenerEvents.{HasWaited, weighing_labels}
-use Rattle.lane_context.specs.OpenerLog.{look_label}
-use Rattle.lane_context.specs.Openers.{OpenerView}
-use Rattle.lane_context.specs.OwnRuns.{HasRunInVain, LastHasRun}
-use Rattle.lane_context.specs.Pens.{HasGone, PenView}
+use Rattle.lane_turns.specs.declared.run_end.RunEnd.{RunEnd}
+use Rattle.lane_turns.specs.declared.run_end.RunEnd.TheVariants as end
+use Rattle.lane_turns.specs.AllWorkers.{KnowTheRound, NoneFaulted, clock_seat, last_of, log_of}
+use Rattle.lane_turns.specs.Attempts.{WorkerState}
+use Rattle.lane_turns.specs.Attending.{HasGoneOn, KnowsAllOf}
+use Rattle.lane_turns.specs.Benches.{AreWorkers, HasHeld}
+use Rattle.lane_turns.specs.Besides.{besides_of, rests_of}
+use Rattle.lane_turns.specs.ClosingTries.{HasClosedRound, TriedToClose}
+use Rattle.lane_turns.specs.Gathering.{NoneKeeps, unseated}
+use Rattle.lane_turns.specs.KeptSteps.{AllRemember}
+use Rattle.lane_turns.specs.Labels.{Labelled, entries_in, steps_in}
+use Rattle.lane_turns.specs.LaneValues.{Tries}
+use Rattle.lane_turns.specs.Meeting.{lists_of}
+use Rattle.lane_turns.specs.OpenerEvents.{HasWaited, weighing_labels}
+use Rattle.lane_turns.specs.OpenerLog.{look_label}
+use Rattle.lane_turns.specs.Openers.{OpenerView}
+use Rattle.lane_turns.specs.OwnRuns.{HasRunInVain, LastHasRun}
+use Rattle.lane_turns.specs.Pens.{HasGone, PenView}
 use Rattle.lane_context.specs.RoundEnds.{EndsRound, HasEndedRound, OneFaulted, OneKnowsFault, OtherLastsStay, OwnRanLast, closing_after, end_after, end_by, run_end_of}
-use Rattle.lane_context.specs.Runs.{last_end}
-use Rattle.lane_context.specs.Scanning.{SeatGoesOn}
-use Rattle.lane_context.specs.Workers.{WorkerView}
-use Rattle.lane_context.proofs.AllWorkersLemmas.{image_at, images_of, images_size, same_source, source_of}
-use Rattle.lane_context.proofs.AttendingLemmas.{on_and_on, on_same}
-use Rattle.lane_context.proofs.BenchLemmas.{same_one}
-use Rattle.lane_context.proofs.EventLemmas.{weighing_draws}
+use Rattle.lane_turns.specs.Runs.{last_end}
+use Rattle.lane_turns.specs.Scanning.{SeatGoesOn}
+use Rattle.lane_turns.specs.Workers.{WorkerView}
+use Rattle.lane_turns.proofs.AllWorkersLemmas.{image_at, images_of, images_size, same_source, source_of}
+use Rattle.lane_turns.proofs.AttendingLemmas.{on_and_on, on_same}
+use Rattle.lane_turns.proofs.BenchLemmas.{same_one}
+use Rattle.lane_turns.proofs.EventLemmas.{weighing_draws}
 use Rattle.lane_context.proofs.LastEndLemmas.{came_still, last_and_last, last_logs, last_same, lasts_of_rests, logs_of_rests, none_faulted_still, one_faulted_still, others_still, ran_still, there_is_last}
-use Rattle.lane_context.proofs.MeetAllLemmas.{below_size}
-use Rattle.lane_context.proofs.OpenerEventLemmas.{looks_entries}
-use Rattle.lane_context.proofs.PenLemmas.{step_count-append}
-use Rattle.lane_context.proofs.ReactorFaultLemmas.{fault_remembered}
-use Rattle.lane_context.proofs.ScanLemmas.{seat_and_on, seat_same}
-use Rattle.lane_context.proofs.SteppingLemmas.{stepped_known, stepped_number}
+use Rattle.lane_turns.proofs.MeetAllLemmas.{below_size}
+use Rattle.lane_turns.proofs.OpenerEventLemmas.{looks_entries}
+use Rattle.lane_turns.proofs.PenLemmas.{step_count-append}
+use Rattle.lane_turns.proofs.ReactorFaultLemmas.{fault_remembered}
+use Rattle.lane_turns.proofs.RememberAllLemmas.{last_remembers, remember_on, seats_remember}
+use Rattle.lane_turns.proofs.ScanLemmas.{seat_and_on, seat_same}
+use Rattle.lane_turns.proofs.SteppingLemmas.{stepped_known, stepped_number}
 
 -- the answer of `run` to which a closing belongs
 pub ran_as : (now : RunEnd) (how : Closing) → Some how ≡ closing_after now → now ≡ run_end_of (end_by how)
@@ -208,14 +210,18 @@ module _ {H X : Type 0} (t : Tries H X) (lanes : ℕ) where
             it.others k old new (let long = vain.only.size in omega (arith, below, long))
             (vain.only.others k below ∙ was) is;
         logs = it.logs ∙ last_logs xs ys vain.old vain.new vain.only vain.seat.log;
+        remember =
+            remember_on clock_seat xs ys zs (last_remembers xs ys vain.old vain.new vain.only vain.seat.remembers)
+            it.remember;
         rounds = it.rounds;
       }
 
   -- what stands behind the end changes no last end and no log
   pub ended_still : (now : RoundEnd) (a b : OpenerView) (xs ys zs : List (WorkerState H X)) →
       HasEndedRound t lanes now a b xs ys → map last_of zs ≡ map last_of ys → map log_of zs ≡ map log_of ys →
-      KnowTheRound t.terms.names.script b.stand zs → HasEndedRound t lanes now a b xs zs
-  ended_still now a b xs ys zs it same logs rounds =
+      map clock_seat zs ≡ map clock_seat ys → KnowTheRound t.terms.names.script b.stand zs →
+      HasEndedRound t lanes now a b xs zs
+  ended_still now a b xs ys zs it same logs seats rounds =
       record {
         ended = it.ended;
         knows = it.knows;
@@ -224,6 +230,7 @@ module _ {H X : Type 0} (t : Tries H X) (lanes : ℕ) where
         ran = λ works. ran_still ys zs same t lanes (run_end_of now) xs (it.ran works);
         others = others_still ys zs same xs it.others;
         logs = logs ∙ it.logs;
+        remember = remember_on clock_seat xs ys zs it.remember (seats_remember clock_seat ys zs seats);
         rounds = rounds;
       }
 
@@ -259,14 +266,18 @@ module _ {H X : Type 0} (t : Tries H X) (lanes : ℕ) where
             λ k old new below was is.
             it.others k (unseated old) new (omega (arith, below, size)) (image_at unseated xs k old was) is;
         logs = it.logs ∙ images_of log_of unseated (λ w. refl) xs;
+        remember =
+            remember_on clock_seat xs (map unseated xs) ys
+            (seats_remember clock_seat xs (map unseated xs) (images_of clock_seat unseated (λ w. refl) xs)) it.remember;
         rounds = it.rounds;
       }
 
   -- a worker had met a fault before
   pub ended_faulted : (a b : OpenerView) (xs ys : List (WorkerState H X)) → HasGoneOn a b → KnowsAllOf clock_seat b xs →
       OneFaulted xs → OneKnowsFault t.terms.names.script xs → rests_of besides_of ys ≡ rests_of besides_of xs →
-      KnowTheRound t.terms.names.script b.stand ys → HasEndedRound t lanes round.Fault a b xs ys
-  ended_faulted a b xs ys on known one knows rests rounds =
+      AllRemember clock_seat xs ys → KnowTheRound t.terms.names.script b.stand ys →
+      HasEndedRound t lanes round.Fault a b xs ys
+  ended_faulted a b xs ys on known one knows rests remember rounds =
       let same = lasts_of_rests xs ys rests in
       record {
         ended = on;
@@ -283,6 +294,7 @@ module _ {H X : Type 0} (t : Tries H X) (lanes : ℕ) where
             let it : from.source ≡ old = same_one xs k k from.source old from.at refl was in
             sym from.is ∙ ap last_of it;
         logs = logs_of_rests xs ys rests;
+        remember = remember;
         rounds = rounds;
       }
 
@@ -296,6 +308,12 @@ module _ {H X : Type 0} (t : Tries H X) (lanes : ℕ) where
 
     run_logs : map log_of ys ≡ map log_of xs
     run_logs = last_logs xs ys run.old run.new run.only (ap log_of run.ran.left ∙ run.ran.on.log)
+
+    run_remember : AllRemember clock_seat xs ys
+    run_remember =
+        last_remembers xs ys run.old run.new run.only
+        (subst (λ (w : WorkerState H X). Remembers (clock_seat run.old) (clock_seat w)) (sym run.ran.left)
+        run.ran.on.remembers)
 
     run_last : OwnRanLast t lanes now xs ys
     run_last =
@@ -358,9 +376,10 @@ module _ {H X : Type 0} (t : Tries H X) (lanes : ℕ) where
     -- it met a fault itself
     pub run_faulted : (a b : OpenerView) (zs : List (WorkerState H X)) → HasGoneOn a b → KnowsAllOf clock_seat b ys →
         OneFaulted ys → OneKnowsFault t.terms.names.script ys → rests_of besides_of zs ≡ rests_of besides_of ys →
-        KnowTheRound t.terms.names.script b.stand zs → HasEndedRound t lanes round.Fault a b xs zs
-    run_faulted a b zs on known one knows rests rounds =
-        let it = ended_faulted a b ys zs on known one knows rests rounds in
+        AllRemember clock_seat ys zs → KnowTheRound t.terms.names.script b.stand zs →
+        HasEndedRound t lanes round.Fault a b xs zs
+    run_faulted a b zs on known one knows rests remember rounds =
+        let it = ended_faulted a b ys zs on known one knows rests remember rounds in
         record {
           ended = it.ended;
           knows = it.knows;
@@ -369,12 +388,14 @@ module _ {H X : Type 0} (t : Tries H X) (lanes : ℕ) where
           ran = λ works. absurd (works refl);
           others = others_still ys zs (lasts_of_rests ys zs rests) xs run_others;
           logs = it.logs ∙ run_logs;
+          remember = remember_on clock_seat xs ys zs run_remember it.remember;
           rounds = rounds;
         }
 
     -- what a try to close the round comes to
     module _ (how : Closing) (is : Some how ≡ closing_after now) (none : NoneFaulted ys) (a b : OpenerView)
-        (zs : List (WorkerState H X)) (rests : rests_of besides_of zs ≡ rests_of besides_of ys) where
+        (zs : List (WorkerState H X)) (rests : rests_of besides_of zs ≡ rests_of besides_of ys)
+        (remember : AllRemember clock_seat ys zs) where
       abbrev same : map last_of zs ≡ map last_of ys
       same = lasts_of_rests ys zs rests
 
@@ -393,6 +414,7 @@ module _ {H X : Type 0} (t : Tries H X) (lanes : ℕ) where
                 (subst (λ ends. OwnRanLast t lanes ends xs ys) (ran_as now how is) run_last);
             others = others_still ys zs same xs run_others;
             logs = logs_of_rests ys zs rests ∙ run_logs;
+            remember = remember_on clock_seat xs ys zs run_remember remember;
             rounds = rounds (λ refuted. absurd (cc refuted));
           }
       tried_ended tried.Refuted it rounds = tt
@@ -405,6 +427,7 @@ module _ {H X : Type 0} (t : Tries H X) (lanes : ℕ) where
             ran = λ works. absurd (works refl);
             others = others_still ys zs same xs run_others;
             logs = logs_of_rests ys zs rests ∙ run_logs;
+            remember = remember_on clock_seat xs ys zs run_remember remember;
             rounds = rounds (λ refuted. absurd (cc refuted));
           }
 

@@ -3,15 +3,15 @@ use Rattle.std.proofs.Common.{◌≡◌, inl, inr, ℕ, Bool, false, Option, Som
 use Rattle.std.specs.Prelude.{◌||◌, ◌==◌, not, is_some, IfSome}
 use Rattle.turn_table.specs.Seated.{Lanes}
 use Rattle.lane_clock.specs.declared.found.Found.{Found}
-use Rattle.lane_context.specs.declared.one.One.{One}
-use Rattle.lane_context.specs.declared.one.One.TheVariants as one
-use Rattle.lane_context.specs.declared.run_end.RunEnd.{RunEnd}
-use Rattle.lane_context.specs.declared.run_end.RunEnd.TheVariants as end
-use Rattle.lane_context.specs.Attempts.{IsSeated, WorkerState}
-use Rattle.lane_context.specs.LaneValues.{LaneValue, Tries}
-use Rattle.lane_context.specs.Runs.{CameLast, EndsFor, HasRun, HasSettled, is_barred, with_end}
-use Rattle.lane_context.specs.Scanning.{GoesOn, HasLooked, HasLookedRound, TriedLast}
-use Rattle.lane_context.proofs.ScanLemmas.{on_and_on, on_same}
+use Rattle.lane_turns.specs.declared.one.One.{One}
+use Rattle.lane_turns.specs.declared.one.One.TheVariants as one
+use Rattle.lane_turns.specs.declared.run_end.RunEnd.{RunEnd}
+use Rattle.lane_turns.specs.declared.run_end.RunEnd.TheVariants as end
+use Rattle.lane_turns.specs.Attempts.{IsSeated, WorkerState}
+use Rattle.lane_turns.specs.LaneValues.{LaneValue, Tries}
+use Rattle.lane_turns.specs.Runs.{CameLast, EndsAtOnce, EndsFor, HasRun, HasSettled, is_barred, with_end}
+use Rattle.lane_turns.specs.Scanning.{GoesOn, HasLooked, HasLookedRound, TriedLast}
+use Rattle.lane_turns.proofs.ScanLemmas.{on_and_on, on_same}
 
 -- who may begin something keeps no lane
 pub keeps_none : {H X : Type 0} (kept : Option (LaneValue H X)) (b : Bool) → (is_some kept || b) ≡ false → kept ≡ None
@@ -35,13 +35,7 @@ looked_seated lanes old new found looked is =
 pub ends_on : {H X : Type 0} (t : Tries H X) (lanes : ℕ) (now : RunEnd) (a b c : WorkerState H X) → GoesOn a b →
     EndsFor t lanes now b c → EndsFor t lanes now a c
 ends_on t lanes end.Ended a b c on why =
-    record {
-      before = why.before;
-      mid = why.mid;
-      since = on_and_on a b why.before on why.since;
-      each = why.each;
-      settled = why.settled;
-    }
+    record { before = why.before; since = on_and_on a b why.before on why.since; settled = why.settled }
 ends_on t lanes end.Stopped a b c on (inl why) =
     inl (record { before = why.before; since = on_and_on a b why.before on why.since; read = why.read })
 ends_on t lanes end.Stopped a b c on (inr why) =
@@ -63,7 +57,7 @@ pub nothing_ends : {H X : Type 0} (t : Tries H X) (lanes : ℕ) (old mid new : W
     IfSome o (λ now. EndsFor t lanes now old new)
 nothing_ends t lanes old mid new None on each settled = settled
 nothing_ends t lanes old mid new (Some end.Ended) on each settled =
-    record { before = old; mid = mid; since = on_same old; each = each; settled = settled }
+    record { before = mid; since = on; settled = settled }
 nothing_ends t lanes old mid new (Some end.Stopped) on each settled =
     inl (record {
       before = mid;
@@ -73,6 +67,20 @@ nothing_ends t lanes old mid new (Some end.Stopped) on each settled =
 nothing_ends t lanes old mid new (Some end.Idle) on each settled =
     record { before = old; mid = mid; since = on_same old; each = each; settled = settled }
 nothing_ends t lanes old mid new (Some end.Fault) on each settled = absurd settled.why
+
+-- what was read before all looks ends a call
+pub at_once : {H X : Type 0} (t : Tries H X) (lanes : ℕ) (now : RunEnd) (old new : WorkerState H X) →
+    EndsAtOnce now old new → EndsFor t lanes now old new
+at_once t lanes end.Ended old new settled = record { before = old; since = on_same old; settled = settled }
+at_once t lanes end.Stopped old new read = inl (record { before = old; since = on_same old; read = read })
+at_once t lanes end.Idle old new why = absurd why
+at_once t lanes end.Fault old new why = absurd why
+
+-- and what was found behind a read that didn't
+pub if_ends_on : {H X : Type 0} (t : Tries H X) (lanes : ℕ) (o : Option RunEnd) (a b c : WorkerState H X) →
+    GoesOn a b → IfSome o (λ now. EndsFor t lanes now b c) → IfSome o (λ now. EndsFor t lanes now a c)
+if_ends_on t lanes None a b c on why = why
+if_ends_on t lanes (Some now) a b c on why = ends_on t lanes now a b c on why
 
 -- an attempt that ends a call was the last that the worker did
 pub came_last : {H X : Type 0} (t : Tries H X) (lanes : ℕ) (answer : One) (old new : WorkerState H X) →

@@ -12,23 +12,23 @@ use Rattle.strand_core.specs.Hands.{Held}
 use Rattle.lane_clock.specs.Seats.{ClockId, SeatView}
 use Rattle.lane_map.specs.LaneNumbers.{reactor_lane}
 use Rattle.lane_map.proofs.NumberLemmas.{lane_count as lanes_listed}
-use Rattle.lane_context.specs.AllWorkers.{AreReady, HasAllTurns, clock_seat, last_of}
-use Rattle.lane_context.specs.Attempts.{WorkerState}
-use Rattle.lane_context.specs.Batons.{BatonView}
+use Rattle.lane_turns.specs.AllWorkers.{AreReady, HasAllTurns, clock_seat, last_of}
+use Rattle.lane_turns.specs.Attempts.{WorkerState}
+use Rattle.lane_turns.specs.Batons.{BatonView}
 use Rattle.lane_context.specs.Beginning.{HasBegun}
-use Rattle.lane_context.specs.Benches.{AreLanes, AreWorkers, IsRow}
-use Rattle.lane_context.specs.Gathering.{HaveSatDown, turns_below}
-use Rattle.lane_context.specs.LaneOf.{seat_of}
-use Rattle.lane_context.specs.LaneValues.{LaneValue, handlers, reactor}
-use Rattle.lane_context.specs.Openers.{OpenerView}
-use Rattle.lane_context.specs.Rooms.{EachAt, lane_room, worker_room}
-use Rattle.lane_context.specs.SeatNumbers.{lane_count, worker_count}
+use Rattle.lane_turns.specs.Benches.{AreLanes, AreWorkers, IsRow}
+use Rattle.lane_turns.specs.Gathering.{HaveSatDown, turns_below}
+use Rattle.lane_turns.specs.LaneOf.{seat_of}
+use Rattle.lane_turns.specs.LaneValues.{LaneValue, handlers, reactor}
+use Rattle.lane_turns.specs.Openers.{OpenerView}
+use Rattle.lane_turns.specs.Rooms.{EachAt, lane_room, worker_room}
+use Rattle.lane_turns.specs.SeatNumbers.{lane_count, worker_count}
 use Rattle.lane_context.specs.SessionRooms.{AreFresh, standing_by}
-use Rattle.lane_context.specs.Turning.{ReactorView}
-use Rattle.lane_context.specs.Workers.{WorkerView}
-use Rattle.lane_context.proofs.AllWorkersLemmas.{lasts_sat, rows_sat, same_source, seated_sat, source_of}
+use Rattle.lane_turns.specs.Turning.{ReactorView}
+use Rattle.lane_turns.specs.Workers.{WorkerView}
+use Rattle.lane_turns.proofs.AllWorkersLemmas.{lasts_sat, rows_sat, same_source, seated_sat, source_of}
 use Rattle.lane_context.proofs.FirstLemmas.{new_number}
-use Rattle.lane_context.proofs.NewPenLemmas.{each_more}
+use Rattle.lane_turns.proofs.NewPenLemmas.{each_more}
 
 module _ {S T : Type 0} (f : S → T) (all : List S) where
   -- the first of a list were made into these, and the rest is left

@@ -5,14 +5,14 @@ use Rattle.std.proofs.lemmas.Bool.{cases_lt}
 use Rattle.std.proofs.lemmas.Option.{slice_get_cases}
 use Rattle.session_script.specs.Script.{ScriptModel}
 use Rattle.turn_table.specs.Seated.{Lanes}
-use Rattle.lane_context.specs.AllWorkers.{AreReady, log_of}
-use Rattle.lane_context.specs.Attempts.{IsSeated, WorkerState}
-use Rattle.lane_context.specs.Gathering.{IsSeatedAs}
-use Rattle.lane_context.specs.LaneValues.{Tries}
-use Rattle.lane_context.specs.Scanning.{numbers_of}
+use Rattle.lane_turns.specs.AllWorkers.{AreReady, log_of}
+use Rattle.lane_turns.specs.Attempts.{IsSeated, WorkerState}
+use Rattle.lane_turns.specs.Gathering.{IsSeatedAs}
+use Rattle.lane_turns.specs.LaneValues.{Tries}
+use Rattle.lane_turns.specs.Scanning.{numbers_of}
 use Rattle.lane_context.specs.SideBySide.{FirstHaveRun, HasCalledRun}
-use Rattle.lane_context.proofs.AllWorkersLemmas.{same_images}
-use Rattle.lane_context.proofs.MeetAllLemmas.{below_size}
+use Rattle.lane_turns.proofs.AllWorkersLemmas.{same_images}
+use Rattle.lane_turns.proofs.MeetAllLemmas.{below_size}
 
 module _ {H X : Type 0} (t : Tries H X) (lanes : Lanes) where
   abbrev pub HaveRun : List (WorkerState H X) → List (WorkerState H X) → Type 0

@@ -6,14 +6,14 @@ use Rattle.reactor_turns.specs.Ahead.{most_turn_events}
 use Rattle.strand_core.specs.Hands.{Held}
 use Rattle.lane_clock.specs.Seats.{ClockId}
 use Rattle.lane_map.specs.LaneNumbers.{reactor_lane}
-use Rattle.lane_context.specs.Batons.{BatonView}
-use Rattle.lane_context.specs.Firsts.{IsFirstBaton, IsFirstWorker, first_lane, first_opener}
-use Rattle.lane_context.specs.Openers.{OpenerView}
-use Rattle.lane_context.specs.Rooms.{EachAt, IsNewPen, opener_room}
-use Rattle.lane_context.specs.SeatNumbers.{lane_count, opener_seat, worker_count}
+use Rattle.lane_turns.specs.Batons.{BatonView}
+use Rattle.lane_turns.specs.Firsts.{IsFirstBaton, IsFirstWorker, first_lane, first_opener}
+use Rattle.lane_turns.specs.Openers.{OpenerView}
+use Rattle.lane_turns.specs.Rooms.{EachAt, IsNewPen, opener_room}
+use Rattle.lane_turns.specs.SeatNumbers.{lane_count, opener_seat, worker_count}
 use Rattle.lane_context.specs.Setup.{HasTaken}
-use Rattle.lane_context.specs.Turning.{ReactorView}
-use Rattle.lane_context.specs.Workers.{WorkerView}
+use Rattle.lane_turns.specs.Turning.{ReactorView}
+use Rattle.lane_turns.specs.Workers.{WorkerView}
 
 -- every lane with the handlers that are listed at its number, every worker, the reactor's lane and
 -- the opener, none of which has done anything; each has the seat of its number

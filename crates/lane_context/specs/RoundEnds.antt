@@ -1,23 +1,24 @@
 -- How a round ends, and why (Asio reference, io_context::run, ::poll, ::stopped).
 use Rattle.std.specs.Prelude.{◌≡◌, ◌≢◌, ◌⊎◌, ℕ, ◌+◌, ◌-◌, ◌<◌, List, Option, Some, None, length, map, slice_get}
 use Rattle.session_script.specs.Script.{ScriptModel}
-use Rattle.lane_context.specs.declared.closing.Closing.{Closing}
-use Rattle.lane_context.specs.declared.closing.Closing.TheVariants as closing
-use Rattle.lane_context.specs.declared.closing_try.ClosingTry.{ClosingTry}
-use Rattle.lane_context.specs.declared.closing_try.ClosingTry.TheVariants as tried
+use Rattle.lane_turns.specs.declared.closing.Closing.{Closing}
+use Rattle.lane_turns.specs.declared.closing.Closing.TheVariants as closing
+use Rattle.lane_turns.specs.declared.closing_try.ClosingTry.{ClosingTry}
+use Rattle.lane_turns.specs.declared.closing_try.ClosingTry.TheVariants as tried
 use Rattle.lane_context.specs.declared.round_end.RoundEnd.{RoundEnd}
 use Rattle.lane_context.specs.declared.round_end.RoundEnd.TheVariants as round
-use Rattle.lane_context.specs.declared.run_end.RunEnd.{RunEnd}
-use Rattle.lane_context.specs.declared.run_end.RunEnd.TheVariants as end
-use Rattle.lane_context.specs.AllWorkers.{HadFailed, KnowTheRound, NoneFaulted, clock_seat, log_of}
-use Rattle.lane_context.specs.Attempts.{WorkerState}
-use Rattle.lane_context.specs.Attending.{HasGoneOn}
-use Rattle.lane_context.specs.ClosingTries.{HasClosedRound}
-use Rattle.lane_context.specs.KnownFaults.{KnowsFault}
-use Rattle.lane_context.specs.LaneValues.{Terms, Tries}
-use Rattle.lane_context.specs.Openers.{OpenerView}
-use Rattle.lane_context.specs.Runs.{HasRun}
-use Rattle.lane_context.specs.Scanning.{SeatGoesOn}
+use Rattle.lane_turns.specs.declared.run_end.RunEnd.{RunEnd}
+use Rattle.lane_turns.specs.declared.run_end.RunEnd.TheVariants as end
+use Rattle.lane_turns.specs.AllWorkers.{HadFailed, KnowTheRound, NoneFaulted, clock_seat, log_of}
+use Rattle.lane_turns.specs.Attempts.{WorkerState}
+use Rattle.lane_turns.specs.Attending.{HasGoneOn}
+use Rattle.lane_turns.specs.ClosingTries.{HasClosedRound}
+use Rattle.lane_turns.specs.KeptSteps.{AllRemember}
+use Rattle.lane_turns.specs.KnownFaults.{KnowsFault}
+use Rattle.lane_turns.specs.LaneValues.{Terms, Tries}
+use Rattle.lane_turns.specs.Openers.{OpenerView}
+use Rattle.lane_turns.specs.Runs.{HasRun}
+use Rattle.lane_turns.specs.Scanning.{SeatGoesOn}
 
 -- the answer of `run` by which a round ends so
 abbrev pub run_end_of : RoundEnd → RunEnd
@@ -99,4 +100,5 @@ module _ {H X : Type 0} where
     pub others : OtherLastsStay olds news
     -- nobody draws a stop
     pub logs : map log_of news ≡ map log_of olds
+    pub remember : AllRemember clock_seat olds news
     pub rounds : KnowTheRound t.terms.names.script opener_now.stand news

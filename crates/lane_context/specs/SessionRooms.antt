@@ -4,9 +4,9 @@ use Rattle.std.specs.Prelude.{◌≡◌, ℕ, List, [], None, Some, length}
 use Rattle.std.specs.Global.{Vec}
 use Rattle.session_script.specs.Script.{ScriptModel}
 use Rattle.strand_core.specs.declared.posted.Posted.{Posted}
-use Rattle.lane_context.specs.Attempts.{IsCallRoom, WorkerState}
-use Rattle.lane_context.specs.Rooms.{EachAt}
-use Rattle.lane_context.specs.Workers.{WorkerView}
+use Rattle.lane_turns.specs.Attempts.{IsCallRoom, WorkerState}
+use Rattle.lane_turns.specs.Rooms.{EachAt}
+use Rattle.lane_turns.specs.Workers.{WorkerView}
 
 -- so many workers' rooms for the calls of an execution
 abbrev pub AreCallRooms : ScriptModel → ℕ → List (Vec Posted) → Type 0

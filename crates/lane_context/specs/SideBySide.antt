@@ -1,11 +1,11 @@
 -- Workers that run at the same time (Asio reference, io_context::run).
 use Rattle.std.specs.Prelude.{◌≡◌, ℕ, ◌<◌, ◌≤◌, List, Some, slice_get}
 use Rattle.turn_table.specs.Seated.{Lanes}
-use Rattle.lane_context.specs.declared.run_end.RunEnd.{RunEnd}
-use Rattle.lane_context.specs.Attempts.{IsSeated, WorkerState}
-use Rattle.lane_context.specs.LaneValues.{Tries}
-use Rattle.lane_context.specs.Runs.{HasRun}
-use Rattle.lane_context.specs.Scanning.{GoesOn}
+use Rattle.lane_turns.specs.declared.run_end.RunEnd.{RunEnd}
+use Rattle.lane_turns.specs.Attempts.{IsSeated, WorkerState}
+use Rattle.lane_turns.specs.LaneValues.{Tries}
+use Rattle.lane_turns.specs.Runs.{HasRun}
+use Rattle.lane_turns.specs.Scanning.{GoesOn}
 
 module _ {H X : Type 0} (t : Tries H X) (lanes : Lanes) where
   -- a worker called `run`, and has its seat at the table

@@ -1,25 +1,19 @@
 //! The workers' room for the calls of an execution.
-ghost use Rattle.std.specs.Prelude.{◌≡◌, ◌<◌, IfOk, length};
-ghost use Rattle.strand_core.specs.Room.{shown_by_handler};
-ghost use Rattle.lane_context.specs.Polling.{most_made};
+ghost use Rattle.std.specs.Prelude.{◌≤◌, IfOk};
+ghost use Rattle.lane_turns.specs.Polling.{most_made};
 ghost use Rattle.lane_context.specs.SessionRooms.{AreCallRooms};
 
-use crate::log_rooms::shown_by_handler;
 use asio_types::NoMemory;
-use session_script::{Script, scripts_are_well_formed};
+use session_script::Script;
 use std::alloc::Global;
 use strand_core::Posted;
 
-/// As many calls as no execution of the script makes more.
-fn most_made(script: &Script) -> usize
-    ensures { result ≡ most_made script.now }
+/// As many calls as no execution of the script makes more: each handler's begin and end, and of each
+/// act its call, its return and its stop.
+fn calls_at_most(script: &Script) -> usize
+    ensures { most_made script.now ≤ result }
 {
-    scripts_are_well_formed(script);
-    let mut most = 0;
-    for op in 0..script.acts() {
-        most += shown_by_handler(script, op) as usize;
-    }
-    most
+    5 * script.acts() as usize
 }
 
 /// Room for the calls of an execution, of each of so many workers.
@@ -30,7 +24,7 @@ pub(crate) fn call_rooms(
 ) -> Result<Vec<Vec<Posted>>, NoMemory>
     ensures { IfOk result (λ rooms. AreCallRooms script.now workers rooms.items) }
 {
-    let most = most_made(script);
+    let most = calls_at_most(script);
     let mut rooms = Vec::with_capacity(alloc, workers as usize)?;
     for _ in 0..workers {
         rooms.push_reserved(Vec::with_capacity(alloc, most)?);

@@ -1,19 +1,15 @@
 ghost use Rattle.std.specs.Prelude.{◌≡◌, ◌<◌, ◌≤◌, [], None, Some, false, vec_capacity, if◌then◌else◌};
 ghost use Rattle.turn_table.specs.Seated.{IsSeatOf};
-ghost use Rattle.lane_context.specs.Answers.{is_fault};
-ghost use Rattle.lane_context.specs.Attempts.{HasAttempted, HasTried, IsSeated};
-ghost use Rattle.lane_context.specs.LaneValues.{terms, tries};
-ghost use Rattle.lane_context.specs.Polling.{most_made};
-ghost use Rattle.lane_context.specs.Scanning.{GoesOn, HasLookedRound, HasScanned};
+ghost use Rattle.lane_turns.specs.Answers.{is_fault};
+ghost use Rattle.lane_turns.specs.Attempts.{HasAttempted, HasTried, IsSeated};
+ghost use Rattle.lane_turns.specs.LaneValues.{terms, tries};
+ghost use Rattle.lane_turns.specs.Polling.{most_made};
+ghost use Rattle.lane_turns.specs.Scanning.{GoesOn, HasLookedRound, HasScanned};
 
-use crate::baton::{Baton, BatonCame};
-use crate::one::One;
-use crate::run_end::RunEnd;
-use crate::session::LaneSession;
 use crate::worker::Worker;
-use crate::worker_seat::WorkerSeat;
 use lane_clock::LaneClock;
 use lane_map::{LaneMap, lanes_have_cells};
+use lane_turns::{Baton, BatonCame, LaneSession, Lookout, One, RunEnd, WorkerSeat};
 use op_handlers::CompletionHandler;
 use reactor_trait::Reactor;
 use session_script::Script;
@@ -35,8 +31,8 @@ impl<'a, X: Reactor, H: CompletionHandler, N: LaneSession> Model for Context<'a,
     ghost use Rattle.turn_table.specs.Seated.{Lanes};
     ghost use Rattle.std.specs.Prelude.{◌≡◌};
     ghost use Rattle.lane_map.specs.LaneNumbers.{cells_of};
-    ghost use Rattle.lane_context.specs.Logs.{session_layout};
-    ghost use Rattle.lane_context.specs.SeatNumbers.{lane_count};
+    ghost use Rattle.lane_turns.specs.Logs.{session_layout};
+    ghost use Rattle.lane_turns.specs.SeatNumbers.{lane_count};
 
     ghost Value = { Lanes };
 
@@ -53,12 +49,11 @@ impl<'a, X: Reactor, H: CompletionHandler, N: LaneSession> Model for Context<'a,
 }
 
 /// What an attempt at a lane leaves: the lane that the worker keeps after a fault, the room for
-/// calls, what it came to, and the lane at which there may be something to do next.
+/// calls, and what it came to.
 struct Attempt<'a, X: Reactor, H: CompletionHandler, N: LaneSession> {
     kept: Option<Baton<'a, X, H, N>>,
     made: Vec<Posted>,
     one: One,
-    hint: Option<u32>,
 }
 
 impl<'a, X: Reactor, H: CompletionHandler, N: LaneSession> Context<'a, X, H, N> {
@@ -70,6 +65,7 @@ impl<'a, X: Reactor, H: CompletionHandler, N: LaneSession> Context<'a, X, H, N> 
         seat: &mut WorkerSeat<N>,
         turns: &mut TurnSeat,
         made: Vec<Posted>,
+        lookout: &mut Lookout,
         lane: u32,
         most: u32,
     ) -> Attempt<'a, X, H, N>
@@ -91,7 +87,6 @@ impl<'a, X: Reactor, H: CompletionHandler, N: LaneSession> Context<'a, X, H, N> 
                 kept: None,
                 made,
                 one,
-                hint: None,
             };
         };
         baton.is_one();
@@ -100,8 +95,7 @@ impl<'a, X: Reactor, H: CompletionHandler, N: LaneSession> Context<'a, X, H, N> 
             mut baton,
             made,
             one,
-            hint,
-        } = baton.work(&self.clock, self.script, self.map, made, most);
+        } = baton.work(&self.clock, self.script, self.map, made, lookout, most);
         baton.is_one();
         baton.tell(&self.clock, seat);
         if one.is_fault() {
@@ -109,7 +103,6 @@ impl<'a, X: Reactor, H: CompletionHandler, N: LaneSession> Context<'a, X, H, N> 
                 kept: Some(baton),
                 made,
                 one,
-                hint,
             };
         }
         self.turns.give_turn(turns, lane, baton);
@@ -117,7 +110,6 @@ impl<'a, X: Reactor, H: CompletionHandler, N: LaneSession> Context<'a, X, H, N> 
             kept: None,
             made,
             one,
-            hint,
         }
     }
 
@@ -138,12 +130,16 @@ impl<'a, X: Reactor, H: CompletionHandler, N: LaneSession> Context<'a, X, H, N> 
         let Some(made) = worker.made.take() else {
             unreachable!()
         };
-        let Attempt {
-            kept,
+        worker.lookout.begin(lane);
+        let Attempt { kept, made, one } = self.try_lane(
+            &mut worker.seat,
+            &mut turns,
             made,
-            one,
-            hint,
-        } = self.try_lane(&mut worker.seat, &mut turns, made, lane, most);
+            &mut worker.lookout,
+            lane,
+            most,
+        );
+        worker.lookout.end();
         match mem::replace(&mut worker.kept, kept) {
             None => {}
             Some(_other) => unreachable!(),
@@ -151,7 +147,6 @@ impl<'a, X: Reactor, H: CompletionHandler, N: LaneSession> Context<'a, X, H, N> 
         worker.turns = Some(turns);
         worker.made = Some(made);
         worker.last = last_after(one, worker.last);
-        worker.cursor = hint.unwrap_or(lane.saturating_add(1));
         one
     }
 
@@ -192,7 +187,7 @@ impl<'a, X: Reactor, H: CompletionHandler, N: LaneSession> Context<'a, X, H, N> 
     {
         lanes_have_cells(self.script);
         let count = self.map.lanes();
-        let first = worker.cursor.min(count);
+        let first = worker.lookout.first().min(count);
         let one = self.scan(worker, first, count, most);
         if !one.is_nothing() {
             return one;

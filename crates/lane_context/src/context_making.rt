@@ -2,21 +2,21 @@
 ghost use Rattle.std.specs.Prelude.{◌≡◌, [], IfErr, IfOk, OnErr, OnOk, length};
 ghost use Rattle.op_handlers.specs.Rack.{handlers_in};
 ghost use Rattle.proactor_core.specs.Proactor.{tells};
-ghost use Rattle.lane_context.specs.AllWorkers.{AreReady};
-ghost use Rattle.lane_context.specs.Logs.{session_layout};
-ghost use Rattle.lane_context.specs.SeatNumbers.{worker_count};
+ghost use Rattle.lane_turns.specs.AllWorkers.{AreReady};
+ghost use Rattle.lane_turns.specs.Logs.{session_layout};
+ghost use Rattle.lane_turns.specs.SeatNumbers.{worker_count};
 ghost use Rattle.lane_context.specs.SessionRooms.{AreFresh};
 ghost use Rattle.lane_context.specs.Setup.{HoldsNamed, IsRefused, TakesHandlers};
-ghost use Rattle.lane_context.specs.Stand.{first_stand};
+ghost use Rattle.lane_turns.specs.Stand.{first_stand};
 
 use crate::beginning::make_session;
 use crate::context::Context;
 use crate::parts::Parts;
-use crate::session::LaneSession;
 use crate::session_room::SessionRoom;
 use crate::workers::Workers;
 use asio_types::SetupFault;
 use lane_map::LaneMap;
+use lane_turns::LaneSession;
 use op_handlers::{CompletionHandler, Rack};
 use reactor_trait::Reactor;
 use session_script::Script;
@@ -26,7 +26,7 @@ impl<'a, X: Reactor, H: CompletionHandler, N: LaneSession> Context<'a, X, H, N> 
     /// The context of a script's session, with these parts, and all its workers, before the first
     /// event (Asio reference, io_context::io_context). Sets the reactor up, and takes the handlers of
     /// the script's operations out of the rack. Takes all memory that the session needs, the room for
-    /// its end too: no later call takes any. `Failed` comes only where the reactor failed. After a
+    /// its end too: later only hints take some. `Failed` comes only where the reactor failed. After a
     /// refusal the rack is as before, and the reactor comes back.
     pub fn make(
         alloc: Global,

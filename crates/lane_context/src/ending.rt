@@ -1,23 +1,24 @@
 //! The end of a context without a lock.
 ghost use Rattle.std.specs.Prelude.{◌≡◌, ◌<◌, ◌≤◌, [], ℕ, IfSome, None, length, map, slice_get, slice_index_or, vec_capacity};
+ghost use Rattle.lane_clock.specs.Seats.{Remembers};
 ghost use Rattle.lane_map.specs.LaneNumbers.{reactor_lane};
-ghost use Rattle.lane_context.specs.AllWorkers.{AreCuts, AreReady, clock_seat, log_of};
-ghost use Rattle.lane_context.specs.Benches.{AreWorkers};
-ghost use Rattle.lane_context.specs.Finishing.{IsGivenBack, IsOver, KeepLogsOf, logs_in};
-ghost use Rattle.lane_context.specs.Gathering.{AreSeated, StandsForFirst, unseated};
-ghost use Rattle.lane_context.specs.Logs.{AreLogs};
-ghost use Rattle.lane_context.specs.Turning.{log_half};
+ghost use Rattle.lane_turns.specs.AllWorkers.{AreCuts, AreReady, clock_seat, log_of};
+ghost use Rattle.lane_turns.specs.AtRest.{rest_lists};
+ghost use Rattle.lane_turns.specs.Benches.{AreWorkers};
+ghost use Rattle.lane_turns.specs.Finishing.{IsGivenBack, IsOver, KeepLogsOf, logs_in};
+ghost use Rattle.lane_turns.specs.Gathering.{AreSeated, StandsForFirst, unseated};
+ghost use Rattle.lane_turns.specs.KeptSteps.{KeepStepsOf};
+ghost use Rattle.lane_turns.specs.Logs.{AreLogs};
+ghost use Rattle.lane_turns.specs.SeatNumbers.{opener_seat};
+ghost use Rattle.lane_turns.specs.Turning.{log_half};
 
+use crate::at_rest::{AtRest, bring_to_rest};
 use crate::context::Context;
-use crate::ending_room::EndingRoom;
-use crate::finishing::{Ending, finish};
-use crate::lanes_parting::{LaneBatons, part_values};
-use crate::logs::Logs;
-use crate::opener::Opener;
-use crate::session::LaneSession;
 use crate::worker::Worker;
-use crate::worker_seat::WorkerSeat;
 use crate::workers::Workers;
+use lane_turns::{
+    Ending, EndingRoom, LaneBatons, LaneSession, Logs, Opener, WorkerSeat, part_values,
+};
 use op_handlers::CompletionHandler;
 use reactor_trait::Reactor;
 use turn_table::TurnSeat;
@@ -33,7 +34,7 @@ impl<'a, X: Reactor, H: CompletionHandler, N: LaneSession> Worker<'a, X, H, N> {
             turns: _,
             kept,
             last: _,
-            cursor: _,
+            lookout: _,
             made: _,
         } = self;
         match kept {
@@ -74,24 +75,22 @@ impl<'a, X: Reactor, H: CompletionHandler, N: LaneSession> Context<'a, X, H, N> 
         self.gather_seats(workers.as_mut_slice())
     }
 
-    /// Closes the table of turns, and ends the session with what lies there.
-    fn end(
+    /// Closes the table of turns, and brings what lies there to rest.
+    fn come_to_rest(
         self,
         seat: TurnSeat,
         opener: Opener<N>,
         workers: Vec<Worker<'a, X, H, N>>,
         room: EndingRoom<'a, H, N>,
-    ) -> (Logs, X)
+    ) -> AtRest<'a, X, H, N>
         requires seat { StandsForFirst self self.seats seat }
         requires workers { AreWorkers clock_seat N.names.script workers.items }
         requires free { (k : ℕ) → IfSome (slice_get workers.items k) (λ one. one.kept ≡ None) }
         requires cuts { AreCuts N.names.script opener }
         requires over { IsOver N.names.script opener }
-        ensures logs { AreLogs N.names (logs_in result.0) }
-        ensures worker_logs { KeepLogsOf log_of N.names.script (logs_in result.0) workers.entry.items }
-        ensures reactor { IsGivenBack N.names.told (log_half N.names
-            (slice_index_or result.0.entries (reactor_lane N.names.script) []))
-            N.faults (X.faults result.1) (X.state result.1) (X.told result.1) }
+        ensures workers { result.workers ≡ map (λ worker. worker.seat) workers.entry.items }
+        ensures remembers { Remembers opener.pen.seat result.known }
+        ensures since { result.since ≡ length (rest_lists result (opener_seat N.names.script)) }
     {
         let Context {
             clock,
@@ -112,7 +111,29 @@ impl<'a, X: Reactor, H: CompletionHandler, N: LaneSession> Context<'a, X, H, N> 
             reactor,
             workers: seats_of(workers, seats),
         };
-        finish(clock, script, &map, ending, leaving)
+        bring_to_rest(clock, script, map, ending, leaving)
+    }
+
+    /// Brings the context to rest, where all rounds are closed or the opener knows that the reactor
+    /// failed: its workers are given up, and what they and the lanes did is taken in. Takes no memory,
+    /// and time in proportion to the lanes and the workers.
+    pub fn rest(self, workers: Workers<'a, X, H, N>) -> AtRest<'a, X, H, N>
+        requires ready { AreReady N.names.script self workers.all }
+        requires cuts { AreCuts N.names.script workers.opener }
+        requires over { IsOver N.names.script workers.opener }
+        ensures workers { result.workers ≡ map (λ worker. worker.seat) workers.entry.all }
+        ensures remembers { Remembers workers.entry.opener.pen.seat result.known }
+        ensures since { result.since ≡ length (rest_lists result (opener_seat N.names.script)) }
+    {
+        let Workers {
+            mut all,
+            opener,
+            bench,
+            room,
+        } = workers;
+        let seat = self.gather_all(&mut all);
+        bench.destroy_empty();
+        self.come_to_rest(seat, opener, all, room)
     }
 
     /// Ends the session, where all rounds are closed or the opener knows that the reactor failed:
@@ -125,18 +146,13 @@ impl<'a, X: Reactor, H: CompletionHandler, N: LaneSession> Context<'a, X, H, N> 
         requires over { IsOver N.names.script workers.opener }
         ensures logs { AreLogs N.names (logs_in result.0) }
         ensures worker_logs { KeepLogsOf log_of N.names.script (logs_in result.0) workers.entry.all }
+        ensures worker_steps { KeepStepsOf clock_seat N.names.script (logs_in result.0)
+            workers.entry.all }
+        ensures remembers { Remembers workers.entry.opener.pen.seat result.0.known }
         ensures reactor { IsGivenBack N.names.told (log_half N.names
             (slice_index_or result.0.entries (reactor_lane N.names.script) []))
             N.faults (X.faults result.1) (X.state result.1) (X.told result.1) }
     {
-        let Workers {
-            mut all,
-            opener,
-            bench,
-            room,
-        } = workers;
-        let seat = self.gather_all(&mut all);
-        bench.destroy_empty();
-        self.end(seat, opener, all, room)
+        self.rest(workers).finish()
     }
 }

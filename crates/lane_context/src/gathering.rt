@@ -2,17 +2,16 @@
 ghost use Rattle.std.specs.Prelude.{◌≡◌, ◌<◌, ◌≤◌, [], ℕ, IfSome, None, Some, length, map, slice_get, vec_capacity};
 ghost use Rattle.std.specs.Option.{option_map};
 ghost use Rattle.turn_table.specs.Seated.{HasTurn, IsSeatOf, StandsForAll, StandsForTwo, greatest_alone, with_turn, without_greatest, without_turn};
-ghost use Rattle.lane_context.specs.Attempts.{IsSeated};
-ghost use Rattle.lane_context.specs.Benches.{AreLanes};
-ghost use Rattle.lane_context.specs.Gathering.{AreSeated, HaveSatDown, StandsForFirst, gathered, gives_kept, turns_below, unseated, with_turns_below, without_turns};
-ghost use Rattle.lane_context.specs.LaneOf.{seat_of};
-ghost use Rattle.lane_context.specs.SeatNumbers.{lane_count};
+ghost use Rattle.lane_turns.specs.Attempts.{IsSeated};
+ghost use Rattle.lane_turns.specs.Benches.{AreLanes};
+ghost use Rattle.lane_turns.specs.Gathering.{AreSeated, HaveSatDown, StandsForFirst, gathered, gives_kept, turns_below, unseated, with_turns_below, without_turns};
+ghost use Rattle.lane_turns.specs.LaneOf.{seat_of};
+ghost use Rattle.lane_turns.specs.SeatNumbers.{lane_count};
 
-use crate::baton::Baton;
 use crate::context::Context;
-use crate::session::LaneSession;
 use crate::worker::Worker;
 use lane_map::lanes_have_cells;
+use lane_turns::{Baton, LaneSession};
 use op_handlers::CompletionHandler;
 use reactor_trait::Reactor;
 use turn_table::{Home, TurnSeat};

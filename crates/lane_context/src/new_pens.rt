@@ -1,12 +1,11 @@
 //! Pens of seats that have done nothing.
 ghost use Rattle.std.specs.Prelude.{◌≡◌, ◌+◌, ◌≤◌, [], IfOk, length, map, vec_capacity};
 ghost use Rattle.lane_clock.specs.Seats.{Owns, new_clock_seat};
-ghost use Rattle.lane_context.specs.Rooms.{AreNewLogs, AreNewPens, EachAt, IsNewPen, seats_on};
+ghost use Rattle.lane_turns.specs.Rooms.{AreNewLogs, AreNewPens, EachAt, IsNewPen, seats_on};
 
-use crate::log::LogEntry;
-use crate::pen::Pen;
 use asio_types::NoMemory;
 use lane_clock::{LaneSeat, SeatList};
+use lane_turns::{LogEntry, Pen};
 use std::alloc::Global;
 
 /// Logs with nothing in them, each with room for so many entries. Takes memory for these.

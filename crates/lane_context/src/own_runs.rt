@@ -1,16 +1,14 @@
 //! Runs of the caller's own worker, with all turns in one hand.
 ghost use Rattle.std.specs.Prelude.{◌≡◌, ◌<◌, IsFalse, IsTrue, None, length};
-ghost use Rattle.lane_context.specs.AllWorkers.{NoneFaulted};
-ghost use Rattle.lane_context.specs.Gathering.{NoneKeeps, StandsForFirst};
-ghost use Rattle.lane_context.specs.LaneValues.{terms, tries};
-ghost use Rattle.lane_context.specs.OwnRuns.{HasRunOwn, LastHasRun};
+ghost use Rattle.lane_turns.specs.AllWorkers.{NoneFaulted};
+ghost use Rattle.lane_turns.specs.Gathering.{NoneKeeps, StandsForFirst};
+ghost use Rattle.lane_turns.specs.LaneValues.{terms, tries};
+ghost use Rattle.lane_turns.specs.OwnRuns.{HasRunOwn, LastHasRun};
 ghost use Rattle.lane_context.specs.RoundEnds.{OneFaulted, OneKnowsFault, closing_after};
 
-use crate::closing::Closing;
 use crate::context::Context;
-use crate::run_end::RunEnd;
-use crate::session::LaneSession;
 use crate::worker::Worker;
+use lane_turns::{Closing, LaneSession, RunEnd};
 use op_handlers::CompletionHandler;
 use reactor_trait::Reactor;
 use std::sync::Wait;

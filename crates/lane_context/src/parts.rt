@@ -1,11 +1,11 @@
 ghost use Rattle.std.specs.Prelude.{◌≡◌, IfOk};
 ghost use Rattle.lane_clock.specs.Seats.{all_left};
-ghost use Rattle.lane_context.specs.Logs.{session_layout};
+ghost use Rattle.lane_turns.specs.Logs.{session_layout};
 
-use crate::log_rooms::worker_count;
 use asio_types::NoMemory;
 use lane_clock::{LaneClock, SeatList};
 use lane_map::{LaneMap, lanes_have_cells};
+use lane_turns::worker_count;
 use session_script::{Script, scripts_are_well_formed};
 use std::alloc::Global;
 use std::marker::Model;
@@ -31,15 +31,15 @@ impl Model for Parts {
 
 impl Parts {
     /// The clock of a script's session, whose work are the script's guards, and its seats: one for
-    /// each lane, for each worker and for the opener. There is a worker more than any round has,
+    /// each lane of its map, for each worker and for the opener. There is a worker more than any round has,
     /// who is the caller. Takes time and memory in proportion to the acts; `NoMemory` where it is
     /// refused.
-    pub fn make(alloc: Global, script: &Script) -> Result<Parts, NoMemory>
+    pub fn make(alloc: Global, script: &Script, map: &LaneMap<'_>) -> Result<Parts, NoMemory>
+        requires { map.now ≡ script.now }
         ensures { IfOk result (λ parts. parts.plan ≡ session_layout script.now) }
     {
         scripts_are_well_formed(script);
         lanes_have_cells(script);
-        let map = LaneMap::make(alloc, script)?;
         let workers = worker_count(script);
         let (clock, seats) = LaneClock::make(alloc, map.cells(), workers, script.guards() as u32)?;
         Ok(Parts { clock, seats })

@@ -1,14 +1,13 @@
 //! One attempt to do something for a context.
 ghost use Rattle.std.specs.Prelude.{◌≡◌};
-ghost use Rattle.lane_context.specs.Attempts.{IsSeated};
-ghost use Rattle.lane_context.specs.LaneValues.{terms, tries};
-ghost use Rattle.lane_context.specs.Runs.{HasPolled};
-ghost use Rattle.lane_context.specs.Scanning.{GoesOn};
+ghost use Rattle.lane_turns.specs.Attempts.{IsSeated};
+ghost use Rattle.lane_turns.specs.LaneValues.{terms, tries};
+ghost use Rattle.lane_turns.specs.Runs.{HasPolled};
+ghost use Rattle.lane_turns.specs.Scanning.{GoesOn};
 
 use crate::context::Context;
-use crate::one::One;
-use crate::session::LaneSession;
 use crate::worker::Worker;
+use lane_turns::{LaneSession, One};
 use op_handlers::CompletionHandler;
 use reactor_trait::Reactor;
 

@@ -2,16 +2,14 @@
 ghost use Rattle.std.specs.Prelude.{◌≡◌, IfSome, true};
 ghost use Rattle.lane_clock.specs.Seats.{own};
 ghost use Rattle.lane_map.specs.LaneNumbers.{has_cell};
-ghost use Rattle.lane_context.specs.Receipts.{Finds, IsReceiptOf};
-ghost use Rattle.lane_context.specs.Scanning.{GoesOn};
+ghost use Rattle.lane_turns.specs.Receipts.{Finds, IsReceiptOf};
+ghost use Rattle.lane_turns.specs.Scanning.{GoesOn};
 
 use crate::context::Context;
-use crate::op_lanes::operations_have_lanes;
-use crate::receipt::Receipt;
-use crate::session::LaneSession;
 use crate::worker::Worker;
 use asio_types::OpNo;
 use lane_map::lanes_have_cells;
+use lane_turns::{LaneSession, Receipt, operations_have_lanes};
 use op_handlers::CompletionHandler;
 use reactor_trait::Reactor;
 use session_script::Script;

@@ -1,33 +1,29 @@
 //! Closing a round, with all turns in one hand.
 ghost use Rattle.std.specs.Prelude.{◌≡◌, ◌≢◌, ◌<◌, ◌≤◌, [], IfNone, IfSome, length, map, true, vec_capacity};
-ghost use Rattle.lane_context.specs.declared.closing_try.ClosingTry.TheVariants.{Refuted};
+ghost use Rattle.lane_turns.specs.declared.closing_try.ClosingTry.TheVariants.{Refuted};
 ghost use Rattle.lane_context.specs.declared.round_end.RoundEnd.TheVariants.{Fault};
-ghost use Rattle.lane_context.specs.AllWorkers.{AreCuts, AreReady, KnowTheRound, NoneFaulted, clock_seat, log_of};
-ghost use Rattle.lane_context.specs.Attending.{HasGoneOn, KnowsAllOf};
-ghost use Rattle.lane_context.specs.Benches.{AreLanes, AreWorkers};
-ghost use Rattle.lane_context.specs.Besides.{besides_of, rests_of};
-ghost use Rattle.lane_context.specs.ClosingTries.{TriedToClose};
-ghost use Rattle.lane_context.specs.Gathering.{NoneKeeps, StandsForFirst};
-ghost use Rattle.lane_context.specs.KnownFaults.{KnowsFault};
-ghost use Rattle.lane_context.specs.LaneOf.{seat_of};
-ghost use Rattle.lane_context.specs.LaneValues.{terms, tries};
-ghost use Rattle.lane_context.specs.OwnRuns.{HasRunInVain};
+ghost use Rattle.lane_turns.specs.AllWorkers.{AreCuts, AreReady, KnowTheRound, NoneFaulted, clock_seat, log_of};
+ghost use Rattle.lane_turns.specs.Attending.{HasGoneOn, KnowsAllOf};
+ghost use Rattle.lane_turns.specs.Benches.{AreLanes, AreWorkers};
+ghost use Rattle.lane_turns.specs.Besides.{besides_of, rests_of};
+ghost use Rattle.lane_turns.specs.ClosingTries.{TriedToClose};
+ghost use Rattle.lane_turns.specs.Gathering.{NoneKeeps, StandsForFirst};
+ghost use Rattle.lane_turns.specs.KeptSteps.{AllRemember};
+ghost use Rattle.lane_turns.specs.KnownFaults.{KnowsFault};
+ghost use Rattle.lane_turns.specs.LaneOf.{seat_of};
+ghost use Rattle.lane_turns.specs.LaneValues.{terms, tries};
+ghost use Rattle.lane_turns.specs.OwnRuns.{HasRunInVain};
 ghost use Rattle.lane_context.specs.RoundEnds.{EndsRound, FaultCame, HasEndedRound, OtherLastsStay, OwnRanLast, end_after, end_by, run_end_of};
-ghost use Rattle.lane_context.specs.SeatNumbers.{lane_count};
-ghost use Rattle.lane_context.specs.Stand.{is_round_open};
+ghost use Rattle.lane_turns.specs.SeatNumbers.{lane_count};
+ghost use Rattle.lane_turns.specs.Stand.{is_round_open};
 
-use crate::baton::Baton;
-use crate::closing::Closing;
-use crate::closing_try::ClosingTry;
 use crate::context::Context;
-use crate::events::{close_all, meet_all};
-use crate::opener::Opener;
 use crate::opener_calls::hear_failure;
 use crate::own_runs::{OwnRun, closing_after, has_one_faulted};
 use crate::round_end::RoundEnd;
-use crate::session::LaneSession;
 use crate::worker::Worker;
 use crate::workers::Workers;
+use lane_turns::{Baton, Closing, ClosingTry, LaneSession, Opener, close_all, meet_all};
 use op_handlers::CompletionHandler;
 use reactor_trait::Reactor;
 use std::sync::Wait;
@@ -71,6 +67,7 @@ impl<'a, X: Reactor, H: CompletionHandler, N: LaneSession> Context<'a, X, H, N> 
             KnowTheRound N.names.script opener.new.stand workers.new }
         ensures same { result ≡ Refuted → workers.new ≡ workers.old }
         ensures rest { rests_of besides_of workers.new ≡ rests_of besides_of workers.old }
+        ensures remember { AllRemember clock_seat workers.old workers.new }
         ensures seat { StandsForFirst self.now self.now.seats seat.new }
         ensures none { bench.new.items ≡ [] }
         ensures room { vec_capacity bench.new ≡ vec_capacity bench.old }
@@ -104,6 +101,7 @@ impl<'a, X: Reactor, H: CompletionHandler, N: LaneSession> Context<'a, X, H, N> 
             KnowTheRound N.names.script opener.new.stand workers.new }
         ensures same { result ≡ Refuted → workers.new ≡ workers.old }
         ensures rest { rests_of besides_of workers.new ≡ rests_of besides_of workers.old }
+        ensures remember { AllRemember clock_seat workers.old workers.new }
     {
         if hear_failure(opener, &self.clock, bench) {
             meet_all(opener, &self.clock, self.script, bench, workers);
@@ -143,6 +141,7 @@ impl<'a, X: Reactor, H: CompletionHandler, N: LaneSession> Context<'a, X, H, N> 
         ensures cuts { AreCuts N.names.script opener.new }
         ensures rounds { KnowTheRound N.names.script opener.new.stand workers.new }
         ensures rest { rests_of besides_of workers.new ≡ rests_of besides_of workers.old }
+        ensures remember { AllRemember clock_seat workers.old workers.new }
         ensures seat { StandsForFirst self.now self.now.seats seat.new }
         ensures none { bench.new.items ≡ [] }
         ensures room { vec_capacity bench.new ≡ vec_capacity bench.old }
@@ -325,6 +324,7 @@ impl<'a, X: Reactor, H: CompletionHandler, N: LaneSession> Context<'a, X, H, N> 
             self.now.lanes (run_end_of result) workers.old workers.new }
         ensures others { OtherLastsStay workers.old workers.new }
         ensures logs { map log_of workers.new ≡ map log_of workers.old }
+        ensures remember { AllRemember clock_seat workers.old workers.new }
         ensures rounds { KnowTheRound N.names.script opener.new.stand workers.new }
         ensures cuts { AreCuts N.names.script opener.new }
         ensures ready { AreReady N.names.script self.now workers.new }
@@ -339,7 +339,7 @@ impl<'a, X: Reactor, H: CompletionHandler, N: LaneSession> Context<'a, X, H, N> 
     /// failed, the caller's own worker runs, and the round is closed by its answer; it runs again as
     /// often as that isn't borne out by a load, and in a poll round by looks at the next cell of each
     /// lane. After a fault nothing is drawn, and the opener knows of it. Each worker takes in what all
-    /// lanes and the opener did. Takes no memory.
+    /// lanes and the opener did. Takes no memory but for hints of its own worker's `run`.
     pub fn close_round<Rt: Wait>(&mut self, rt: &Rt, workers: &mut Workers<'a, X, H, N>) -> RoundEnd
         requires ready { AreReady N.names.script self.old workers.old.all }
         requires round { is_round_open N.names.script workers.old.opener.stand ≡ true }
@@ -357,6 +357,7 @@ impl<'a, X: Reactor, H: CompletionHandler, N: LaneSession> Context<'a, X, H, N> 
             self.old.lanes (run_end_of result) workers.old.all workers.new.all }
         ensures others { OtherLastsStay workers.old.all workers.new.all }
         ensures logs { map log_of workers.new.all ≡ map log_of workers.old.all }
+        ensures remember { AllRemember clock_seat workers.old.all workers.new.all }
         ensures rounds { KnowTheRound N.names.script workers.new.opener.stand workers.new.all }
         ensures cuts { AreCuts N.names.script workers.new.opener }
         ensures ready { AreReady N.names.script self.new workers.new.all }

@@ -1,15 +1,13 @@
 //! Executing handlers until there is nothing left to do.
 ghost use Rattle.std.specs.Prelude.{◌≡◌, IfNone, IfSome, None};
-ghost use Rattle.lane_context.specs.Attempts.{IsSeated};
-ghost use Rattle.lane_context.specs.LaneValues.{terms, tries};
-ghost use Rattle.lane_context.specs.Runs.{EndsFor, HasRun, HasSettled};
-ghost use Rattle.lane_context.specs.Scanning.{GoesOn};
+ghost use Rattle.lane_turns.specs.Attempts.{IsSeated};
+ghost use Rattle.lane_turns.specs.LaneValues.{terms, tries};
+ghost use Rattle.lane_turns.specs.Runs.{EndsAtOnce, EndsFor, HasRun, HasSettled};
+ghost use Rattle.lane_turns.specs.Scanning.{GoesOn};
 
 use crate::context::Context;
-use crate::one::One;
-use crate::run_end::RunEnd;
-use crate::session::LaneSession;
 use crate::worker::Worker;
+use lane_turns::{LaneSession, One, RunEnd};
 use op_handlers::CompletionHandler;
 use reactor_trait::Reactor;
 use std::sync::Wait;
@@ -19,12 +17,11 @@ use std::thread::yield_now;
 const MOST_KEPT: u32 = 16;
 
 impl<'a, X: Reactor, H: CompletionHandler, N: LaneSession> Context<'a, X, H, N> {
-    /// Reads, where nothing was found to do; answers how the call ends, if it ends. Where it doesn't,
-    /// another thread goes first.
-    fn settle(&self, worker: &mut Worker<'a, X, H, N>) -> Option<RunEnd>
+    /// Reads, before lanes are looked at; answers how the call ends, if that ends it.
+    fn read_first(&self, worker: &mut Worker<'a, X, H, N>) -> Option<RunEnd>
         requires turns { IsSeated self.now worker.old }
-        ensures ended { IfSome result (λ now. HasSettled now worker.old worker.new) }
-        ensures free { worker.new.kept ≡ worker.old.kept }
+        ensures ended { IfSome result (λ now. EndsAtOnce now worker.old worker.new) }
+        ensures free { IfNone result (worker.new.kept ≡ None) }
         ensures turns { IsSeated self.now worker.new }
         ensures on { GoesOn worker.old worker.new }
     {
@@ -35,21 +32,35 @@ impl<'a, X: Reactor, H: CompletionHandler, N: LaneSession> Context<'a, X, H, N> 
         if found.work == 0 {
             return Some(RunEnd::Ended);
         }
-        if !worker.is_running() {
-            return Some(RunEnd::Idle);
-        }
-        yield_now();
         None
     }
 
+    /// Where nothing was found to do: in a round in which time passes, other threads go first; in
+    /// another one it reads, and the call ends where work is left, and nothing bars it.
+    fn settle(&self, worker: &mut Worker<'a, X, H, N>) -> Option<RunEnd>
+        requires turns { IsSeated self.now worker.old }
+        ensures ended { IfSome result (λ now. HasSettled now worker.old worker.new) }
+        ensures turns { IsSeated self.now worker.new }
+        ensures on { GoesOn worker.old worker.new }
+    {
+        if worker.is_running() {
+            yield_now();
+            return None;
+        }
+        let found = worker.read(&self.clock);
+        if worker.is_barred(found) || found.work == 0 {
+            return None;
+        }
+        Some(RunEnd::Idle)
+    }
+
     /// Looks at all lanes once; answers how the call ends, if it ends behind them.
-    fn run_round(&self, worker: &mut Worker<'a, X, H, N>) -> Option<RunEnd>
+    fn look_once(&self, worker: &mut Worker<'a, X, H, N>) -> Option<RunEnd>
         requires turns { IsSeated self.now worker.old }
         requires free { worker.old.kept ≡ None }
         ensures ended { IfSome result (λ now. EndsFor
             (tries (terms N.names H.marks X.state X.told X.faults N.faults N.clock) 16) self.now.lanes now
             worker.old worker.new) }
-        ensures free { IfNone result (worker.new.kept ≡ None) }
         ensures turns { IsSeated self.now worker.new }
         ensures on { GoesOn worker.old worker.new }
     {
@@ -61,10 +72,31 @@ impl<'a, X: Reactor, H: CompletionHandler, N: LaneSession> Context<'a, X, H, N> 
         }
     }
 
+    /// Reads, and where that doesn't end the call, looks at all lanes once, from where a note was put
+    /// last, or else from where a hint is; answers how the call ends, if it ends.
+    fn run_round<Rt: Wait>(&self, rt: &Rt, worker: &mut Worker<'a, X, H, N>) -> Option<RunEnd>
+        requires turns { IsSeated self.now worker.old }
+        ensures ended { IfSome result (λ now. EndsFor
+            (tries (terms N.names H.marks X.state X.told X.faults N.faults N.clock) 16) self.now.lanes now
+            worker.old worker.new) }
+        ensures turns { IsSeated self.now worker.new }
+        ensures on { GoesOn worker.old worker.new }
+    {
+        if let Some(end) = self.read_first(worker) {
+            return Some(end);
+        }
+        worker.share_hints(rt);
+        self.look_once(worker)
+    }
+
     /// Executes handlers until no work is left, the context is stopped, the reactor failed, or, in a
     /// round in which time doesn't pass, nothing is ready (Asio reference, io_context::run, ::poll).
+    /// Before each round of looks it reads whether work is left and whether the context is stopped.
     /// A lane's turn is kept while something is done there, for 16 executions or turns of the reactor at
-    /// most. Where nothing was found, other threads go on first. Takes no memory.
+    /// most. The first lane into which notes were put then is looked at next; at the others it hints, in
+    /// the order of the puts, to whichever worker looks for one. A hint may take memory, and is dropped
+    /// where that is refused; it may wait for another worker's hint. Where nothing was found, other threads
+    /// go on first.
     pub fn run<Rt: Wait>(&self, rt: &Rt, worker: &mut Worker<'a, X, H, N>) -> RunEnd
         requires turns { IsSeated self.now worker.old }
         ensures run { HasRun
@@ -73,12 +105,8 @@ impl<'a, X: Reactor, H: CompletionHandler, N: LaneSession> Context<'a, X, H, N> 
         ensures turns { IsSeated self.now worker.new }
         ensures on { GoesOn worker.old worker.new }
     {
-        let found = worker.read(&self.clock);
-        if worker.is_barred(found) {
-            return worker.ends(RunEnd::Stopped);
-        }
         for _ in rt.forever() {
-            if let Some(end) = self.run_round(worker) {
+            if let Some(end) = self.run_round(rt, worker) {
                 return worker.ends(end);
             }
         }

@@ -1,8 +1,8 @@
 //! A worker's seat at the table of turns, while the opener gathers all of them.
 ghost use Rattle.std.specs.Prelude.{◌≡◌, [], IsSome, None, Some};
 
-use crate::session::LaneSession;
 use crate::worker::Worker;
+use lane_turns::LaneSession;
 use op_handlers::CompletionHandler;
 use reactor_trait::Reactor;
 use turn_table::TurnSeat;

@@ -1,17 +1,14 @@
 //! The room for a session's lanes and workers, which is made before any handler is taken.
 ghost use Rattle.std.specs.Prelude.{◌≡◌};
 
-use crate::baton::Baton;
 use crate::call_rooms::call_rooms;
-use crate::ending_room::EndingRoom;
-use crate::handler_baton::HandlerBaton;
-use crate::log_rooms::worker_count;
-use crate::reactor_baton::ReactorBaton;
-use crate::session::LaneSession;
-use crate::slot::{Slot, empty_slots, free_slots};
 use crate::worker::Worker;
 use asio_types::NoMemory;
 use lane_map::{LaneMap, lanes_have_cells};
+use lane_turns::{
+    Baton, EndingRoom, HandlerBaton, LaneSession, Lookout, ReactorBaton, Slot, empty_slots,
+    free_slots, lookouts, worker_count,
+};
 use op_handlers::CompletionHandler;
 use reactor_trait::Reactor;
 use session_script::Script;
@@ -31,7 +28,7 @@ pub(crate) struct LaneRoom<'a, X: Reactor, H: CompletionHandler, N: LaneSession>
 impl<'a, X: Reactor, H: CompletionHandler, N: LaneSession> Model for LaneRoom<'a, X, H, N> {
     ghost use Rattle.std.specs.Prelude.{◌≡◌, ◌≤◌, [], None, replicate, vec_capacity};
     ghost use Rattle.lane_map.specs.LaneNumbers.{reactor_lane};
-    ghost use Rattle.lane_context.specs.SeatNumbers.{lane_count, worker_count};
+    ghost use Rattle.lane_turns.specs.SeatNumbers.{lane_count, worker_count};
 
     ghost Value = { Unit {0} };
 
@@ -102,15 +99,16 @@ impl<'a, X: Reactor, H: CompletionHandler, N: LaneSession> LaneRoom<'a, X, H, N>
 pub(crate) struct SessionRoom<'a, X: Reactor, H: CompletionHandler, N: LaneSession> {
     pub(crate) lanes: LaneRoom<'a, X, H, N>,
     pub(crate) calls: Vec<Vec<Posted>>,
+    pub(crate) lookouts: Vec<Lookout>,
     pub(crate) turns: TurnTable<Baton<'a, X, H, N>>,
     pub(crate) seat: TurnSeat,
     pub(crate) ending: EndingRoom<'a, H, N>,
 }
 
 impl<'a, X: Reactor, H: CompletionHandler, N: LaneSession> Model for SessionRoom<'a, X, H, N> {
-    ghost use Rattle.std.specs.Prelude.{◌≡◌};
+    ghost use Rattle.std.specs.Prelude.{◌≡◌, length};
     ghost use Rattle.turn_table.specs.Seated.{seat_of_all};
-    ghost use Rattle.lane_context.specs.SeatNumbers.{lane_count, worker_count};
+    ghost use Rattle.lane_turns.specs.SeatNumbers.{lane_count, worker_count};
     ghost use Rattle.lane_context.specs.SessionRooms.{AreCallRooms};
 
     ghost Value = { Unit {0} };
@@ -119,6 +117,7 @@ impl<'a, X: Reactor, H: CompletionHandler, N: LaneSession> Model for SessionRoom
 
     ghost invariant = { λ r. record {
       calls : AreCallRooms N.names.script (worker_count N.names.script) r.calls.items;
+      lookouts : length r.lookouts.items ≡ worker_count N.names.script;
       lanes : r.turns.lanes ≡ lane_count N.names.script;
       seats : r.turns.seats ≡ worker_count N.names.script;
       seat : r.seat ≡ seat_of_all r.turns;
@@ -139,6 +138,7 @@ impl<'a, X: Reactor, H: CompletionHandler, N: LaneSession> SessionRoom<'a, X, H,
         let count = map.lanes() as usize;
         let workers = worker_count(script);
         let calls = call_rooms(alloc, script, workers)?;
+        let lookouts = lookouts(alloc, script, map.lanes(), workers)?;
         let lanes = LaneRoom::make(alloc, script, map)?;
         let ending = match EndingRoom::make(alloc, script, map) {
             Ok(ending) => ending,
@@ -151,6 +151,7 @@ impl<'a, X: Reactor, H: CompletionHandler, N: LaneSession> SessionRoom<'a, X, H,
             Ok((turns, seat)) => Ok(SessionRoom {
                 lanes,
                 calls,
+                lookouts,
                 turns,
                 seat,
                 ending,
@@ -168,6 +169,7 @@ impl<'a, X: Reactor, H: CompletionHandler, N: LaneSession> SessionRoom<'a, X, H,
         let SessionRoom {
             lanes,
             calls: _,
+            lookouts: _,
             turns,
             seat,
             ending,

@@ -2,63 +2,28 @@
 ghost use Rattle.std.specs.Prelude.{◌≡◌, ◌≤◌, ◌++◌, ◌∷◌, [], None, Some, length, map, replicate, vec_capacity};
 ghost use Rattle.turn_table.specs.Seated.{seat_of_all};
 ghost use Rattle.lane_map.specs.LaneNumbers.{reactor_lane};
-ghost use Rattle.lane_context.specs.AllWorkers.{AreReady, clock_seat};
-ghost use Rattle.lane_context.specs.Benches.{AreLanes, AreWorkers, IsRow};
-ghost use Rattle.lane_context.specs.LaneOf.{seat_of};
-ghost use Rattle.lane_context.specs.LaneValues.{handlers, reactor};
-ghost use Rattle.lane_context.specs.Logs.{session_layout};
-ghost use Rattle.lane_context.specs.Rooms.{EachAt};
-ghost use Rattle.lane_context.specs.SeatNumbers.{worker_count};
+ghost use Rattle.lane_turns.specs.AllWorkers.{AreReady, clock_seat};
+ghost use Rattle.lane_turns.specs.Benches.{AreLanes, AreWorkers, IsRow};
+ghost use Rattle.lane_turns.specs.LaneOf.{seat_of};
+ghost use Rattle.lane_turns.specs.LaneValues.{handlers, reactor};
+ghost use Rattle.lane_turns.specs.Logs.{session_layout};
+ghost use Rattle.lane_turns.specs.Rooms.{EachAt};
+ghost use Rattle.lane_turns.specs.SeatNumbers.{worker_count};
 ghost use Rattle.lane_context.specs.SessionRooms.{AreCallRooms, AreFresh, standing_by};
 
-use crate::baton::{Baton, BatonKind};
 use crate::beginning::Beginning;
 use crate::context::Context;
-use crate::handler_baton::HandlerBaton;
-use crate::reactor_baton::ReactorBaton;
-use crate::session::LaneSession;
 use crate::session_room::{LaneRoom, SessionRoom};
-use crate::slot::Slot;
 use crate::worker::Worker;
-use crate::worker_seat::WorkerSeat;
 use crate::workers::Workers;
 use lane_clock::LaneClock;
 use lane_map::{LaneMap, lanes_have_cells};
+use lane_turns::{Baton, HandlerBaton, LaneSession, Lookout, ReactorBaton, Slot, WorkerSeat};
 use op_handlers::CompletionHandler;
 use reactor_trait::Reactor;
 use session_script::Script;
 use strand_core::Posted;
 use turn_table::TurnSeat;
-
-impl<'a, X: Reactor, H: CompletionHandler, N: LaneSession> Baton<'a, X, H, N> {
-    /// A lane on which handlers execute, in this box.
-    fn of_handlers(
-        baton: HandlerBaton<'a, H, N>,
-        slot: Slot<HandlerBaton<'a, H, N>>,
-    ) -> Baton<'a, X, H, N>
-        requires { slot ≡ None }
-        ensures { result ≡ handlers (Some baton.entry) }
-    {
-        let mut slot = slot;
-        slot.put_in(baton);
-        let kind = BatonKind::Handlers(slot);
-        Baton { kind }
-    }
-
-    /// The reactor's lane, in this box.
-    fn of_reactor(
-        baton: ReactorBaton<'a, X, N>,
-        slot: Slot<ReactorBaton<'a, X, N>>,
-    ) -> Baton<'a, X, H, N>
-        requires { slot ≡ None }
-        ensures { result ≡ reactor (Some baton.entry) }
-    {
-        let mut slot = slot;
-        slot.put_in(baton);
-        let kind = BatonKind::Reactor(slot);
-        Baton { kind }
-    }
-}
 
 /// Lays the lanes on which handlers execute on the bench, each in a box.
 fn lay_handlers<'a, X: Reactor, H: CompletionHandler, N: LaneSession>(
@@ -90,18 +55,24 @@ fn lay_handlers<'a, X: Reactor, H: CompletionHandler, N: LaneSession>(
 fn stand_by<'a, X: Reactor, H: CompletionHandler, N: LaneSession>(
     seats: Vec<WorkerSeat<N>>,
     calls: Vec<Vec<Posted>>,
+    lookouts: Vec<Lookout>,
     workers: Vec<Worker<'a, X, H, N>>,
 ) -> Vec<Worker<'a, X, H, N>>
     requires calls { AreCallRooms N.names.script (length seats.items) calls.items }
+    requires lookouts { length lookouts.items ≡ length seats.items }
     requires none { workers.items ≡ [] }
     requires room { length seats.items ≤ vec_capacity workers }
     ensures { result.items ≡ map standing_by seats.items }
 {
     let mut workers = workers;
     let mut calls = calls;
+    let mut lookouts = lookouts;
     let mut rest = seats.into_iter();
     while let Some(seat) = rest.next() {
         let Some(made) = calls.pop() else {
+            unreachable!();
+        };
+        let Some(lookout) = lookouts.pop() else {
             unreachable!();
         };
         workers.push_reserved(Worker {
@@ -109,7 +80,7 @@ fn stand_by<'a, X: Reactor, H: CompletionHandler, N: LaneSession>(
             turns: None,
             kept: None,
             last: None,
-            cursor: 0,
+            lookout,
             made: Some(made),
         });
     }
@@ -165,6 +136,7 @@ impl<'a, X: Reactor, H: CompletionHandler, N: LaneSession> SessionRoom<'a, X, H,
         let SessionRoom {
             lanes,
             calls,
+            lookouts,
             turns,
             seat,
             ending,
@@ -183,7 +155,7 @@ impl<'a, X: Reactor, H: CompletionHandler, N: LaneSession> SessionRoom<'a, X, H,
         } = begun;
         let mut bench = lay_handlers(batons, handlers, bench);
         bench.push_reserved(Baton::of_reactor(last, reactor));
-        let mut all = stand_by(seats, calls, workers);
+        let mut all = stand_by(seats, calls, lookouts, workers);
         let context = Context {
             clock,
             script,

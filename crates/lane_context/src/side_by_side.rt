@@ -1,22 +1,22 @@
 //! Workers that run at the same time.
 ghost use Rattle.std.specs.Prelude.{◌≡◌, ◌<◌, ℕ, All, length, map, slice_index_or};
-ghost use Rattle.lane_context.specs.AllWorkers.{AreReady, log_of};
-ghost use Rattle.lane_context.specs.LaneValues.{terms, tries};
+ghost use Rattle.lane_turns.specs.AllWorkers.{AreReady, log_of};
+ghost use Rattle.lane_turns.specs.LaneValues.{terms, tries};
 ghost use Rattle.lane_context.specs.SideBySide.{FirstHaveRun};
 
 use crate::context::Context;
-use crate::session::LaneSession;
 use crate::worker::Worker;
 use crate::workers::Workers;
+use lane_turns::LaneSession;
 use op_handlers::CompletionHandler;
 use reactor_trait::Reactor;
 use std::sync::Wait;
 use std::thread;
 use std::thread::Threads;
 
-/// Who calls `run` of such a context. A bound, since a closure can't say that the context and a worker
-/// have one lifetime.
-trait Runner<C> {
+/// Who calls `run` of such a context, or does more with it. A bound, since a closure can't say that the
+/// context and a worker have one lifetime.
+pub trait Runner<C> {
     /// It may.
     ghost may: { C → Self → Type 0 };
 
@@ -31,8 +31,8 @@ trait Runner<C> {
 
 impl<'a, X: Reactor, H: CompletionHandler, N: LaneSession> Runner<Context<'a, X, H, N>>
     for Worker<'a, X, H, N> {
-    ghost use Rattle.lane_context.specs.Attempts.{IsSeated};
-    ghost use Rattle.lane_context.specs.LaneValues.{terms, tries};
+    ghost use Rattle.lane_turns.specs.Attempts.{IsSeated};
+    ghost use Rattle.lane_turns.specs.LaneValues.{terms, tries};
     ghost use Rattle.lane_context.specs.SideBySide.{HasCalledRun};
 
     ghost may = { λ context worker. IsSeated context worker };
@@ -45,9 +45,9 @@ impl<'a, X: Reactor, H: CompletionHandler, N: LaneSession> Runner<Context<'a, X,
     }
 }
 
-/// These workers each call `run`, at the same time where threads can be had, and else one after
-/// another.
-fn run_each<Rt: Threads + Wait + Sync, C: Sync, W: Runner<C> + Send>(
+/// Each of these does so, at the same time where threads can be had, and else one after another. Takes
+/// no memory; the threads are the system's.
+pub fn run_each<Rt: Threads + Wait + Sync, C: Sync, W: Runner<C> + Send>(
     rt: &Rt,
     context: &C,
     workers: &mut [W],
@@ -91,7 +91,7 @@ fn run_first<
 }
 
 /// The first workers, as many as a round has, each call `run`, at the same time where threads can be
-/// had (Asio reference, io_context::run). Takes no memory; the threads are the system's.
+/// had (Asio reference, io_context::run). Takes no memory but for hints; the threads are the system's.
 pub fn run_side_by_side<
     'a,
     Rt: Threads + Wait + Sync,

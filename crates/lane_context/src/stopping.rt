@@ -1,12 +1,12 @@
 //! Stopping a context, and asking whether it is stopped and what work is left.
 ghost use Rattle.std.specs.Prelude.{◌≡◌};
 ghost use Rattle.lane_clock.specs.declared.found.Found.{Found};
-ghost use Rattle.lane_context.specs.Scanning.{HasLooked};
-ghost use Rattle.lane_context.specs.Workers.{Stops, is_set, may_draw_stop};
+ghost use Rattle.lane_turns.specs.Scanning.{HasLooked};
+ghost use Rattle.lane_turns.specs.Workers.{Stops, is_set, may_draw_stop};
 
 use crate::context::Context;
-use crate::session::LaneSession;
 use crate::worker::Worker;
+use lane_turns::LaneSession;
 use op_handlers::CompletionHandler;
 use reactor_trait::Reactor;
 

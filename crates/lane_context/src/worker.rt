@@ -1,18 +1,16 @@
 ghost use Rattle.std.specs.Prelude.{◌≡◌, Some};
-ghost use Rattle.lane_context.specs.declared.run_end.RunEnd.TheVariants.{Fault};
-ghost use Rattle.lane_context.specs.KnownFaults.{KnowsAfterFault, has_faulted};
-ghost use Rattle.lane_context.specs.Runs.{is_barred, last_end, with_end};
-ghost use Rattle.lane_context.specs.Scanning.{GoesOn, HasLooked};
-ghost use Rattle.lane_context.specs.Workers.{Stops, is_set, may_draw_stop};
+ghost use Rattle.lane_turns.specs.declared.run_end.RunEnd.TheVariants.{Fault};
+ghost use Rattle.lane_turns.specs.KnownFaults.{KnowsAfterFault, has_faulted};
+ghost use Rattle.lane_turns.specs.Runs.{is_barred, last_end, with_end};
+ghost use Rattle.lane_turns.specs.Scanning.{GoesOn, HasLooked};
+ghost use Rattle.lane_turns.specs.Workers.{Stops, is_set, may_draw_stop};
 
-use crate::baton::Baton;
-use crate::run_end::RunEnd;
-use crate::session::LaneSession;
-use crate::worker_seat::WorkerSeat;
 use lane_clock::{Found, LaneClock};
+use lane_turns::{Baton, LaneSession, Lookout, RunEnd, WorkerSeat};
 use op_handlers::CompletionHandler;
 use reactor_trait::Reactor;
 use std::marker::Model;
+use std::sync::Wait;
 use strand_core::Posted;
 use turn_table::TurnSeat;
 
@@ -26,15 +24,15 @@ pub struct Worker<'a, X: Reactor, H: CompletionHandler, N: LaneSession> {
     pub(crate) kept: Option<Baton<'a, X, H, N>>,
     // how its last call ended
     pub(crate) last: Option<RunEnd>,
-    // the lane at which it looks first
-    pub(crate) cursor: u32,
+    // the lane at which it looks first, and its place at the hints
+    pub(crate) lookout: Lookout,
     // the room for the calls of an execution; out while one is made
     pub(crate) made: Option<Vec<Posted>>,
 }
 
 impl<'a, X: Reactor, H: CompletionHandler, N: LaneSession> Model for Worker<'a, X, H, N> {
-    ghost use Rattle.lane_context.specs.Attempts.{HoldsTurns, IsCallRoom, KeepsAfterFault, WorkerState};
-    ghost use Rattle.lane_context.specs.KnownFaults.{KnowsAfterFault};
+    ghost use Rattle.lane_turns.specs.Attempts.{HoldsTurns, IsCallRoom, KeepsAfterFault, WorkerState};
+    ghost use Rattle.lane_turns.specs.KnownFaults.{KnowsAfterFault};
 
     ghost Value = { WorkerState H X };
 
@@ -100,6 +98,13 @@ impl<'a, X: Reactor, H: CompletionHandler, N: LaneSession> Worker<'a, X, H, N> {
             Some(RunEnd::Fault) => true,
             _ => false,
         }
+    }
+
+    /// Gives hints of its last turn's notes, and takes one where it needs one.
+    pub(crate) fn share_hints<Rt: Wait>(&mut self, rt: &Rt)
+        ensures { self.new ≡ self.old }
+    {
+        self.lookout.share(rt);
     }
 
     /// Keeps how a call ended; after a fault that stays. A fault it had met before.

@@ -1,15 +1,13 @@
 //! A worker at an event of the opener.
-use crate::attendee::Attendee;
-use crate::opener::Opener;
-use crate::session::LaneSession;
 use crate::worker::Worker;
 use lane_clock::LaneClock;
+use lane_turns::{Attendee, LaneSession, Opener};
 use op_handlers::CompletionHandler;
 use reactor_trait::Reactor;
 use session_script::Script;
 
 impl<'a, X: Reactor, H: CompletionHandler, N: LaneSession> Attendee<N> for Worker<'a, X, H, N> {
-    ghost use Rattle.lane_context.specs.Besides.{besides_of};
+    ghost use Rattle.lane_turns.specs.Besides.{besides_of};
 
     ghost seat = { λ w. w.seat.pen.seat };
 

@@ -1,12 +1,9 @@
 //! All workers of a context, and the opener.
 ghost use Rattle.std.specs.Prelude.{◌≡◌};
 
-use crate::baton::Baton;
-use crate::ending_room::EndingRoom;
-use crate::opener::Opener;
-use crate::session::LaneSession;
 use crate::worker::Worker;
 use crate::workers_apart::{OpenerApart, WorkersApart};
+use lane_turns::{Baton, EndingRoom, LaneSession, Opener};
 use op_handlers::CompletionHandler;
 use reactor_trait::Reactor;
 use std::marker::Model;
@@ -25,8 +22,8 @@ pub struct Workers<'a, X: Reactor, H: CompletionHandler, N: LaneSession> {
 
 impl<'a, X: Reactor, H: CompletionHandler, N: LaneSession> Model for Workers<'a, X, H, N> {
     ghost use Rattle.std.specs.Prelude.{◌≡◌, ◌≤◌, [], vec_capacity};
-    ghost use Rattle.lane_context.specs.AllWorkers.{WorkersView};
-    ghost use Rattle.lane_context.specs.SeatNumbers.{lane_count};
+    ghost use Rattle.lane_turns.specs.AllWorkers.{WorkersView};
+    ghost use Rattle.lane_turns.specs.SeatNumbers.{lane_count};
 
     ghost Value = { WorkersView H X };
 

@@ -1,9 +1,6 @@
 //! All workers and the opener, apart: so that threads can have a worker each.
-use crate::baton::Baton;
-use crate::ending_room::EndingRoom;
-use crate::opener::Opener;
-use crate::session::LaneSession;
 use crate::worker::Worker;
+use lane_turns::{Baton, EndingRoom, LaneSession, Opener};
 use op_handlers::CompletionHandler;
 use reactor_trait::Reactor;
 use std::marker::Model;
@@ -25,8 +22,8 @@ pub struct OpenerApart<'a, X: Reactor, H: CompletionHandler, N: LaneSession> {
 
 impl<'a, X: Reactor, H: CompletionHandler, N: LaneSession> Model for OpenerApart<'a, X, H, N> {
     ghost use Rattle.std.specs.Prelude.{◌≡◌, ◌≤◌, [], vec_capacity};
-    ghost use Rattle.lane_context.specs.Openers.{OpenerView};
-    ghost use Rattle.lane_context.specs.SeatNumbers.{lane_count};
+    ghost use Rattle.lane_turns.specs.Openers.{OpenerView};
+    ghost use Rattle.lane_turns.specs.SeatNumbers.{lane_count};
 
     ghost Value = { OpenerView };
 

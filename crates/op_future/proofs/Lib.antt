@@ -1,1 +1,9 @@
+pub mod EndLemmas
+pub mod GatheredLemmas
+pub mod GotLemmas
+pub mod HaveGotLemmas
+pub mod RestLemmas
+pub mod RoundLemmas
+pub mod SeatLemmas
+pub mod SessionLemmas
 pub mod StepLemmas

@@ -1,26 +1,24 @@
 -- Steps of a task: receipts one after another, and why it ends.
-use Rattle.std.proofs.Common.{◌≡◌, ℕ, ◌+◌, List, [], ◌∷◌, ◌++◌, Option, Some, None, sym, ap, subst, ◌∙◌, arith, length-append}
+use Rattle.std.proofs.Common.{◌≡◌, ℕ, ◌+◌, [], ◌∷◌, ◌++◌, Option, Some, None, sym, subst}
 use Rattle.std.specs.Prelude.{IfNone, IfSome}
-use Rattle.std.proofs.lemmas.List.{append-nil, append_assoc}
 use Rattle.session_script.specs.Script.{ScriptModel}
-use Rattle.lane_clock.specs.declared.step.ClockStep.{ClockStep}
 use Rattle.lane_clock.specs.Knowledge.{StartOf, steps_at}
 use Rattle.lane_clock.specs.Seats.{own}
-use Rattle.lane_context.specs.declared.one.One.{One}
-use Rattle.lane_context.specs.declared.one.One.TheVariants as one
-use Rattle.lane_context.specs.declared.receipt.Receipt.{Receipt}
-use Rattle.lane_context.specs.Attempts.{WorkerState}
-use Rattle.lane_context.specs.LaneValues.{Tries}
-use Rattle.lane_context.specs.Receipts.{IsReceiptOf}
-use Rattle.lane_context.specs.Runs.{HasPolled}
-use Rattle.lane_context.specs.Scanning.{GoesOn, SeatGoesOn}
-use Rattle.lane_context.specs.Workers.{WorkerView}
-use Rattle.lane_context.proofs.ReceiptLemmas.{receipt_stays}
-use Rattle.lane_context.proofs.ScanLemmas.{on_and_on}
+use Rattle.lane_turns.specs.declared.one.One.{One}
+use Rattle.lane_turns.specs.declared.one.One.TheVariants as one
+use Rattle.lane_turns.specs.declared.receipt.Receipt.{Receipt}
+use Rattle.lane_turns.specs.Attempts.{WorkerState}
+use Rattle.lane_turns.specs.LaneValues.{Tries}
+use Rattle.lane_turns.specs.Receipts.{IsReceiptOf}
+use Rattle.lane_turns.specs.Runs.{HasPolled}
+use Rattle.lane_turns.specs.Scanning.{GoesOn, SeatGoesOn}
+use Rattle.lane_turns.specs.Workers.{WorkerView}
+use Rattle.lane_turns.proofs.ScanLemmas.{on_and_on}
 use Rattle.op_future.specs.declared.task_end.TaskEnd.{TaskEnd}
 use Rattle.op_future.specs.declared.task_end.TaskEnd.TheVariants as end
-use Rattle.op_future.specs.Steps.{AreReceiptsOf, EndsBehind, HasGot, HasReadNone, HasReadSome, IsOver, Party, WaitsFrom, WhyEnds, WhyGoesOn, party}
+use Rattle.op_future.specs.Steps.{EndsBehind, HasGot, HasReadNone, HasReadSome, IsOver, Party, WaitsFrom, WhyEnds, WhyGoesOn, party}
 use Rattle.op_future.specs.Tasks.{TaskState}
+use Rattle.op_future.proofs.GotLemmas.{from_none, from_on, from_one}
 
 -- a seat that went on made all its steps
 own_grows : (old new : WorkerView) → SeatGoesOn old new → StartOf (own old.pen.seat) (own new.pen.seat)
@@ -28,51 +26,24 @@ own_grows old new on =
     subst (λ n. StartOf (own old.pen.seat) (steps_at new.pen.seat.known n)) (sym on.number)
     (on.remembers old.pen.seat.number)
 
-receipts_stay : (script : ScriptModel) (steps longer : List ClockStep) (receipts : List Receipt) →
-    StartOf steps longer → AreReceiptsOf script steps receipts → AreReceiptsOf script longer receipts
-receipts_stay script steps longer [] more are = tt
-receipts_stay script steps longer (receipt ∷ receipts) more are = (
-  receipt_stays script steps longer receipt more are.0,
-  receipts_stay script steps longer receipts more are.1,
-)
-
-receipts_append : (script : ScriptModel) (steps : List ClockStep) (xs ys : List Receipt) →
-    AreReceiptsOf script steps xs → AreReceiptsOf script steps ys → AreReceiptsOf script steps (xs ++ ys)
-receipts_append script steps [] ys first second = second
-receipts_append script steps (x ∷ xs) ys first second = (first.0, receipts_append script steps xs ys first.1 second)
-
 module _ {H X : Type 0} (script : ScriptModel) where
   -- the worker alone went on
   pub got_none : (old new : WorkerState H X) (task : TaskState) → GoesOn old new →
       HasGot script (party old task) (party new task)
-  got_none old new task on =
-      record {
-        more = [];
-        receipts = sym (append-nil task.receipts);
-        left = omega arith;
-        found = tt;
-        on = on;
-      }
+  got_none old new task on = record { got = from_none script (own new.seat.pen.seat) task; on = on }
 
   pub got_one : (old new : WorkerState H X) (before after : TaskState) (receipt : Receipt) → GoesOn old new →
       IsReceiptOf script (own new.seat.pen.seat) receipt → after.receipts ≡ before.receipts ++ receipt ∷ [] →
       after.left + 1 ≡ before.left → HasGot script (party old before) (party new after)
   got_one old new before after receipt on is receipts left =
-      record { more = receipt ∷ []; receipts = receipts; left = left; found = (is, tt); on = on }
+      record { got = from_one script (own new.seat.pen.seat) before after receipt is receipts left; on = on }
 
   pub got_on : (a b c : Party H X) → HasGot script a b → HasGot script b c → HasGot script a c
   got_on a b c first second =
       record {
-        more = first.more ++ second.more;
-        receipts =
-            second.receipts ∙ ap (λ receipts. receipts ++ second.more) first.receipts
-            ∙ append_assoc a.task.receipts first.more second.more;
-        left =
-            let size = length-append first.more second.more in omega (arith, size, first.left, second.left);
-        found =
-            receipts_append script (own c.worker.seat.pen.seat) first.more second.more
-            (receipts_stay script (own b.worker.seat.pen.seat) (own c.worker.seat.pen.seat) first.more
-            (own_grows b.worker.seat c.worker.seat second.on.seat) first.found) second.found;
+        got =
+            from_on script (own b.worker.seat.pen.seat) (own c.worker.seat.pen.seat) a.task b.task c.task
+            (own_grows b.worker.seat c.worker.seat second.on.seat) first.got second.got;
         on = on_and_on a.worker b.worker c.worker first.on second.on;
       }
 

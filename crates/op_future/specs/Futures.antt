@@ -3,7 +3,7 @@ use Rattle.std.specs.Prelude.{◌≡◌, false}
 use Rattle.session_script.specs.Script.{ScriptModel}
 use Rattle.lane_map.specs.LaneNumbers.{has_cell}
 use Rattle.turn_table.specs.Seated.{Lanes}
-use Rattle.lane_context.specs.Attempts.{WorkerState}
+use Rattle.lane_turns.specs.Attempts.{WorkerState}
 use Rattle.op_future.specs.declared.task_end.TaskEnd.{TaskEnd}
 use Rattle.op_future.specs.declared.task_end.TaskEnd.TheVariants as end
 use Rattle.op_future.specs.Steps.{Party, party}

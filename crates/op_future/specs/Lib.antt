@@ -1,3 +1,6 @@
 pub mod Futures
+pub mod Gathering
+pub mod Seats
+pub mod Sessions
 pub mod Steps
 pub mod Tasks

@@ -1,22 +1,22 @@
 -- What a step of a task comes to: receipts that its worker found, and why it ends or goes on (Asio
 -- reference, io_context::poll_one; "Requirements on asynchronous operations").
-use Rattle.std.specs.Prelude.{◌≡◌, ◌≢◌, ℕ, ◌+◌, true, false, List, [], ◌∷◌, ◌++◌, Some, None, length}
+use Rattle.std.specs.Prelude.{◌≡◌, ◌≢◌, ℕ, true, false, List, [], ◌∷◌, Some, None}
 use Rattle.session_script.specs.Script.{ScriptModel}
 use Rattle.lane_clock.specs.declared.found.Found.{Found}
 use Rattle.lane_clock.specs.declared.step.ClockStep.{ClockStep}
 use Rattle.lane_clock.specs.Seats.{own}
 use Rattle.lane_map.specs.LaneNumbers.{has_cell}
-use Rattle.lane_context.specs.declared.one.One.{One}
-use Rattle.lane_context.specs.declared.one.One.TheVariants as one
-use Rattle.lane_context.specs.declared.receipt.Receipt.{Receipt}
-use Rattle.lane_context.specs.Attempts.{WorkerState}
-use Rattle.lane_context.specs.LaneValues.{Tries}
-use Rattle.lane_context.specs.Receipts.{Finds, IsReceiptOf}
-use Rattle.lane_context.specs.Runs.{HasPolled}
-use Rattle.lane_context.specs.Scanning.{GoesOn, HasLooked}
+use Rattle.lane_turns.specs.declared.one.One.{One}
+use Rattle.lane_turns.specs.declared.one.One.TheVariants as one
+use Rattle.lane_turns.specs.declared.receipt.Receipt.{Receipt}
+use Rattle.lane_turns.specs.Attempts.{WorkerState}
+use Rattle.lane_turns.specs.LaneValues.{Tries}
+use Rattle.lane_turns.specs.Receipts.{Finds, IsReceiptOf}
+use Rattle.lane_turns.specs.Runs.{HasPolled}
+use Rattle.lane_turns.specs.Scanning.{GoesOn, HasLooked}
 use Rattle.op_future.specs.declared.task_end.TaskEnd.{TaskEnd}
 use Rattle.op_future.specs.declared.task_end.TaskEnd.TheVariants as end
-use Rattle.op_future.specs.Tasks.{TaskState}
+use Rattle.op_future.specs.Tasks.{HasGotThese, TaskState}
 
 -- a task, and the worker that looks for what it wants
 pub record Party (H X : Type 0) : Type 0 where
@@ -32,12 +32,16 @@ AreReceiptsOf script steps [] = Unit {0}
 AreReceiptsOf script steps (receipt ∷ receipts) =
     IsReceiptOf script steps receipt × AreReceiptsOf script steps receipts
 
--- the worker went on, and the task was handed receipts that it found, each of what was wanted then
+-- a task was handed receipts that whoever made these steps found
+pub record HasGotFrom (script : ScriptModel) (steps : List ClockStep) (old new : TaskState) : Type 0
+  where
+    pub more : List Receipt
+    pub these : HasGotThese more old new
+    pub found : AreReceiptsOf script steps more
+
+-- the worker went on, and the task was handed receipts that it found
 pub record HasGot {H X : Type 0} (script : ScriptModel) (old new : Party H X) : Type 0 where
-  pub more : List Receipt
-  pub receipts : new.task.receipts ≡ old.task.receipts ++ more
-  pub left : new.task.left + length more ≡ old.task.left
-  pub found : AreReceiptsOf script (own new.worker.seat.pen.seat) more
+  pub got : HasGotFrom script (own new.worker.seat.pen.seat) old.task new.task
   pub on : GoesOn old.worker new.worker
 
 -- the task wants an operation of the script that doesn't execute inside its call, and a look at the

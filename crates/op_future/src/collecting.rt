@@ -1,19 +1,20 @@
 //! Handing a task the receipts that its worker finds.
 ghost use Rattle.std.specs.Prelude.{◌≡◌, IfNone, IfSome};
-ghost use Rattle.lane_context.specs.Attempts.{IsSeated};
+ghost use Rattle.lane_turns.specs.Attempts.{IsSeated};
 ghost use Rattle.lane_map.specs.LaneNumbers.{has_cell};
 ghost use Rattle.op_future.specs.Steps.{HasGot, IsOver, WaitsFrom, party};
 
 use crate::task::Task;
 use crate::task_end::TaskEnd;
 use asio_types::OpNo;
-use lane_context::{Context, LaneSession, Worker};
+use lane_context::{Context, Worker};
+use lane_turns::LaneSession;
 use op_handlers::CompletionHandler;
 use reactor_trait::Reactor;
 use session_script::Script;
 
 /// Whether a number is that of an operation that doesn't execute inside its call.
-fn has_cell(script: &Script, op: OpNo) -> bool
+pub(crate) fn has_cell(script: &Script, op: OpNo) -> bool
     ensures { result ≡ has_cell script.now op }
 {
     op < script.acts() && script.is_op(op) && !script.is_inline(op)

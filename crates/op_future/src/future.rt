@@ -1,7 +1,7 @@
 //! A task as a future.
 ghost use Rattle.std.specs.Prelude.{◌≡◌, IfNone, IfSome};
-ghost use Rattle.lane_context.specs.Attempts.{IsSeated};
-ghost use Rattle.lane_context.specs.LaneValues.{terms, tries};
+ghost use Rattle.lane_turns.specs.Attempts.{IsSeated};
+ghost use Rattle.lane_turns.specs.LaneValues.{terms, tries};
 ghost use Rattle.op_future.specs.Futures.{party_of};
 ghost use Rattle.op_future.specs.Steps.{HasGot, WhyEnds, WhyGoesOn};
 
@@ -10,7 +10,8 @@ use crate::task::Task;
 use crate::task_end::TaskEnd;
 use futures::Future;
 use futures::task::{Context as Polling, Poll};
-use lane_context::{Context, LaneSession, Worker};
+use lane_context::{Context, Worker};
+use lane_turns::LaneSession;
 use op_handlers::CompletionHandler;
 use reactor_trait::Reactor;
 use std::marker::Model;
@@ -84,7 +85,7 @@ impl<'f, 'a, X: Reactor, H: CompletionHandler, N: LaneSession, T: Task> TaskFutu
 
 impl<'f, 'a, X: Reactor, H: CompletionHandler, N: LaneSession, T: Task> Future
     for TaskFuture<'f, 'a, X, H, N, T> {
-    ghost use Rattle.lane_context.specs.Attempts.{IsSeated};
+    ghost use Rattle.lane_turns.specs.Attempts.{IsSeated};
     ghost use Rattle.op_future.specs.Futures.{MayEnd};
 
     type Output = TaskEnd;

@@ -1,13 +1,14 @@
 //! Running a task to its end.
 ghost use Rattle.std.specs.Prelude.{◌≡◌};
-ghost use Rattle.lane_context.specs.Attempts.{IsSeated};
-ghost use Rattle.lane_context.specs.LaneValues.{terms, tries};
+ghost use Rattle.lane_turns.specs.Attempts.{IsSeated};
+ghost use Rattle.lane_turns.specs.LaneValues.{terms, tries};
 ghost use Rattle.op_future.specs.Steps.{HasGot, WhyEnds, party};
 
 use crate::stepping::step;
 use crate::task::Task;
 use crate::task_end::TaskEnd;
-use lane_context::{Context, LaneSession, Worker};
+use lane_context::{Context, Worker};
+use lane_turns::LaneSession;
 use op_handlers::CompletionHandler;
 use reactor_trait::Reactor;
 use std::sync::Wait;

@@ -1,13 +1,14 @@
 //! One step of a task.
 ghost use Rattle.std.specs.Prelude.{◌≡◌, IfNone, IfSome};
-ghost use Rattle.lane_context.specs.Attempts.{IsSeated};
-ghost use Rattle.lane_context.specs.LaneValues.{terms, tries};
-ghost use Rattle.op_future.specs.Steps.{EndsBehind, HasGot, HasReadNone, HasReadSome, IsOver, WhyEnds, WhyGoesOn, party};
+ghost use Rattle.lane_turns.specs.Attempts.{IsSeated};
+ghost use Rattle.lane_turns.specs.LaneValues.{terms, tries};
+ghost use Rattle.op_future.specs.Steps.{HasGot, HasReadSome, WhyEnds, WhyGoesOn, party};
 
 use crate::collecting::collect;
 use crate::task::Task;
 use crate::task_end::TaskEnd;
-use lane_context::{Context, LaneSession, One, Worker};
+use lane_context::{Context, Worker};
+use lane_turns::{LaneSession, One};
 use op_handlers::CompletionHandler;
 use reactor_trait::Reactor;
 use std::thread::yield_now;
@@ -49,7 +50,7 @@ where
 /// Hands the task every receipt that is found for what it wants; if it still wants, one attempt is
 /// made to do something for the context, and it is handed what is found behind that. `None` where
 /// what it wants wasn't found, and something was done or work is left.
-pub(crate) fn step<'a, X, H, N, T>(
+pub fn step<'a, X, H, N, T>(
     context: &Context<'a, X, H, N>,
     worker: &mut Worker<'a, X, H, N>,
     task: &mut T,

@@ -1,8 +1,8 @@
 //! Hints where work is: a queue of lane numbers that workers share with no lock. It promises that
 //! no hint comes out twice, whoever takes it, and that it comes out with its own lane. It says when
 //! none comes only to who has gathered all passes: then all was taken. A hint is no more than that:
-//! nothing that a context answers rests on one. No other library stands on it yet. It is this
-//! project's own.
+//! nothing that the context answers rests on one. The context without a lock stands on it. It is
+//! this project's own.
 #![tactic(auto)]
 
 mod hints;

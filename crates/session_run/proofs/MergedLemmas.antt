@@ -14,11 +14,11 @@ use Rattle.op_handlers.specs.declared.rack.Rack.{Rack}
 use Rattle.book_context.specs.Finished.{IsFinished}
 use Rattle.book_context.proofs.FinishLemmas.{no_fault, no_stop, some_fault}
 use Rattle.lane_map.specs.LaneNumbers.{reactor_lane}
-use Rattle.lane_context.specs.Finishing.{IsGivenBack}
-use Rattle.lane_context.specs.Logs.{LogsView, entries_of}
-use Rattle.lane_context.specs.Names.{SessionNames}
+use Rattle.lane_turns.specs.Finishing.{IsGivenBack}
+use Rattle.lane_turns.specs.Logs.{LogsView, entries_of}
+use Rattle.lane_turns.specs.Names.{SessionNames}
 use Rattle.lane_context.specs.Setup.{HoldsNamed}
-use Rattle.lane_context.specs.Turning.{log_half}
+use Rattle.lane_turns.specs.Turning.{log_half}
 use Rattle.history_merge.specs.Merging.{IsLegalMerging, NoWorkerStops}
 use Rattle.history_merge.proofs.EndLemmas.{fails_after}
 use Rattle.session_run.specs.LaneNames.{names_of}

@@ -1,12 +1,13 @@
 //! The rounds of a script on the io_context without a lock.
 ghost use Rattle.std.specs.Prelude.{◌≡◌, ◌≢◌, ◌+◌, IsFalse, IsTrue, Some, map, slice_get};
 ghost use Rattle.lane_context.specs.declared.round_end.RoundEnd.TheVariants.{Fault};
-ghost use Rattle.lane_context.specs.AllWorkers.{AreCuts, AreReady, NoneFaulted, log_of};
-ghost use Rattle.lane_context.specs.Finishing.{IsOver};
-ghost use Rattle.lane_context.specs.KnownFaults.{KnowsFault};
+ghost use Rattle.lane_turns.specs.AllWorkers.{AreCuts, AreReady, NoneFaulted, log_of};
+ghost use Rattle.lane_turns.specs.Finishing.{IsOver};
+ghost use Rattle.lane_turns.specs.KnownFaults.{KnowsFault};
 ghost use Rattle.session_run.specs.LaneRounds.{AreClosed, HasBegun};
 
-use lane_context::{Context, LaneSession, RoundEnd, Workers, run_side_by_side};
+use lane_context::{Context, RoundEnd, Workers, run_side_by_side};
+use lane_turns::LaneSession;
 use op_handlers::CompletionHandler;
 use reactor_trait::Reactor;
 use session_script::{Round, Script};
@@ -85,8 +86,8 @@ fn run_lane_round<
 }
 
 /// Runs the rounds of a script on its context, in their order, each by as many threads as it names,
-/// as far as the system has them, until all are closed or the reactor failed. Takes no memory; the
-/// threads are the system's. May wait, as a guard that is never released does.
+/// as far as the system has them, until all are closed or the reactor failed. Takes no memory but for
+/// hints; the threads are the system's. May wait, as a guard that is never released does.
 pub(crate) fn run_lane_rounds<
     'a,
     R: Threads + Wait + Sync,

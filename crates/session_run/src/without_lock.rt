@@ -3,7 +3,7 @@ ghost use Rattle.std.specs.Prelude.{◌≡◌, ◌≤◌, false, length, IfErr, 
 ghost use Rattle.book_context.specs.Finished.{IsFinished};
 ghost use Rattle.book_context.specs.Setup.{IsRefused, TakesHandlers};
 ghost use Rattle.history_merge.specs.Room.{most_merged};
-ghost use Rattle.lane_context.specs.Logs.{session_layout};
+ghost use Rattle.lane_turns.specs.Logs.{session_layout};
 ghost use Rattle.op_handlers.specs.Rack.{IsWholeRack, handlers_in};
 ghost use Rattle.proactor_core.specs.Proactor.{tells};
 ghost use Rattle.session_run.specs.LaneNames.{names_of};
@@ -14,8 +14,9 @@ use crate::lane_rounds::run_lane_rounds;
 use asio_types::SetupFault;
 use history_book::History;
 use history_merge::{HistoryRoom, merge};
-use lane_context::{Context, LaneSession, Parts};
+use lane_context::{Context, Parts};
 use lane_map::LaneMap;
+use lane_turns::LaneSession;
 use op_handlers::{CompletionHandler, Rack};
 use reactor_trait::Reactor;
 use session_script::Script;
@@ -103,10 +104,10 @@ pub(crate) fn run_unlocked<
         (rack_run_mark H.marks rack.old) (drop_mark H.marks rack.old) false (X.faults reactor)
         (X.faults ran.1) ran.0.events (X.state ran.1) (X.told ran.1)) }
 {
-    let Ok(parts) = Parts::make(alloc, script) else {
+    let Ok(map) = LaneMap::make(alloc, script) else {
         return Err((SetupFault::NoMemory, reactor));
     };
-    let Ok(map) = LaneMap::make(alloc, script) else {
+    let Ok(parts) = Parts::make(alloc, script, &map) else {
         return Err((SetupFault::NoMemory, reactor));
     };
     let Ok(history) = HistoryRoom::make(alloc, script) else {

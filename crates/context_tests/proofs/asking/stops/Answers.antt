@@ -1,4 +1,4 @@
-use Rattle.lane_context.specs.Workers.{may_draw_stop}
+use Rattle.lane_turns.specs.Workers.{may_draw_stop}
 use Rattle.context_tests.proofs.AskingLemmas.{stopped}
 use Rattle.context_tests.proofs.asking.stops.Goals as goal
 

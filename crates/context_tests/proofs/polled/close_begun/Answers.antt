@@ -1,5 +1,5 @@
 use Rattle.std.proofs.Common.{arith}
-use Rattle.lane_context.specs.LaneValues.{terms}
+use Rattle.lane_turns.specs.LaneValues.{terms}
 use Rattle.context_tests.proofs.ClosingLemmas.{is_over}
 use Rattle.context_tests.proofs.polled.close_begun.Goals as goal
 

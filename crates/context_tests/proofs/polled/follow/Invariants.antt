@@ -1,4 +1,4 @@
-use Rattle.lane_context.specs.AllWorkers.{AreReady}
+use Rattle.lane_turns.specs.AllWorkers.{AreReady}
 use Rattle.context_tests.proofs.polled.follow.Given as goal
 
 abbrev pub invariant-loop-number : goal.invariant-loop-number

@@ -1,7 +1,7 @@
 use Rattle.std.proofs.Common.{◌≡◌, ◌≤◌, Some, length}
 use Rattle.std.specs.Prelude.{vec_capacity}
-use Rattle.lane_context.specs.Attempts.{IsCallRoom}
-use Rattle.lane_context.specs.Rooms.{EachAt}
+use Rattle.lane_turns.specs.Attempts.{IsCallRoom}
+use Rattle.lane_turns.specs.Rooms.{EachAt}
 use Rattle.lane_context.proofs.call_rooms.call_rooms.Given as goal
 
 abbrev pub invariant-loop : goal.invariant-loop

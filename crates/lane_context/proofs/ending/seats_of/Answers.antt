@@ -1,10 +1,10 @@
 use Rattle.std.proofs.Common.{◌∷◌, ◌++◌, [], ap, length, refl, sym, ◌∙◌, arith, append_assoc, length-append}
 use Rattle.std.specs.Vec.Iter.{into_iter_items}
 use Rattle.std.proofs.lemmas.List.{length-map}
-use Rattle.lane_context.specs.Attempts.{WorkerState}
-use Rattle.lane_context.specs.Workers.{WorkerView}
-use Rattle.lane_context.proofs.ContextEndLemmas.{next_kept}
-use Rattle.lane_context.proofs.PartingLemmas.{made_more}
+use Rattle.lane_turns.specs.Attempts.{WorkerState}
+use Rattle.lane_turns.specs.Workers.{WorkerView}
+use Rattle.lane_turns.proofs.ContextEndLemmas.{next_kept}
+use Rattle.lane_turns.proofs.PartingLemmas.{made_more}
 use Rattle.lane_context.proofs.ending.seats_of.Goals as goal
 
 pub loop-worker-init : goal.loop-worker-init

@@ -1,7 +1,7 @@
 use Rattle.std.proofs.Common.{◌≡◌, ◌++◌, List, map}
 use Rattle.std.specs.Prelude.{vec_capacity}
 use Rattle.std.specs.Vec.Iter.{into_iter_items, into_iter_len}
-use Rattle.lane_context.specs.Attempts.{WorkerState}
+use Rattle.lane_turns.specs.Attempts.{WorkerState}
 use Rattle.lane_context.proofs.ending.seats_of.Given as goal
 
 abbrev pub decreases-loop-worker : goal.decreases-loop-worker

@@ -3,13 +3,13 @@ use Rattle.std.specs.Prelude.{slice_get}
 use Rattle.std.specs.Vec.Iter.{into_iter_items, into_iter_len, into_iter_steps}
 use Rattle.lane_map.specs.LaneNumbers.{reactor_lane}
 use Rattle.lane_map.proofs.NumberLemmas.{lane_count}
-use Rattle.lane_context.specs.declared.log.LogEntry.{LogEntry}
-use Rattle.lane_context.specs.Batons.{HaveHands, LaneView}
-use Rattle.lane_context.specs.Firsts.{IsFirstBaton}
-use Rattle.lane_context.specs.Pens.{PenView}
-use Rattle.lane_context.specs.Rooms.{IsNewPen, lane_room}
-use Rattle.lane_context.proofs.LogRoomLemmas.{few_lanes}
-use Rattle.lane_context.proofs.NewPenLemmas.{each_none, each_pushed, reached}
+use Rattle.lane_turns.specs.declared.log.LogEntry.{LogEntry}
+use Rattle.lane_turns.specs.Batons.{HaveHands, LaneView}
+use Rattle.lane_turns.specs.Firsts.{IsFirstBaton}
+use Rattle.lane_turns.specs.Pens.{PenView}
+use Rattle.lane_turns.specs.Rooms.{IsNewPen, lane_room}
+use Rattle.lane_turns.proofs.LogRoomLemmas.{few_lanes}
+use Rattle.lane_turns.proofs.NewPenLemmas.{each_none, each_pushed, reached}
 use Rattle.lane_context.proofs.StartLemmas.{baton_first, lane_pen_new, lane_pens_count}
 use Rattle.lane_context.proofs.first_batons.first_batons.Given.{Over}
 use Rattle.lane_context.proofs.first_batons.first_batons.Goals as goal

@@ -2,9 +2,9 @@ use Rattle.std.proofs.Common.{◌≡◌, ◌≤◌, ◌+◌, ◌++◌, List, len
 use Rattle.std.specs.Prelude.{vec_capacity}
 use Rattle.std.specs.Vec.Iter.{into_iter_items, into_iter_len}
 use Rattle.strand_core.specs.Hands.{Held}
-use Rattle.lane_context.specs.Firsts.{IsFirstBaton}
-use Rattle.lane_context.specs.Pens.{PenView}
-use Rattle.lane_context.specs.Rooms.{EachAt}
+use Rattle.lane_turns.specs.Firsts.{IsFirstBaton}
+use Rattle.lane_turns.specs.Pens.{PenView}
+use Rattle.lane_turns.specs.Rooms.{EachAt}
 use Rattle.lane_context.proofs.first_batons.first_batons.Given as goal
 
 abbrev pub decreases-loop-own : goal.decreases-loop-own

@@ -1,9 +1,9 @@
 use Rattle.std.proofs.Common.{◌≡◌, ◌≤◌, ◌+◌, ◌++◌, List, length}
 use Rattle.std.specs.Prelude.{vec_capacity}
 use Rattle.std.specs.Vec.Iter.{into_iter_items, into_iter_len}
-use Rattle.lane_context.specs.Firsts.{IsFirstWorker}
-use Rattle.lane_context.specs.Pens.{PenView}
-use Rattle.lane_context.specs.Rooms.{EachAt}
+use Rattle.lane_turns.specs.Firsts.{IsFirstWorker}
+use Rattle.lane_turns.specs.Pens.{PenView}
+use Rattle.lane_turns.specs.Rooms.{EachAt}
 use Rattle.lane_context.proofs.first_batons.first_workers.Given as goal
 
 abbrev pub decreases-loop-pen : goal.decreases-loop-pen

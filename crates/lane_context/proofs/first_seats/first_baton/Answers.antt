@@ -3,9 +3,9 @@ use Rattle.session_script.specs.Script.{ScriptModel}
 use Rattle.lane_clock.specs.Steps.{most_draws}
 use Rattle.lane_map.specs.LaneNumbers.{reactor_lane}
 use Rattle.lane_map.proofs.NumberLemmas.{lane_count}
-use Rattle.lane_context.specs.Batons.{IsHandlerBaton, LaneView}
-use Rattle.lane_context.specs.Firsts.{first_lane}
-use Rattle.lane_context.specs.Rooms.{IsNewPen, lane_room}
+use Rattle.lane_turns.specs.Batons.{IsHandlerBaton, LaneView}
+use Rattle.lane_turns.specs.Firsts.{first_lane}
+use Rattle.lane_turns.specs.Rooms.{IsNewPen, lane_room}
 use Rattle.lane_context.proofs.FirstLemmas.{baton_begins}
 use Rattle.lane_context.proofs.first_seats.first_baton.Goals as goal
 

@@ -4,10 +4,10 @@ use Rattle.reactor_turns.specs.Ahead.{most_turn_events}
 use Rattle.lane_clock.specs.Steps.{most_draws}
 use Rattle.lane_map.specs.LaneNumbers.{reactor_lane}
 use Rattle.lane_map.proofs.NumberLemmas.{lane_count}
-use Rattle.lane_context.specs.Batons.{LaneView}
-use Rattle.lane_context.specs.Firsts.{first_lane}
-use Rattle.lane_context.specs.Rooms.{IsNewPen}
-use Rattle.lane_context.specs.Turning.{IsReactorBaton}
+use Rattle.lane_turns.specs.Batons.{LaneView}
+use Rattle.lane_turns.specs.Firsts.{first_lane}
+use Rattle.lane_turns.specs.Rooms.{IsNewPen}
+use Rattle.lane_turns.specs.Turning.{IsReactorBaton}
 use Rattle.lane_context.proofs.FirstLemmas.{reactor_begins}
 use Rattle.lane_context.proofs.first_seats.first_reactor.Goals as goal
 

@@ -1,6 +1,6 @@
 use Rattle.std.proofs.Common.{◌≡◌, ◌≤◌, [], get_or, length}
 use Rattle.std.specs.Prelude.{vec_capacity}
-use Rattle.lane_context.specs.Rooms.{EachAt}
+use Rattle.lane_turns.specs.Rooms.{EachAt}
 use Rattle.lane_context.proofs.new_pens.new_logs.Given as goal
 
 abbrev pub invariant-loop-room : goal.invariant-loop-room

@@ -2,8 +2,8 @@ use Rattle.std.proofs.Common.{◌≡◌, ◌+◌, ◌++◌, ◌∷◌, [], get_o
 use Rattle.std.specs.Prelude.{vec_capacity}
 use Rattle.std.specs.Vec.Iter.{into_iter_items}
 use Rattle.lane_clock.specs.Seats.{SeatsLeft, SeatView, new_clock_seat, one_given}
-use Rattle.lane_context.specs.Rooms.{IsNewPen}
-use Rattle.lane_context.proofs.NewPenLemmas.{each_pushed, mapped_seam, reached, same_pen}
+use Rattle.lane_turns.specs.Rooms.{IsNewPen}
+use Rattle.lane_turns.proofs.NewPenLemmas.{each_pushed, mapped_seam, reached, same_pen}
 use Rattle.lane_context.proofs.new_pens.new_pens.Goals as goal
 use Rattle.lane_context.proofs.new_pens.new_pens.Goals.{In-Some}
 

@@ -2,8 +2,8 @@ use Rattle.std.proofs.Common.{◌≡◌, ◌≤◌, ◌+◌, ◌++◌, List, get
 use Rattle.std.specs.Prelude.{Vec, vec_capacity}
 use Rattle.std.specs.Global.{Global}
 use Rattle.std.specs.Vec.Iter.{into_iter_items, into_iter_len}
-use Rattle.lane_context.specs.declared.log.LogEntry.{LogEntry}
-use Rattle.lane_context.specs.Rooms.{EachAt, IsNewPen, seats_on}
+use Rattle.lane_turns.specs.declared.log.LogEntry.{LogEntry}
+use Rattle.lane_turns.specs.Rooms.{EachAt, IsNewPen, seats_on}
 use Rattle.lane_context.proofs.new_pens.new_pens.Given as goal
 
 abbrev pub decreases-loop-log : goal.decreases-loop-log

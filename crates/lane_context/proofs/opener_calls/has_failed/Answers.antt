@@ -4,13 +4,13 @@ use Rattle.std.proofs.lemmas.Option.{slice_get-get_or}
 use Rattle.lane_clock.specs.Seats.{own}
 use Rattle.lane_map.specs.LaneNumbers.{reactor_lane}
 use Rattle.lane_map.proofs.NumberLemmas.{lane_count as lanes_and_reactor}
-use Rattle.lane_context.specs.Cuts.{NoneStops}
-use Rattle.lane_context.specs.KnownFaults.{SomeStop}
-use Rattle.lane_context.specs.LaneOf.{seat_of}
-use Rattle.lane_context.specs.LaneValues.{terms}
-use Rattle.lane_context.proofs.AllWorkersLemmas.{works_on}
-use Rattle.lane_context.proofs.BenchLemmas.{same_one}
-use Rattle.lane_context.proofs.ReactorFaultLemmas.{failure_drawn}
+use Rattle.lane_turns.specs.Cuts.{NoneStops}
+use Rattle.lane_turns.specs.KnownFaults.{SomeStop}
+use Rattle.lane_turns.specs.LaneOf.{seat_of}
+use Rattle.lane_turns.specs.LaneValues.{terms}
+use Rattle.lane_turns.proofs.AllWorkersLemmas.{works_on}
+use Rattle.lane_turns.proofs.BenchLemmas.{same_one}
+use Rattle.lane_turns.proofs.ReactorFaultLemmas.{failure_drawn}
 use Rattle.lane_context.proofs.opener_calls.has_failed.Goals as goal
 
 pub returns-clause-goes_on : goal.returns-clause-goes_on

@@ -1,7 +1,7 @@
 use Rattle.std.proofs.Common.{length, subst, sym, ◌∙◌}
-use Rattle.lane_context.specs.LaneOf.{seat_of}
-use Rattle.lane_context.proofs.EventCutLemmas.{cuts_go_on}
-use Rattle.lane_context.proofs.MeetAllLemmas.{failure_heard}
+use Rattle.lane_turns.specs.LaneOf.{seat_of}
+use Rattle.lane_turns.proofs.EventCutLemmas.{cuts_go_on}
+use Rattle.lane_turns.proofs.MeetAllLemmas.{failure_heard}
 use Rattle.lane_context.proofs.opener_calls.hear_failure.Goals as goal
 
 pub returns-clause-failed : goal.returns-clause-failed

@@ -1,6 +1,6 @@
 use Rattle.std.proofs.Common.{Some, arith}
 use Rattle.std.specs.Vec.Iter.{into_iter_items}
-use Rattle.lane_context.specs.LaneValues.{handlers}
+use Rattle.lane_turns.specs.LaneValues.{handlers}
 use Rattle.lane_context.proofs.SettingOutLemmas.{made_within}
 use Rattle.lane_context.proofs.setting_out.lay_handlers.Goals as goal
 

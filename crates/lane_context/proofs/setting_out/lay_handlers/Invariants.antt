@@ -1,7 +1,7 @@
 use Rattle.std.proofs.Common.{◌≡◌, None, Some, replicate}
 use Rattle.std.specs.Prelude.{vec_capacity}
 use Rattle.std.specs.Vec.Iter.{into_iter_items, into_iter_len}
-use Rattle.lane_context.specs.LaneValues.{handlers}
+use Rattle.lane_turns.specs.LaneValues.{handlers}
 use Rattle.lane_context.proofs.SettingOutLemmas.{AreMade}
 use Rattle.lane_context.proofs.setting_out.lay_handlers.Given as goal
 

@@ -1,8 +1,8 @@
 use Rattle.std.proofs.Common.{◌∷◌, [], Some, ap, length, length-append, refl, arith, ◌∙◌}
 use Rattle.std.specs.Vec.Iter.{into_iter_items}
-use Rattle.lane_context.specs.Attempts.{IsCallRoom}
+use Rattle.lane_turns.specs.Attempts.{IsCallRoom}
 use Rattle.lane_context.specs.SessionRooms.{standing_by}
-use Rattle.lane_context.proofs.NewPenLemmas.{reached}
+use Rattle.lane_turns.proofs.NewPenLemmas.{reached}
 use Rattle.lane_context.proofs.SettingOutLemmas.{made_more, made_within}
 use Rattle.lane_context.proofs.StartLemmas.{each_front}
 use Rattle.lane_context.proofs.setting_out.stand_by.Goals as goal
@@ -43,6 +43,14 @@ loop-seat-preserved g c =
             c.in-Some.ensures.len,
             ap length c.in-Some-pop.ensures.items,
             length-append c.pop.new.self.items (c.in-Some-pop.made ∷ []),
+          );
+      lookouts =
+          omega (
+            arith,
+            c.loop-seat.invariant.lookouts,
+            c.in-Some.ensures.len,
+            ap length c.in-Some-pop-2.ensures.items,
+            length-append c.pop-in-Some.new.self.items (c.in-Some-pop-2.lookout ∷ []),
           );
       each =
           each_front c.loop-seat.calls.items c.pop.new.self.items (c.in-Some-pop.made ∷ []) c.in-Some-pop.ensures.items

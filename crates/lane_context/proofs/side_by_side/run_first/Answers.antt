@@ -1,4 +1,4 @@
-use Rattle.lane_context.specs.LaneValues.{terms, tries}
+use Rattle.lane_turns.specs.LaneValues.{terms, tries}
 use Rattle.lane_context.proofs.SideBySideLemmas.{all_there, first_ran, first_seated, logs_stay, still_ready}
 use Rattle.lane_context.proofs.side_by_side.run_first.Goals as goal
 

@@ -1,5 +1,5 @@
 use Rattle.std.proofs.Common.{◌∙◌}
-use Rattle.lane_context.proofs.ScanLemmas.{on_same}
+use Rattle.lane_turns.proofs.ScanLemmas.{on_same}
 use Rattle.op_future.specs.Steps.{party}
 use Rattle.op_future.proofs.StepLemmas.{got_none, got_on, got_one}
 use Rattle.op_future.proofs.collecting.collect.Goals as goal

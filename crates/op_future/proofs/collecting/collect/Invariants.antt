@@ -1,4 +1,4 @@
-use Rattle.lane_context.specs.Attempts.{IsSeated}
+use Rattle.lane_turns.specs.Attempts.{IsSeated}
 use Rattle.op_future.specs.Steps.{HasGot, party}
 use Rattle.op_future.proofs.collecting.collect.Given as goal
 

@@ -1,5 +1,5 @@
-use Rattle.lane_context.specs.LaneValues.{terms, tries}
-use Rattle.lane_context.proofs.ScanLemmas.{on_same}
+use Rattle.lane_turns.specs.LaneValues.{terms, tries}
+use Rattle.lane_turns.proofs.ScanLemmas.{on_same}
 use Rattle.op_future.specs.Steps.{party}
 use Rattle.op_future.proofs.StepLemmas.{ends_on, got_none, got_on}
 use Rattle.op_future.proofs.running.run_task.Goals as goal

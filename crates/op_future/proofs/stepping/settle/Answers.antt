@@ -1,4 +1,4 @@
-use Rattle.lane_context.proofs.ScanLemmas.{looked_on}
+use Rattle.lane_turns.proofs.ScanLemmas.{looked_on}
 use Rattle.op_future.specs.Steps.{party}
 use Rattle.op_future.proofs.StepLemmas.{got_none, got_on}
 use Rattle.op_future.proofs.stepping.settle.Goals as goal

@@ -1,4 +1,4 @@
-use Rattle.lane_context.specs.LaneValues.{terms, tries}
+use Rattle.lane_turns.specs.LaneValues.{terms, tries}
 use Rattle.op_future.specs.Steps.{party}
 use Rattle.op_future.proofs.StepLemmas.{got_on, got_round, option_ends_on}
 use Rattle.op_future.proofs.stepping.step.Goals as goal

@@ -1,5 +1,5 @@
 use Rattle.std.proofs.Common.{◌≡◌, map}
-use Rattle.lane_context.specs.AllWorkers.{AreCuts, AreReady, NoneFaulted, log_of}
+use Rattle.lane_turns.specs.AllWorkers.{AreCuts, AreReady, NoneFaulted, log_of}
 use Rattle.session_run.specs.LaneRounds.{AreClosed}
 use Rattle.session_run.proofs.lane_rounds.run_lane_rounds.Given as goal
 

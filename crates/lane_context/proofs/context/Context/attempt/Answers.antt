@@ -1,10 +1,10 @@
 use Rattle.std.proofs.Common.{◌≡◌, [], None, Some, ap, refl, subst, sym, ◌∙◌}
 use Rattle.turn_table.specs.Seated.{IsSeatOf, Seated}
-use Rattle.lane_context.specs.Attempts.{HoldsTurns, KeepsAfterFault, WorkerState}
-use Rattle.lane_context.specs.LaneValues.{terms, tries}
-use Rattle.lane_context.proofs.AttemptLemmas.{free_turns, holds_after, keeps_after, seat_after}
-use Rattle.lane_context.specs.KnownFaults.{KnowsAfterFault}
-use Rattle.lane_context.proofs.ReactorFaultLemmas.{knows_after}
+use Rattle.lane_turns.specs.Attempts.{HoldsTurns, KeepsAfterFault, WorkerState}
+use Rattle.lane_turns.specs.LaneValues.{terms, tries}
+use Rattle.lane_turns.proofs.AttemptLemmas.{free_turns, holds_after, keeps_after, seat_after}
+use Rattle.lane_turns.specs.KnownFaults.{KnowsAfterFault}
+use Rattle.lane_turns.proofs.ReactorFaultLemmas.{knows_after}
 use Rattle.lane_context.proofs.context.Context.attempt.Goals as goal
 
 pub returns-clause-turns : goal.returns-clause-turns

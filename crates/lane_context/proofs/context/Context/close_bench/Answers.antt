@@ -1,10 +1,10 @@
 use Rattle.std.proofs.Common.{subst, sym, ◌∙◌}
-use Rattle.lane_context.specs.AllWorkers.{clock_seat}
-use Rattle.lane_context.specs.Benches.{AreWorkers}
-use Rattle.lane_context.specs.Gathering.{StandsForFirst}
-use Rattle.lane_context.specs.LaneValues.{terms, tries}
+use Rattle.lane_turns.specs.AllWorkers.{clock_seat}
+use Rattle.lane_turns.specs.Benches.{AreWorkers}
+use Rattle.lane_turns.specs.Gathering.{StandsForFirst}
+use Rattle.lane_turns.specs.LaneValues.{terms, tries}
 use Rattle.lane_context.specs.RoundEnds.{HasEndedRound}
-use Rattle.lane_context.proofs.AllWorkersLemmas.{counted, lasts_sat, logs_sat, rounds_sat, rows_gathered, rows_sat, seated_sat}
+use Rattle.lane_turns.proofs.AllWorkersLemmas.{clocks_sat, counted, lasts_sat, logs_sat, rounds_sat, rows_gathered, rows_sat, seated_sat}
 use Rattle.lane_context.proofs.LastEndLemmas.{gathered_free}
 use Rattle.lane_context.proofs.RoundEndLemmas.{ended_from, ended_still}
 use Rattle.lane_context.proofs.context.Context.close_bench.Goals as goal
@@ -39,6 +39,8 @@ returns-clause-ended g c =
     (lasts_sat c.args.self.now c.close_gathered-end.new.workers c.part_seats.new.workers c.part_seats.auto.workers
     c.part_seats.ensures)
     (logs_sat c.args.self.now c.close_gathered-end.new.workers c.part_seats.new.workers c.part_seats.auto.workers
+    c.part_seats.ensures)
+    (clocks_sat c.args.self.now c.close_gathered-end.new.workers c.part_seats.new.workers c.part_seats.auto.workers
     c.part_seats.ensures)
     (rounds_sat c.args.self.now c.close_gathered-end.new.workers c.part_seats.new.workers c.part_seats.auto.workers
     c.part_seats.ensures g.N.LaneSession.names.script c.close_gathered-end.new.opener.stand

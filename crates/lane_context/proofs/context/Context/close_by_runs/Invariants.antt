@@ -1,9 +1,9 @@
 use Rattle.std.proofs.Common.{◌≡◌, []}
 use Rattle.std.specs.Prelude.{vec_capacity}
-use Rattle.lane_context.specs.AllWorkers.{AreCuts, clock_seat}
-use Rattle.lane_context.specs.Benches.{AreWorkers}
-use Rattle.lane_context.specs.Gathering.{NoneKeeps, StandsForFirst}
-use Rattle.lane_context.specs.OwnRuns.{HasRunInVain}
+use Rattle.lane_turns.specs.AllWorkers.{AreCuts, clock_seat}
+use Rattle.lane_turns.specs.Benches.{AreWorkers}
+use Rattle.lane_turns.specs.Gathering.{NoneKeeps, StandsForFirst}
+use Rattle.lane_turns.specs.OwnRuns.{HasRunInVain}
 use Rattle.lane_context.proofs.context.Context.close_by_runs.Given as goal
 
 abbrev pub invariant-loop : goal.invariant-loop

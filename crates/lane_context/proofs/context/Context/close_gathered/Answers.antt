@@ -1,4 +1,4 @@
-use Rattle.lane_context.specs.LaneValues.{terms, tries}
+use Rattle.lane_turns.specs.LaneValues.{terms, tries}
 use Rattle.lane_context.proofs.LastEndLemmas.{keep_none_still}
 use Rattle.lane_context.proofs.RoundEndLemmas.{ended_faulted}
 use Rattle.lane_context.proofs.context.Context.close_gathered.Goals as goal
@@ -12,7 +12,7 @@ returns-then-has_one_faulted-clause-ended g c =
     c.meet_around.new.workers c.meet_around.ensures.on c.meet_around.ensures.known
     (c.has_one_faulted.ensures.one c.if-has_one_faulted.true)
     (c.has_one_faulted.ensures.knows c.if-has_one_faulted.true)
-    c.meet_around.ensures.rest c.meet_around.ensures.rounds
+    c.meet_around.ensures.rest c.meet_around.ensures.remember c.meet_around.ensures.rounds
 
 pub returns-then-has_one_faulted-clause-free : goal.returns-then-has_one_faulted-clause-free
 returns-then-has_one_faulted-clause-free g c =

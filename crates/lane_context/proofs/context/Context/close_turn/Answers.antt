@@ -1,9 +1,9 @@
 use Rattle.std.proofs.Common.{subst, sym, ◌∙◌}
 use Rattle.std.specs.Prelude.{IfNone, IfSome}
-use Rattle.lane_context.specs.LaneValues.{terms, tries}
-use Rattle.lane_context.specs.OwnRuns.{HasRunInVain}
+use Rattle.lane_turns.specs.LaneValues.{terms, tries}
+use Rattle.lane_turns.specs.OwnRuns.{HasRunInVain}
 use Rattle.lane_context.specs.RoundEnds.{HasEndedRound}
-use Rattle.lane_context.proofs.AllWorkersLemmas.{counted}
+use Rattle.lane_turns.proofs.AllWorkersLemmas.{counted}
 use Rattle.lane_context.proofs.LastEndLemmas.{keep_none_still}
 use Rattle.lane_context.proofs.RoundEndLemmas.{fault_last, run_faulted, run_free, run_rows, tried_ended, tried_in_vain}
 use Rattle.lane_context.proofs.context.Context.close_turn.Goals as goal
@@ -28,7 +28,7 @@ returns-then-has_one_faulted-clause-ended g c =
     c.run_last-end.ensures.ran c.args.opener.now c.meet_around.new.opener c.meet_around.new.workers
     c.meet_around.ensures.on c.meet_around.ensures.known (c.has_one_faulted.ensures.one c.if-has_one_faulted.true)
     (c.has_one_faulted.ensures.knows c.if-has_one_faulted.true)
-    c.meet_around.ensures.rest c.meet_around.ensures.rounds
+    c.meet_around.ensures.rest c.meet_around.ensures.remember c.meet_around.ensures.rounds
 
 pub returns-then-has_one_faulted-clause-free : goal.returns-then-has_one_faulted-clause-free
 returns-then-has_one_faulted-clause-free g c =
@@ -70,7 +70,7 @@ returns-clause-ended g c =
     (sym c.in-Some.is ∙ c.closing_after.ensures)
     (c.has_one_faulted.ensures.none c.if-has_one_faulted.false) c.args.opener.now c.try_closing-tried.new.opener
     c.try_closing-tried.new.workers
-    c.try_closing-tried.ensures.rest
+    c.try_closing-tried.ensures.rest c.try_closing-tried.ensures.remember
     c.try_closing-tried.result c.try_closing-tried.ensures.tried c.try_closing-tried.ensures.rounds)
 
 pub returns-clause-vain : goal.returns-clause-vain
@@ -87,7 +87,7 @@ returns-clause-vain g c =
     (sym c.in-Some.is ∙ c.closing_after.ensures)
     (c.has_one_faulted.ensures.none c.if-has_one_faulted.false) c.args.opener.now c.try_closing-tried.new.opener
     c.try_closing-tried.new.workers
-    c.try_closing-tried.ensures.rest
+    c.try_closing-tried.ensures.rest c.try_closing-tried.ensures.remember
     c.try_closing-tried.result c.try_closing-tried.ensures.tried c.try_closing-tried.ensures.same)
 
 pub returns-clause-free : goal.returns-clause-free

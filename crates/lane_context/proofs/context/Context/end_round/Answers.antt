@@ -23,3 +23,6 @@ returns-clause-rounds g c = c.close_bench.ensures.ended.rounds
 
 pub returns-clause-logs : goal.returns-clause-logs
 returns-clause-logs g c = c.close_bench.ensures.ended.logs
+
+pub returns-clause-remember : goal.returns-clause-remember
+returns-clause-remember g c = c.close_bench.ensures.ended.remember

@@ -2,7 +2,7 @@ use Rattle.std.proofs.Common.{◌≡◌, ℕ, ◌+◌, ◌<◌, Some, ap, get_or
 use Rattle.std.specs.Prelude.{slice_get}
 use Rattle.std.proofs.lemmas.Option.{slice_get-get_or}
 use Rattle.turn_table.specs.Seated.{Seated}
-use Rattle.lane_context.specs.Gathering.{StandsForFirst, unseated}
+use Rattle.lane_turns.specs.Gathering.{StandsForFirst, unseated}
 use Rattle.lane_context.proofs.GatheringLemmas.{changed_all, changed_at, changed_more, changed_to, gathered_fits, gathered_more, is_seated, left_fits, left_free, left_sole}
 use Rattle.lane_context.proofs.context.Context.gather_seats.Goals as goal
 

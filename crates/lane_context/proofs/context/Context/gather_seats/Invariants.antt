@@ -1,5 +1,5 @@
 use Rattle.std.proofs.Common.{◌≡◌}
-use Rattle.lane_context.specs.Gathering.{unseated}
+use Rattle.lane_turns.specs.Gathering.{unseated}
 use Rattle.lane_context.proofs.GatheringLemmas.{IsGathered, changed_to}
 use Rattle.lane_context.proofs.context.Context.gather_seats.Given as goal
 

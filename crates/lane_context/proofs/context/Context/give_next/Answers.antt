@@ -1,6 +1,6 @@
 use Rattle.std.proofs.Common.{◌≡◌, ap, arith, subst, sym, ◌∙◌}
 use Rattle.turn_table.specs.Seated.{HasTurn, without_turn}
-use Rattle.lane_context.specs.LaneValues.{terms}
+use Rattle.lane_turns.specs.LaneValues.{terms}
 use Rattle.lane_context.proofs.GatheringLemmas.{home_below, number_is_home}
 use Rattle.lane_context.proofs.context.Context.give_next.Goals as goal
 

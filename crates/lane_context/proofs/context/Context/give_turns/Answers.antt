@@ -1,7 +1,7 @@
 use Rattle.std.proofs.Common.{◌≡◌, refl, subst, sym, ◌∙◌}
 use Rattle.turn_table.specs.Seated.{IsSeatOf}
-use Rattle.lane_context.specs.Benches.{IsRow}
-use Rattle.lane_context.specs.LaneOf.{seat_of}
+use Rattle.lane_turns.specs.Benches.{IsRow}
+use Rattle.lane_turns.specs.LaneOf.{seat_of}
 use Rattle.lane_context.proofs.GatheringLemmas.{all_taken, last_front, last_given, last_turn, row_sized}
 use Rattle.lane_context.proofs.context.Context.give_turns.Goals as goal
 

@@ -1,9 +1,9 @@
 use Rattle.std.proofs.Common.{subst}
 use Rattle.session_script.specs.Script.{ScriptModel}
 use Rattle.lane_map.specs.LaneNumbers.{reactor_lane}
-use Rattle.lane_context.specs.Batons.{BatonView}
-use Rattle.lane_context.specs.Benches.{AreWorkers, IsRow}
-use Rattle.lane_context.specs.Workers.{WorkerView}
+use Rattle.lane_turns.specs.Batons.{BatonView}
+use Rattle.lane_turns.specs.Benches.{AreWorkers, IsRow}
+use Rattle.lane_turns.specs.Workers.{WorkerView}
 use Rattle.lane_context.proofs.SettingOutLemmas.{lanes_begin, none_begins, workers_begin}
 use Rattle.lane_context.proofs.context.Context.make.Goals as goal
 

@@ -1,8 +1,8 @@
 use Rattle.std.proofs.Common.{◌≡◌, subst, sym}
-use Rattle.lane_context.specs.AllWorkers.{clock_seat}
-use Rattle.lane_context.specs.Benches.{AreWorkers}
-use Rattle.lane_context.specs.Besides.{besides_of, rests_of}
-use Rattle.lane_context.proofs.AllWorkersLemmas.{free_there, lasts_again, logs_again, ready_again, rounds_sat, rows_gathered}
+use Rattle.lane_turns.specs.AllWorkers.{clock_seat}
+use Rattle.lane_turns.specs.Benches.{AreWorkers}
+use Rattle.lane_turns.specs.Besides.{besides_of, rests_of}
+use Rattle.lane_turns.proofs.AllWorkersLemmas.{free_there, lasts_again, logs_again, ready_again, rounds_sat, rows_gathered}
 use Rattle.lane_context.proofs.context.Context.open_bench.Goals as goal
 
 pub open_all-requires-clause-workers : goal.open_all-requires-clause-workers

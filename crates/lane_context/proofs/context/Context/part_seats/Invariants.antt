@@ -1,5 +1,5 @@
 use Rattle.std.proofs.Common.{◌≤◌, ◌-◌, length}
-use Rattle.lane_context.specs.Gathering.{HaveSatDown, StandsForFirst}
+use Rattle.lane_turns.specs.Gathering.{HaveSatDown, StandsForFirst}
 use Rattle.lane_context.proofs.context.Context.part_seats.Given as goal
 
 abbrev pub invariant-loop-left : goal.invariant-loop-left

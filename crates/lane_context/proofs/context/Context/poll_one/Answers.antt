@@ -1,4 +1,4 @@
-use Rattle.lane_context.proofs.ScanLemmas.{on_and_on}
+use Rattle.lane_turns.proofs.ScanLemmas.{on_and_on}
 use Rattle.lane_context.proofs.context.Context.poll_one.Goals as goal
 
 pub returns-clause-on : goal.returns-clause-on

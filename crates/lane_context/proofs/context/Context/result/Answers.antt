@@ -1,9 +1,9 @@
 use Rattle.std.proofs.Common.{◌≡◌, ◌<◌, true, arith, ap, refl, subst, sym, ◌∙◌}
 use Rattle.lane_map.specs.LaneNumbers.{home_lane, reactor_lane}
 use Rattle.session_script.specs.Script.{is_op}
-use Rattle.lane_context.proofs.ReactorFaultLemmas.{fault_remembered}
-use Rattle.lane_context.proofs.ReceiptLemmas.{cell_op, finds_on, finds_receipt}
-use Rattle.lane_context.proofs.ScanLemmas.{goes_on}
+use Rattle.lane_turns.proofs.ReactorFaultLemmas.{fault_remembered}
+use Rattle.lane_turns.proofs.ReceiptLemmas.{cell_op, finds_on, finds_receipt, pen_finds}
+use Rattle.lane_turns.proofs.ScanLemmas.{goes_on}
 use Rattle.lane_context.proofs.context.Context.result.Goals as goal
 
 pub returns-clause-receipt : goal.returns-clause-receipt
@@ -16,8 +16,9 @@ returns-clause-receipt g c =
     (subst (λ s. is_op s op ≡ true) (sym c.self.invariant.script) (cell_op script op c.requires.op))) in
     let home : c.home-lane.result ≡ home_lane script op =
     c.home-lane.ensures ∙ ap (λ s. home_lane s op) c.self.invariant.map in
-    finds_receipt script c.home-lane.result _ op c.find.result c.worker.inside.seat c.find.new.self
-    (omega (arith, below, home)) c.find.ensures
+    finds_receipt script c.home-lane.result _ op c.find.result c.worker.inside.seat.pen c.find.new.self.pen
+    (omega (arith, below, home))
+    (pen_finds c.home-lane.result _ op c.find.result c.worker.inside.seat c.find.new.self c.find.ensures)
 
 pub returns-clause-on : goal.returns-clause-on
 returns-clause-on g c =

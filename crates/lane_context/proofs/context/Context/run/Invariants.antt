@@ -1,6 +1,5 @@
-use Rattle.std.proofs.Common.{◌≡◌, None}
-use Rattle.lane_context.specs.Attempts.{IsSeated}
-use Rattle.lane_context.specs.Scanning.{GoesOn}
+use Rattle.lane_turns.specs.Attempts.{IsSeated}
+use Rattle.lane_turns.specs.Scanning.{GoesOn}
 use Rattle.lane_context.proofs.context.Context.run.Given as goal
 
 abbrev pub invariant-loop : goal.invariant-loop
@@ -8,5 +7,4 @@ invariant-loop g l =
     record {
       on : GoesOn l.fn.worker l.worker;
       turns : IsSeated l.self l.worker;
-      free : l.worker.kept ≡ None;
     }

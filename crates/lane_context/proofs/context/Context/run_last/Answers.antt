@@ -1,7 +1,7 @@
 use Rattle.std.proofs.Common.{◌≡◌, ◌<◌, ◌-◌, ℕ, Some, None, get_or, length, refl, subst, arith}
 use Rattle.std.specs.Prelude.{IfSome, slice_get}
 use Rattle.std.proofs.lemmas.Option.{slice_get-get_or}
-use Rattle.lane_context.specs.Attempts.{WorkerState}
+use Rattle.lane_turns.specs.Attempts.{WorkerState}
 use Rattle.lane_context.proofs.LastEndLemmas.{last_set}
 use Rattle.lane_context.proofs.context.Context.run_last.Goals as goal
 

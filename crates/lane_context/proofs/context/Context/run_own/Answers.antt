@@ -1,8 +1,8 @@
 use Rattle.std.proofs.Common.{◌≡◌, Some, ap, refl, subst, sym, ◌∙◌}
-use Rattle.lane_context.specs.Attempts.{WorkerState}
-use Rattle.lane_context.specs.Gathering.{unseated}
-use Rattle.lane_context.specs.Scanning.{numbers_of}
-use Rattle.lane_context.proofs.AllWorkersLemmas.{own_stands}
+use Rattle.lane_turns.specs.Attempts.{WorkerState}
+use Rattle.lane_turns.specs.Gathering.{unseated}
+use Rattle.lane_turns.specs.Scanning.{numbers_of}
+use Rattle.lane_turns.proofs.AllWorkersLemmas.{own_stands}
 use Rattle.lane_context.proofs.context.Context.run_own.Goals as goal
 
 pub run-end-requires : goal.run-end-requires

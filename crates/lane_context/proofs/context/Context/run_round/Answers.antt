@@ -1,33 +1,33 @@
-use Rattle.std.proofs.Common.{inr}
-use Rattle.lane_context.specs.declared.one.One.TheVariants as one
-use Rattle.lane_context.specs.LaneValues.{terms, tries}
-use Rattle.lane_context.proofs.RunLemmas.{came_last, nothing_ends}
-use Rattle.lane_context.proofs.ScanLemmas.{on_and_on}
+use Rattle.std.proofs.Common.{subst}
+use Rattle.std.specs.Prelude.{IfSome}
+use Rattle.lane_turns.specs.Attempts.{WorkerState}
+use Rattle.lane_turns.specs.LaneValues.{terms, tries}
+use Rattle.lane_turns.specs.Runs.{EndsFor}
+use Rattle.lane_turns.specs.Scanning.{GoesOn}
+use Rattle.lane_context.proofs.RunLemmas.{at_once, if_ends_on}
+use Rattle.lane_turns.proofs.ScanLemmas.{on_and_on}
 use Rattle.lane_context.proofs.context.Context.run_round.Goals as goal
 
-pub returns-in-Stopped-clause-ended : goal.returns-in-Stopped-clause-ended
-returns-in-Stopped-clause-ended g c =
+pub returns-in-Some-clause-ended : goal.returns-in-Some-clause-ended
+returns-in-Some-clause-ended g c =
     let t =
     tries (terms g.N.LaneSession.names g.H.CompletionHandler.marks g.X.Reactor.state g.X.Reactor.told g.X.Reactor.faults
     g.N.LaneSession.faults g.N.LaneSession.clock) 16 in
-    inr (came_last t c.args.self.now.lanes one.Stopped c.args.worker.now c.look_round.new.worker
-    c.in-Stopped.ensures.looked)
+    at_once t c.args.self.now.lanes c.in-Some.end c.args.worker.now c.read_first.new.worker c.in-Some.ensures.ended
 
-pub returns-in-Fault-clause-ended : goal.returns-in-Fault-clause-ended
-returns-in-Fault-clause-ended g c =
+pub returns-clause-ended : goal.returns-clause-ended
+returns-clause-ended g c =
     let t =
     tries (terms g.N.LaneSession.names g.H.CompletionHandler.marks g.X.Reactor.state g.X.Reactor.told g.X.Reactor.faults
     g.N.LaneSession.faults g.N.LaneSession.clock) 16 in
-    came_last t c.args.self.now.lanes one.Fault c.args.worker.now c.look_round.new.worker c.in-Fault.ensures.looked
+    if_ends_on t c.args.self.now.lanes c.look_once.result c.args.worker.now c.read_first.new.worker
+    c.look_once.new.worker c.in_default.ensures.on
+    (subst (λ (w : WorkerState g.row.H.Denot g.row.X.Denot).
+    IfSome c.look_once.result (λ now. EndsFor t c.args.self.now.lanes now w c.look_once.new.worker)) c.share_hints.ensures
+    c.look_once.ensures.ended)
 
-pub returns-in-Nothing-clause-ended : goal.returns-in-Nothing-clause-ended
-returns-in-Nothing-clause-ended g c =
-    let t =
-    tries (terms g.N.LaneSession.names g.H.CompletionHandler.marks g.X.Reactor.state g.X.Reactor.told g.X.Reactor.faults
-    g.N.LaneSession.faults g.N.LaneSession.clock) 16 in
-    nothing_ends t c.args.self.now.lanes c.args.worker.now c.look_round.new.worker c.settle.new.worker c.settle.result
-    c.in-Nothing.ensures.on c.in-Nothing.ensures.looked c.settle.ensures.ended
-
-pub returns-in-Nothing-clause-on : goal.returns-in-Nothing-clause-on
-returns-in-Nothing-clause-on g c =
-    on_and_on c.args.worker.now c.look_round.new.worker c.settle.new.worker c.in-Nothing.ensures.on c.settle.ensures.on
+pub returns-clause-on : goal.returns-clause-on
+returns-clause-on g c =
+    on_and_on c.args.worker.now c.read_first.new.worker c.look_once.new.worker c.in_default.ensures.on
+    (subst (λ (w : WorkerState g.row.H.Denot g.row.X.Denot). GoesOn w c.look_once.new.worker) c.share_hints.ensures
+    c.look_once.ensures.on)

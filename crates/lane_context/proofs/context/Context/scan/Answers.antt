@@ -1,8 +1,8 @@
 use Rattle.std.proofs.Common.{sym, ◌∙◌}
-use Rattle.lane_context.specs.LaneValues.{terms, tries}
-use Rattle.lane_context.specs.Scanning.{none_passed}
-use Rattle.lane_context.proofs.AttemptLemmas.{free_after, no_fault}
-use Rattle.lane_context.proofs.ScanLemmas.{passed_more}
+use Rattle.lane_turns.specs.LaneValues.{terms, tries}
+use Rattle.lane_turns.specs.Scanning.{none_passed}
+use Rattle.lane_turns.proofs.AttemptLemmas.{free_after, no_fault}
+use Rattle.lane_turns.proofs.ScanLemmas.{passed_more}
 use Rattle.lane_context.proofs.context.Context.scan.Goals as goal
 
 pub loop-lane-init : goal.loop-lane-init

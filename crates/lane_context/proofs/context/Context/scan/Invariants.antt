@@ -1,7 +1,7 @@
 use Rattle.std.proofs.Common.{◌≡◌, None}
-use Rattle.lane_context.specs.Attempts.{IsSeated}
-use Rattle.lane_context.specs.LaneValues.{terms, tries}
-use Rattle.lane_context.specs.Scanning.{HavePassed}
+use Rattle.lane_turns.specs.Attempts.{IsSeated}
+use Rattle.lane_turns.specs.LaneValues.{terms, tries}
+use Rattle.lane_turns.specs.Scanning.{HavePassed}
 use Rattle.lane_context.proofs.context.Context.scan.Given as goal
 
 abbrev pub invariant-loop-lane : goal.invariant-loop-lane

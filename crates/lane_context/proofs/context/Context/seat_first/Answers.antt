@@ -1,4 +1,4 @@
-use Rattle.lane_context.proofs.AllWorkersLemmas.{counted}
+use Rattle.lane_turns.proofs.AllWorkersLemmas.{counted}
 use Rattle.std.proofs.Common.{ap, sym, ◌∙◌}
 use Rattle.turn_table.specs.Seated.{Lanes}
 use Rattle.lane_context.proofs.SettingOutLemmas.{all_turns, fresh_free, fresh_sat, ready_first}

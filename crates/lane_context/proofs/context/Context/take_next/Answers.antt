@@ -1,5 +1,5 @@
 use Rattle.std.proofs.Common.{◌∙◌}
-use Rattle.lane_context.specs.LaneValues.{terms}
+use Rattle.lane_turns.specs.LaneValues.{terms}
 use Rattle.lane_context.proofs.GatheringLemmas.{number_is_home}
 use Rattle.lane_context.proofs.context.Context.take_next.Goals as goal
 

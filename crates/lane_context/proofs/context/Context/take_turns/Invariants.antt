@@ -1,8 +1,8 @@
 use Rattle.std.proofs.Common.{◌≡◌}
 use Rattle.std.specs.Prelude.{vec_capacity}
-use Rattle.lane_context.specs.Benches.{IsRow}
-use Rattle.lane_context.specs.Gathering.{with_turns_below}
-use Rattle.lane_context.specs.LaneOf.{seat_of}
+use Rattle.lane_turns.specs.Benches.{IsRow}
+use Rattle.lane_turns.specs.Gathering.{with_turns_below}
+use Rattle.lane_turns.specs.LaneOf.{seat_of}
 use Rattle.lane_context.proofs.context.Context.take_turns.Given as goal
 
 abbrev pub invariant-loop-lane : goal.invariant-loop-lane

@@ -1,9 +1,9 @@
 use Rattle.std.proofs.Common.{◌≤◌, None, refl, subst}
 use Rattle.std.specs.Prelude.{vec_capacity}
 use Rattle.session_script.specs.Script.{ScriptModel}
-use Rattle.lane_context.specs.LaneValues.{terms, tries}
-use Rattle.lane_context.specs.Polling.{most_made}
-use Rattle.lane_context.proofs.AttemptLemmas.{given_back, gives_kept, gives_none, had_turn}
+use Rattle.lane_turns.specs.LaneValues.{terms, tries}
+use Rattle.lane_turns.specs.Polling.{most_made}
+use Rattle.lane_turns.proofs.AttemptLemmas.{given_back, gives_kept, gives_none, had_turn}
 use Rattle.lane_context.proofs.context.Context.try_lane.Goals as goal
 
 pub returns-then-is_fault-clause-tried : goal.returns-then-is_fault-clause-tried

@@ -1,8 +1,8 @@
 use Rattle.std.proofs.Common.{subst, sym}
-use Rattle.lane_context.specs.Benches.{AreLanes}
-use Rattle.lane_context.specs.LaneOf.{seat_of}
-use Rattle.lane_context.specs.LaneValues.{terms}
-use Rattle.lane_context.proofs.MeetAllLemmas.{failure_on}
+use Rattle.lane_turns.specs.Benches.{AreLanes}
+use Rattle.lane_turns.specs.LaneOf.{seat_of}
+use Rattle.lane_turns.specs.LaneValues.{terms}
+use Rattle.lane_turns.proofs.MeetAllLemmas.{failure_on}
 use Rattle.lane_context.proofs.context.Context.try_on_bench.Goals as goal
 
 pub returns-then-hear_failure-clause-tried : goal.returns-then-hear_failure-clause-tried

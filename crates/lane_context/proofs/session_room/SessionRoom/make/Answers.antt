@@ -1,6 +1,6 @@
 use Rattle.std.proofs.Common.{ap, subst, ◌∙◌}
 use Rattle.session_script.specs.Script.{ScriptModel}
-use Rattle.lane_context.specs.SeatNumbers.{lane_count, worker_count}
+use Rattle.lane_turns.specs.SeatNumbers.{lane_count, worker_count}
 use Rattle.lane_context.specs.SessionRooms.{AreCallRooms}
 use Rattle.lane_context.proofs.session_room.SessionRoom.make.Goals as goal
 
@@ -12,6 +12,8 @@ invariant_of-result g c =
           c.requires.script
           (subst (λ n. AreCallRooms c.args.script.now n c.in_ok-calls.calls.items) c.worker_count-workers.ensures.count
           c.in_ok-calls.ensures);
+      lookouts =
+          c.in_ok-lookouts.ensures ∙ c.worker_count-workers.ensures.count ∙ ap worker_count c.requires.script;
       lanes =
           c.in-Ok-held.ensures.lanes ∙ c.lanes-count.ensures ∙ ap lane_count (c.requires.map ∙ c.requires.script);
       seats =

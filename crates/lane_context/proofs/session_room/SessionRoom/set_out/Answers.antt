@@ -1,9 +1,9 @@
 use Rattle.std.proofs.Common.{◌++◌, ◌∷◌, [], Some, length, ap, subst, sym, arith, ◌∙◌}
-use Rattle.lane_context.specs.AllWorkers.{AreReady, clock_seat}
-use Rattle.lane_context.specs.Benches.{AreWorkers}
-use Rattle.lane_context.specs.LaneValues.{reactor}
+use Rattle.lane_turns.specs.AllWorkers.{AreReady, clock_seat}
+use Rattle.lane_turns.specs.Benches.{AreWorkers}
+use Rattle.lane_turns.specs.LaneValues.{reactor}
 use Rattle.lane_context.specs.SessionRooms.{AreFresh}
-use Rattle.lane_context.proofs.AllWorkersLemmas.{all_written}
+use Rattle.lane_turns.proofs.AllWorkersLemmas.{all_written}
 use Rattle.lane_context.proofs.SettingOutLemmas.{fresh_standing, lanes_laid, rows_standing}
 use Rattle.lane_context.proofs.session_room.SessionRoom.set_out.Goals as goal
 

@@ -1,5 +1,5 @@
 use Rattle.std.proofs.Common.{refl}
-use Rattle.lane_context.proofs.ScanLemmas.{looked_on}
+use Rattle.lane_turns.proofs.ScanLemmas.{looked_on}
 use Rattle.lane_context.proofs.worker.Worker.read.Goals as goal
 
 pub returns-clause-on : goal.returns-clause-on

@@ -1,4 +1,4 @@
-use Rattle.lane_context.proofs.ReactorFaultLemmas.{fault_remembered}
+use Rattle.lane_turns.proofs.ReactorFaultLemmas.{fault_remembered}
 use Rattle.lane_context.proofs.worker_attendee.WorkerAttendee.attend.Goals as goal
 
 pub invariant_of-self : goal.invariant_of-self

@@ -1,7 +1,0 @@
-use Rattle.std.proofs.Common.{take}
-use Rattle.lane_context.specs.Opening.{called_each}
-use Rattle.lane_context.specs.Pens.{HasDrawnCalls}
-use Rattle.lane_context.proofs.opening.draw_opening.Given as goal
-
-abbrev pub invariant-loop-act : goal.invariant-loop-act
-invariant-loop-act l = HasDrawnCalls l.script (called_each (take l.act-index l.acts)) l.fn.pen l.pen

@@ -1,6 +1,0 @@
-use Rattle.lane_context.specs.Benches.{places_of}
-use Rattle.lane_context.specs.Closing.{HaveLooked}
-use Rattle.lane_context.proofs.weighing.are_empty.Given as goal
-
-abbrev pub invariant-loop-lane : goal.invariant-loop-lane
-invariant-loop-lane g l = HaveLooked l.map (places_of g.B.Attendee.place l.lanes) l.lane-index l.fn.pen l.pen
