@@ -1,5 +1,5 @@
-//! Tests of parallel groups: the scripts of groups, their limits, and which histories of them are
-//! legal. Nothing stands on it.
+//! Tests of parallel groups: the scripts of groups, their limits, which histories of them are legal,
+//! and in which order their members complete. Nothing stands on it.
 #![tactic(auto)]
 
 #[cfg(test)]
@@ -8,5 +8,7 @@ mod histories;
 mod limits;
 #[cfg(test)]
 mod making;
+#[cfg(test)]
+mod running;
 #[cfg(test)]
 mod scripts;

@@ -1,0 +1,14 @@
+//! Parallel groups, run: several operations as one, where the rest are cancelled once the group's
+//! rule is met. It promises which members completed, in which order, and why not all of them.
+#![tactic(auto)]
+
+mod law;
+mod member_task;
+mod ordering;
+mod report;
+mod running;
+mod tasks;
+
+pub use law::members_complete;
+pub use report::{GroupReport, MemberDone};
+pub use running::run_group;
