@@ -4,16 +4,7 @@
 # legal, and two have to be seen. Then the same of 2,000 random scripts, where python3 is there. Ends with 'N passed, M failed'.
 set -u
 cd "$(dirname "$0")/.." || exit 1
-room=$(mktemp -d) || exit 1
-trap 'rm -rf "$room"' EXIT
-# (BUILT names another folder than crates/ in which the programs lie.)
-for program in asio_run asio_check; do
-  # (what 'rt ci' keeps of a program may have lost the right to be run)
-  if ! install -m 755 "${BUILT:-crates}/$program/out/$program" "$room/$program"; then
-    echo "examples: $program isn't built ('rt ci' builds it, and 'rt run' in its crate's folder)"
-    exit 1
-  fi
-done
+. examples/common.sh examples asio_run asio_check
 
 # Whether the script $1 with $2 workers has a trace, which is written to $room/trace, that is legal.
 is_legal() {
@@ -34,19 +25,6 @@ passes() {
     return 0
   fi
   [ ! -f "$stored" ] || cmp -s "$room/trace" "$stored"
-}
-
-passed=0
-failed=0
-# Counts a case, which ended with status $1; the rest says what it is.
-count() {
-  if [ "$1" = 0 ]; then
-    passed=$((passed + 1))
-  else
-    failed=$((failed + 1))
-    shift
-    echo "examples: $* fails"
-  fi
 }
 
 for script in examples/*.session; do
@@ -91,5 +69,4 @@ if command -v python3 > /dev/null; then
 else
   echo "examples: random scripts are skipped, since python3 isn't here"
 fi
-echo "examples: $passed passed, $failed failed"
-[ "$failed" = 0 ]
+say_counts

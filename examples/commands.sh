@@ -5,32 +5,10 @@
 # that the line above it names. Ends with 'commands: N passed, M failed'.
 set -u
 cd "$(dirname "$0")/.." || exit 1
-room=$(mktemp -d) || exit 1
-trap 'rm -rf "$room"' EXIT
-mkdir "$room/built" "$room/tree" "$room/blocks"
-# (BUILT names another folder than crates/ in which the programs lie.)
-for program in asio_run asio_check asio_show prime_count; do
-  # (what 'rt ci' keeps of a program may have lost the right to be run)
-  if ! install -m 755 "${BUILT:-crates}/$program/out/$program" "$room/built/$program"; then
-    echo "commands: $program isn't built ('rt ci' builds it, and 'rt run' in its crate's folder)"
-    exit 1
-  fi
-done
+. examples/common.sh commands asio_run asio_check asio_show prime_count
+mkdir "$room/tree" "$room/blocks"
 git ls-files | tar -c -T - | tar -x -C "$room/tree" || exit 1
-export BUILT_IN=$room/built
-
-passed=0
-failed=0
-# Counts the test named $2, which ended with status $1; the rest says what came out.
-count() {
-  if [ "$1" = 0 ]; then
-    passed=$((passed + 1))
-  else
-    failed=$((failed + 1))
-    shift
-    echo "commands: fails: $*"
-  fi
-}
+export BUILT_IN=$room
 
 # The command rt in what the documents show: `rt run` and `rt try` run the program that was built.
 rt() {
@@ -61,7 +39,7 @@ run_command() {
 # Runs the script in the file $1. The file $2 has lines of its trace, with ' / ' for line ends; or its refusal.
 run_script() {
   local said want
-  said=$(timeout 20 "$room/built/asio_run" run < "$1" 2>&1)
+  said=$(timeout 20 "$room/asio_run" run < "$1" 2>&1)
   said=${said//$'\n'/ / }
   want=$(cat "$2" 2> "$room/none") && want=${want//$'\n'/ / }
   [[ $want == refused* ]] && want="asio_run: $want"
@@ -136,10 +114,9 @@ done < <(git grep -lE '^ */// ```rust$' -- 'crates/*.rt')
 while IFS='|' read -r _ _ _ _ example refused _; do
   example=${example//\`/}
   [[ $example == *session* ]] || continue
-  said=$(printf '%s' "${example# }" | "$room/built/asio_run" run 2>&1)
+  said=$(printf '%s' "${example# }" | "$room/asio_run" run 2>&1)
   [ "$said" = "asio_run: refused$(sed -E 's/ +$//' <<< "$refused")" ]
   count $? "$example: $said"
 done < <(grep -E '^\| [1-9] \|' docs/SCRIPT.md)
 
-echo "commands: $passed passed, $failed failed"
-[ "$failed" = 0 ]
+say_counts

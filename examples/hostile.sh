@@ -5,24 +5,13 @@
 # inside the text. Ends with 'hostile: N passed, M failed'.
 set -u
 cd "$(dirname "$0")/.." || exit 1
-room=$(mktemp -d) || exit 1
-trap 'rm -rf "$room"' EXIT
-# (BUILT names another folder than crates/ in which the programs lie.)
-for program in asio_run asio_check; do
-  # (what 'rt ci' keeps of a program may have lost the right to be run)
-  if ! install -m 755 "${BUILT:-crates}/$program/out/$program" "$room/$program"; then
-    echo "hostile: $program isn't built ('rt ci' builds it, and 'rt run' in its crate's folder)"
-    exit 1
-  fi
-done
+. examples/common.sh hostile asio_run asio_check
 run=$room/asio_run
 check=$room/asio_check
 usage_run='asio_run: usage: asio_run run [--net] | asio_run gen START SIZE | asio_run upgrade'
 usage_check='asio_check: usage: asio_check [--net]'
 limit="timeout 20"
 
-passed=0
-failed=0
 # Passes where both texts are one.
 same() {
   if [ "$2" = "$3" ]; then
@@ -228,5 +217,4 @@ if command -v strace > /dev/null && strace -o "$room/calls" true 2> /dev/null; t
 else
   echo "hostile: threads aren't refused, since there is no strace here"
 fi
-echo "hostile: $passed passed, $failed failed"
-[ "$failed" = 0 ]
+say_counts

@@ -1,6 +1,7 @@
 #!/usr/bin/env bash
 # Counts how often the programs take memory, by valgrind. A session takes its memory before the first handler runs: asio_run
-# takes it as often where the context is stopped in `open` and each handler is destroyed as where a restart lets everything run.
+# takes it as often where the context is stopped in `open` and each handler is destroyed as where a restart lets everything run,
+# but for a block of hints, which the first hint of a run takes (none of these sessions has as many as fill one).
 # A replay takes its memory before its first event: asio_check takes it as often where the first line of a trace is illegal as
 # where the whole trace is judged. Ends with 'N passed, M failed'.
 set -u
@@ -9,16 +10,7 @@ if ! command -v valgrind > /dev/null; then
   echo "memory: not counted, since there is no valgrind here"
   exit 0
 fi
-room=$(mktemp -d) || exit 1
-trap 'rm -rf "$room"' EXIT
-# (BUILT names another folder than crates/ in which the programs lie.)
-for program in asio_run asio_check; do
-  # (what 'rt ci' keeps of a program may have lost the right to be run)
-  if ! install -m 755 "${BUILT:-crates}/$program/out/$program" "$room/$program"; then
-    echo "memory: $program isn't built ('rt ci' builds it, and 'rt run' in its crate's folder)"
-    exit 1
-  fi
-done
+. examples/common.sh memory asio_run asio_check
 
 # How often the command takes memory with $room/input as its input.
 counted() {
@@ -26,8 +18,6 @@ counted() {
   grep -oE 'total heap usage: [0-9,]+ allocs' "$room/log"
 }
 
-passed=0
-failed=0
 # Passes where both counts are one, and both outputs hold what they have to.
 compare() {
   if [ -n "$2" ] && [ "$2" = "$3" ]; then
@@ -35,6 +25,22 @@ compare() {
   else
     failed=$((failed + 1))
     echo "memory: $1: '$2' differs from '$3'"
+  fi
+}
+
+# How many times the text says, as a number.
+times() {
+  local digits=${1//[!0-9]/}
+  echo "${digits:-0}"
+}
+
+# As `compare`, but the second may be one more.
+compare_hints() {
+  local more=$(( $(times "$3") - $(times "$2") ))
+  if [[ $2 == total* ]] && [ "$more" = 1 ]; then
+    compare "$1" "$3" "$3"
+  else
+    compare "$1" "$2" "$3"
   fi
 }
 
@@ -52,7 +58,7 @@ for script in examples/*.session; do
   whole=$(counted "$room/asio_run" run)
   grep -q '^ended\|^stopped' "$room/output" || whole="not run"
   grep -q '^restart' "$room/output" || whole="no restart"
-  compare "$script" "$stopped" "$whole"
+  compare_hints "$script" "$stopped" "$whole"
 done
 for trace in examples/*.trace; do
   [ "$(head -n 1 "$trace")" = "call 0" ] || continue
@@ -65,5 +71,4 @@ for trace in examples/*.trace; do
   grep -q '^illegal 1$\|^illegal.* 1$' "$room/output" || first="$(cat "$room/output")"
   compare "$trace" "$whole" "$first"
 done
-echo "memory: $passed passed, $failed failed"
-[ "$failed" = 0 ]
+say_counts

@@ -4,29 +4,7 @@
 # with 5 and a legal trace that shows the fault. Ends with 'net: N passed, M failed'.
 set -u
 cd "$(dirname "$0")/.." || exit 1
-room=$(mktemp -d) || exit 1
-trap 'rm -rf "$room"' EXIT
-# (BUILT names another folder than crates/ in which the programs lie.)
-for program in asio_run asio_check; do
-  # (what 'rt ci' keeps of a program may have lost the right to be run)
-  if ! install -m 755 "${BUILT:-crates}/$program/out/$program" "$room/$program"; then
-    echo "net: $program isn't built ('rt ci' builds it, and 'rt run' in its crate's folder)"
-    exit 1
-  fi
-done
-passed=0
-failed=0
-
-# Counts a case by its status $1; the rest says which it is.
-count() {
-  if [ "$1" = 0 ]; then
-    passed=$((passed + 1))
-  else
-    failed=$((failed + 1))
-    shift
-    echo "net: $* fails"
-  fi
-}
+. examples/common.sh net asio_run asio_check
 
 # Whether the trace of the script in $room/script is that of a legal history.
 is_legal() {
@@ -123,5 +101,4 @@ else
     count $? "a read that waits for bytes under way at uses $use"
   done
 fi
-echo "net: $passed passed, $failed failed"
-[ "$failed" = 0 ]
+say_counts

@@ -8,16 +8,7 @@ if ! command -v cc > /dev/null; then
   echo "refused_memory: nothing is refused, since there is no compiler here"
   exit 0
 fi
-room=$(mktemp -d) || exit 1
-trap 'rm -rf "$room"' EXIT
-# (BUILT names another folder than crates/ in which the programs lie.)
-for program in asio_run asio_check; do
-  # (what 'rt ci' keeps of a program may have lost the right to be run)
-  if ! install -m 755 "${BUILT:-crates}/$program/out/$program" "$room/$program"; then
-    echo "refused_memory: $program isn't built ('rt ci' builds it, and 'rt run' in its crate's folder)"
-    exit 1
-  fi
-done
+. examples/common.sh refused_memory asio_run asio_check
 cat > "$room/refuse.c" <<'CODE'
 #define _GNU_SOURCE
 #include <errno.h>
@@ -126,8 +117,6 @@ row upgrade "$room/echo.input" "$no_run" "$room/asio_run" upgrade
 row check "$room/check.input" "$no_check" "$room/asio_check"
 row check_net "$room/check.input" "$no_check" "$room/asio_check" --net
 
-passed=0
-failed=0
 for n in "${!names[@]}"; do
   if wait "${workers[$n]}"; then
     passed=$((passed + 1))
@@ -137,5 +126,4 @@ for n in "${!names[@]}"; do
     echo "refused_memory: ${names[$n]}: $(cat "$room/${names[$n]}.said")"
   fi
 done
-echo "refused_memory: $passed passed, $failed failed"
-[ "$failed" = 0 ]
+say_counts

@@ -4,26 +4,7 @@
 # them; and how far it is, is said on a terminal alone. Ends with 'N passed, M failed'.
 set -u
 cd "$(dirname "$0")/.." || exit 1
-room=$(mktemp -d) || exit 1
-trap 'rm -rf "$room"' EXIT
-for program in asio_show asio_check; do
-  if ! install -m 755 "crates/$program/out/$program" "$room/$program"; then
-    echo "show: $program isn't built ('rt ci' builds it, and 'rt run' in its crate's folder)"
-    exit 1
-  fi
-done
-
-passed=0
-failed=0
-# Counts the test named $1, which ended with status $2.
-count() {
-  if [ "$2" = 0 ]; then
-    passed=$((passed + 1))
-  else
-    failed=$((failed + 1))
-    echo "show: $1 fails"
-  fi
-}
+. examples/common.sh show asio_show asio_check
 
 # A case has three files in the room: its words, its input, and what is wanted.
 LC_ALL=C awk -v room="$room" '
@@ -48,14 +29,14 @@ says() {
 for words in "$room"/*.words; do
   case=$(basename "$words" .words)
   says "$case"
-  count "case $case of why.cases ($(sed -n 2p "$room/$case.wanted"))" $?
+  count $? "case $case of why.cases ($(sed -n 2p "$room/$case.wanted"))"
 done
 
 # Each condition of docs/LEGALITY.md has a case.
 sed -n '/^## The conditions by name/,/^## A session/s/^| `\([A-Za-z]*\)` | .*/\1/p' docs/LEGALITY.md > "$room/conditions"
 while read -r condition; do
   grep -q "^rule: [A-Za-z ]*, $condition: " examples/why.cases
-  count "that the condition $condition has a case" $?
+  count $? "that the condition $condition has a case"
 done < "$room/conditions"
 
 # Whether the picture $1 is well formed, has a title and a description, and takes nothing from elsewhere; without a parser nothing is said.
@@ -77,23 +58,22 @@ for picture in examples/*.svg; do
   session=${picture%.svg}
   { cat "$session.session"; echo "--"; cat "$session.trace"; } > "$room/input"
   "$room/asio_show" picture < "$room/input" > "$room/drawn" && cmp -s "$room/drawn" "$picture" && is_picture "$room/drawn"
-  count "$picture" $?
+  count $? "$picture"
 done
 
 # A trace of 25,601 lines, and the same with a line that is illegal behind it.
 awk -f examples/long_check.awk > "$room/long"
 "$room/asio_show" picture < "$room/long" > "$room/drawn" 2> "$room/notes" && is_picture "$room/drawn" && [ ! -s "$room/notes" ]
-count "the picture of a long trace" $?
+count $? "the picture of a long trace"
 echo "ended" >> "$room/long"
 "$room/asio_show" picture < "$room/long" > "$room/drawn" 2> "$room/notes"
 [ "$?" = 8 ] && is_picture "$room/drawn" && grep -q "illegal at line 25602" "$room/drawn" && [ ! -s "$room/notes" ]
-count "the picture of a long trace that is illegal" $?
+count $? "the picture of a long trace that is illegal"
 if command -v script > /dev/null; then
   script -qec "'$room/asio_show' picture < '$room/long' > '$room/drawn'" /dev/null < /dev/null > "$room/notes"
   grep -q "% drawn" "$room/notes"
-  count "that a terminal gets how far it is" $?
+  count $? "that a terminal gets how far it is"
 else
   echo "show: script is missing, so nothing looks whether a terminal gets how far it is"
 fi
-echo "show: $passed passed, $failed failed"
-[ "$failed" = 0 ]
+say_counts
