@@ -1,9 +1,9 @@
 //! The context without a lock: lanes that execute handlers side by side, each with a log of its own
-//! (Asio reference, io_context; Overview, "Strands: Use Threads Without Explicit Locking"). It
-//! promises that what it leaves are the logs of a session (`specs/Logs.antt`), with the reactor as
-//! they say, however many workers ran it and in whatever order; and that no call takes memory once
-//! it is made, but for hints at lanes where work is. `history_merge`, which makes one history of the
-//! logs, `op_future` and `session_run` stand on it.
+//! (Asio reference, io_context; Overview, "Strands: Use Threads Without Explicit Locking"). These are
+//! the calls that hand the turns of lanes out; what is done with a turn stands in `lane_turns`. It
+//! promises that what it leaves are the logs of a session (`AreLogs` there), with the reactor as they
+//! say, however many workers ran it and in whatever order; and that no call takes memory once it is
+//! made, but for hints at lanes where work is. `op_future` and `session_run` stand on it.
 #![tactic(auto)]
 
 mod at_rest;
