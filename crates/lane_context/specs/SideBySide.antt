@@ -1,11 +1,16 @@
 -- Workers that run at the same time (Asio reference, io_context::run).
-use Rattle.std.specs.Prelude.{◌≡◌, ℕ, ◌<◌, ◌≤◌, List, Some, slice_get}
+use Rattle.std.specs.Prelude.{◌≡◌, ℕ, ◌<◌, ◌≤◌, List, Some, length, slice_get, slice_index_or}
 use Rattle.turn_table.specs.Seated.{Lanes}
 use Rattle.lane_turns.specs.declared.run_end.RunEnd.{RunEnd}
 use Rattle.lane_turns.specs.Attempts.{IsSeated, WorkerState}
 use Rattle.lane_turns.specs.LaneValues.{Tries}
 use Rattle.lane_turns.specs.Runs.{HasRun}
 use Rattle.lane_turns.specs.Scanning.{GoesOn}
+
+-- each of these did so, and no other came or went
+pub record HaveRun {W : Type 0} (ran : W → W → Type 0) (olds news : List W) : Type 0 where
+  pub size : length news ≡ length olds
+  pub each : (k : ℕ) (d : W) → k < length olds → ran (slice_index_or olds k d) (slice_index_or news k d)
 
 module _ {H X : Type 0} (t : Tries H X) (lanes : Lanes) where
   -- a worker called `run`, and has its seat at the table

@@ -2,7 +2,7 @@
 ghost use Rattle.std.specs.Prelude.{◌≡◌, ◌<◌, ℕ, All, length, map, slice_index_or};
 ghost use Rattle.lane_turns.specs.AllWorkers.{AreReady, log_of};
 ghost use Rattle.lane_turns.specs.LaneValues.{terms, tries};
-ghost use Rattle.lane_context.specs.SideBySide.{FirstHaveRun};
+ghost use Rattle.lane_context.specs.SideBySide.{FirstHaveRun, HaveRun};
 
 use crate::context::Context;
 use crate::worker::Worker;
@@ -45,9 +45,9 @@ impl<'a, X: Reactor, H: CompletionHandler, N: LaneSession> Runner<Context<'a, X,
     }
 }
 
-/// Each of these does so, at the same time where threads can be had, and else one after another. Takes
-/// no memory; the threads are the system's.
-pub fn run_each<Rt: Threads + Wait + Sync, C: Sync, W: Runner<C> + Send>(
+/// Each of these does so: the last in the calling thread, the others each in a thread of its own where
+/// one can be had.
+fn run_with_caller<Rt: Threads + Wait + Sync, C: Sync, W: Runner<C> + Send>(
     rt: &Rt,
     context: &C,
     workers: &mut [W],
@@ -69,6 +69,68 @@ pub fn run_each<Rt: Threads + Wait + Sync, C: Sync, W: Runner<C> + Send>(
             worker.run_on(rt, context);
         },
     );
+}
+
+/// The first of these does so in a thread of its own, where one can be had; the calling thread starts it,
+/// and then the rest.
+#[cycle(starting)]
+fn start_first<Rt: Threads + Wait + Sync, C: Sync, W: Runner<C> + Send>(
+    rt: &Rt,
+    context: &C,
+    first: &mut W,
+    rest: &mut [W],
+)
+    requires may { W.may context.now first.old }
+    requires rest_may { All (λ one. W.may context.now one) rest.old }
+    ensures ran { W.ran context.now first.old first.new }
+    ensures rest_ran { HaveRun (W.ran context.now) rest.old rest.new }
+{
+    let mut first_runs = ||
+        requires { W.may context.now first.now }
+        ensures { W.ran context.entry.now first.entry.now first.exit.now }
+    { first.run_on(rt, context) };
+    let mut rest_runs = ||
+        requires { All (λ one. W.may context.now one) rest.now }
+        ensures { HaveRun (W.ran context.entry.now) rest.entry.now rest.exit.now }
+    { start_each(rt, context, rest) };
+    thread::join_mut(rt, &mut first_runs, &mut rest_runs);
+}
+
+/// Each of these does so in a thread of its own, where one can be had; the calling thread starts them, in
+/// order, and waits. While it waits its processor is free: where it ran as one of them, a thread would
+/// often begin behind it on the same one.
+#[cycle(starting)]
+fn start_each<Rt: Threads + Wait + Sync, C: Sync, W: Runner<C> + Send>(
+    rt: &Rt,
+    context: &C,
+    workers: &mut [W],
+)
+    requires may { All (λ one. W.may context.now one) workers.old }
+    ensures ran { HaveRun (W.ran context.now) workers.old workers.new }
+{
+    if let Some((first, rest)) = workers.split_first_mut() {
+        start_first(rt, context, first, rest);
+    }
+}
+
+/// Each of these does so, at the same time where threads can be had, and else one after another. Of two,
+/// the calling thread is one, which costs a start less; of more it is none. Takes no memory; the threads
+/// are the system's.
+pub fn run_each<Rt: Threads + Wait + Sync, C: Sync, W: Runner<C> + Send>(
+    rt: &Rt,
+    context: &C,
+    workers: &mut [W],
+)
+    requires may { All (λ one. W.may context.now one) workers.old }
+    ensures size { length workers.new ≡ length workers.old }
+    ensures ran { (k : ℕ) (d : W) → k < length workers.old →
+        W.ran context.now (slice_index_or workers.old k d) (slice_index_or workers.new k d) }
+{
+    if workers.len() < 3 {
+        run_with_caller(rt, context, workers);
+    } else {
+        start_each(rt, context, workers);
+    }
 }
 
 /// The first of these workers, so many, each call `run`.
