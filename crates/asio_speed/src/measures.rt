@@ -4,6 +4,7 @@ use crate::{
     adds, cells, channel, copies, draws, histories, messages, pairs, proactor, replay, sessions,
     sockets, turns,
 };
+use session_run::ContextKind;
 use std::alloc::Global;
 use std::net::Net;
 use std::rt::Clock;
@@ -45,7 +46,8 @@ pub(crate) fn measured<R: Clock + CpuClock + Net + Threads + Wait + Copy + Sync>
         "pairs" => pairs::read(rt, alloc, first, second),
         "replay" => replay::replayed(rt, alloc, first, second),
         "proactor" => proactor::completed(rt, alloc, first, second),
-        "sessions" => sessions::sessions(rt, alloc, first, second),
+        "sessions" => sessions::sessions(rt, alloc, ContextKind::WithoutLock, first, second),
+        "locked_sessions" => sessions::sessions(rt, alloc, ContextKind::OneLock, first, second),
         _ => of_threads(rt, alloc, measure, first, second),
     }
 }

@@ -10,7 +10,7 @@ use crate::stopwatch::{Measured, Stopwatch};
 use asio_types::{NoMemory, Sink, Source, SureSink, SureSource};
 use op_handlers::{CompletionHandler, Rack};
 use reactor_trait::{Reactor, SilentReactor};
-use session_run::{Status, asio_session};
+use session_run::{ContextKind, Status, asio_session, book_session};
 use session_script::MOST_ACTS;
 use std::alloc::Global;
 use std::rt::Clock;
@@ -24,7 +24,8 @@ const ROOM: u32 = 1_048_576;
 /// More bytes than a note has.
 const NOTE_ROOM: u32 = 256;
 
-/// A session. What is promised of it stays here, since a caller that knew it would be dear to prove.
+/// A session on this kind of context. What is promised of it stays here, since a caller that knew it
+/// would be dear to prove.
 fn call_session<
     R: Threads + Wait + Sync,
     S: Source,
@@ -35,6 +36,7 @@ fn call_session<
 >(
     rt: &R,
     alloc: Global,
+    kind: ContextKind,
     words: &[String],
     source: &mut S,
     out: &mut K,
@@ -45,7 +47,14 @@ fn call_session<
     requires whole { IsWholeRack rack.old }
     requires count { length (handlers_in rack.old) ≡ most_acts }
 {
-    let (status, _) = asio_session(rt, alloc, words, source, out, notes, reactor, rack);
+    let (status, _) = match kind {
+        ContextKind::WithoutLock => {
+            asio_session(rt, alloc, words, source, out, notes, reactor, rack)
+        }
+        ContextKind::OneLock => {
+            book_session(rt, alloc, words, source, out, notes, reactor, rack)
+        }
+    };
     status
 }
 
@@ -61,6 +70,7 @@ fn ended<R: Clock + CpuClock>(
 fn session<R: Clock + CpuClock + Threads + Wait + Sync>(
     rt: &R,
     alloc: Global,
+    kind: ContextKind,
     words: &[String],
     text: &str,
 ) -> Result<Measured, Failure> {
@@ -73,6 +83,7 @@ fn session<R: Clock + CpuClock + Threads + Wait + Sync>(
     let status = call_session(
         rt,
         alloc,
+        kind,
         words,
         &mut source,
         &mut out,
@@ -94,11 +105,12 @@ fn words_of(alloc: Global) -> Result<Vec<String>, NoMemory> {
     Ok(Vec::from_array(alloc, [run])?)
 }
 
-/// `sessions WORKERS TIMES`: so many sessions of 4,096 postings over 64 strands, with so many
-/// workers each, from the text to the trace. A step is a session.
+/// `sessions WORKERS TIMES`, `locked_sessions WORKERS TIMES`: so many sessions of 4,096 postings over 64
+/// strands, with so many workers each, from the text to the trace. A step is a session.
 pub(crate) fn sessions<R: Clock + CpuClock + Threads + Wait + Sync>(
     rt: &R,
     alloc: Global,
+    kind: ContextKind,
     workers: u32,
     times: u32,
 ) -> Result<Measured, Failure> {
@@ -109,7 +121,7 @@ pub(crate) fn sessions<R: Clock + CpuClock + Threads + Wait + Sync>(
     let words = words_of(alloc)?;
     let mut done = Measured::none();
     for _ in 0..times {
-        done.add(session(rt, alloc, words.as_slice(), text.as_str())?);
+        done.add(session(rt, alloc, kind, words.as_slice(), text.as_str())?);
     }
     Ok(done)
 }
