@@ -205,13 +205,13 @@ for name in "${batches[@]}"; do
   same "the inputs $name" "$(tail -n 3 "$room/$name.said")" "done"
 done
 
-# Threads: sixteen workers are fifteen threads more, and where none can be had the session is whole all the same.
+# Threads: sixteen workers are sixteen threads more, and where none can be had the session is whole all the same.
 if command -v strace > /dev/null && strace -o "$room/calls" true 2> /dev/null; then
   awk 'BEGIN { printf "session 1 open {"; for (n = 0; n < 64; n++) printf " post - { }"; print " } run 16" }' > "$room/busy"
   $limit strace -f -o "$room/calls" -e trace=clone,clone3 "$run" run < "$room/busy" > "$room/trace"
-  same "threads" "$? $(grep -cE 'clone3?\(' "$room/calls")" "0 15"
+  same "threads" "$? $(grep -cE 'clone3?\(' "$room/calls")" "0 16"
   $limit strace -f -o "$room/calls" -e trace=clone,clone3 -e inject=clone,clone3:error=EAGAIN "$run" run < "$room/busy" > "$room/trace"
-  same "no threads" "$? $(grep -c INJECTED "$room/calls")" "0 15"
+  same "no threads" "$? $(grep -c INJECTED "$room/calls")" "0 16"
   { cat "$room/busy"; echo "--"; cat "$room/trace"; } > "$room/input"
   same "no threads, the trace" "$($limit "$check" < "$room/input")" legal
 else
