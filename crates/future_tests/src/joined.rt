@@ -6,6 +6,7 @@ ghost use Rattle.history_merge.specs.Room.{most_merged};
 ghost use Rattle.lane_turns.specs.AllWorkers.{AreCuts, AreReady};
 ghost use Rattle.lane_turns.specs.Finishing.{IsOver};
 ghost use Rattle.lane_turns.specs.Logs.{session_layout};
+ghost use Rattle.op_future.specs.SeatedWorkers.{IsReadyAs};
 ghost use Rattle.op_future.specs.Sessions.{HasOneRun};
 ghost use Rattle.op_handlers.specs.Rack.{IsWholeRack, handlers_in};
 ghost use Rattle.proactor_core.specs.Proactor.{tells};
@@ -15,16 +16,16 @@ ghost use Rattle.session_script.specs.Limits.{most_acts};
 
 use crate::listed::Listed;
 use crate::looking::{Lookout, looking_rack};
-use crate::polled::{Blocked, block};
-use crate::seated::{Seat, Turns};
 use crate::sessions::NOBODY;
 use asio_types::{Code, OpNo};
+use futures::executor::block_on;
+use futures::future::join;
 use history_book::History;
 use history_merge::{HistoryRoom, merge};
 use lane_context::{Context, Parts, Worker, Workers, WorkersApart};
 use lane_map::LaneMap;
 use lane_turns::{LaneSession, Receipt};
-use op_future::{Task, TaskEnd, has_one_run};
+use op_future::{LanesNamed, SeatedWorker, Task, TaskEnd, TaskFuture, has_one_run};
 use op_handlers::{CompletionHandler, Rack};
 use reactor_script::ScriptReactor;
 use reactor_trait::Reactor;
@@ -77,6 +78,20 @@ struct Joined<'a, X: Reactor, H: CompletionHandler, N: LaneSession> {
     ends: (TaskEnd, TaskEnd),
 }
 
+/// The worker again, which still has this number.
+fn leave_as<'a, R: Abort, X: Reactor, H: CompletionHandler, N: LaneSession, L: LanesNamed>(
+    rt: &R,
+    seated: SeatedWorker<'a, X, H, N, L>,
+    number: usize,
+) -> Worker<'a, X, H, N>
+    ensures ready { IsReadyAs N.names.script L.lanes number result }
+{
+    if seated.number() != number {
+        panic!(rt; "another worker");
+    }
+    seated.leave()
+}
+
 /// An executor polls a task for each worker but the caller's own.
 fn run_joined<'a, R, X, H, N, L, T>(
     rt: &R,
@@ -90,7 +105,7 @@ where
     X: Reactor,
     H: CompletionHandler,
     N: LaneSession,
-    L: Turns,
+    L: LanesNamed,
     T: Task,
     requires lanes { context.now ≡ L.lanes }
     requires ready { AreReady N.names.script context.now workers.all }
@@ -105,15 +120,15 @@ where
         own,
         mut rest,
     } = three_of(all);
-    let first = Seat::<X, H, N, L>::of(first, 0);
-    let second = Seat::<X, H, N, L>::of(second, 1);
-    let Blocked {
-        first,
-        second,
-        ends,
-    } = block(rt, context, first, second, one, other);
-    rest.push_reserved(first.leave(rt, 0));
-    rest.push_reserved(second.leave(rt, 1));
+    let mut first = SeatedWorker::<X, H, N, L>::of(first, 0);
+    let mut second = SeatedWorker::<X, H, N, L>::of(second, 1);
+    let both = join(
+        TaskFuture::of(context, &mut first, one),
+        TaskFuture::of(context, &mut second, other),
+    );
+    let ends = block_on(rt, both).expect(rt, "an executor");
+    rest.push_reserved(leave_as(rt, first, 0));
+    rest.push_reserved(leave_as(rt, second, 1));
     rest.push_reserved(own);
     Joined {
         workers: Workers::together(WorkersApart { all: rest, opener }),

@@ -9,10 +9,6 @@ mod listed;
 #[cfg(test)]
 mod looking;
 #[cfg(test)]
-mod polled;
-#[cfg(test)]
 mod rows;
-#[cfg(test)]
-mod seated;
 #[cfg(test)]
 mod sessions;
