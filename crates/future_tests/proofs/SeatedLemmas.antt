@@ -1,31 +1,13 @@
--- A worker has its seats behind each step of a task, and then all have theirs.
+-- All workers have their seats behind the polls of an executor.
 use Rattle.std.proofs.Common.{◌≡◌, ◌∙◌, ℕ, zero, suc, List, [], ◌∷◌, ◌++◌, Some, ap, arith, length, length-append, subst, sym}
 use Rattle.std.specs.Prelude.{slice_get}
 use Rattle.std.proofs.lemmas.List.{nil_from_length}
 use Rattle.session_script.specs.Script.{ScriptModel}
 use Rattle.turn_table.specs.Seated.{Lanes}
 use Rattle.lane_turns.specs.AllWorkers.{AreReady}
-use Rattle.lane_turns.specs.Attempts.{IsSeated, WorkerState}
-use Rattle.lane_turns.specs.Scanning.{GoesOn, numbers_of}
+use Rattle.lane_turns.specs.Attempts.{WorkerState}
 use Rattle.lane_turns.specs.SeatNumbers.{worker_count}
-use Rattle.future_tests.specs.Seated.{IsReadyAs}
-
-module _ {H X : Type 0} (script : ScriptModel) (lanes : Lanes) (number : ℕ) where
-  pub is_seated : (one : WorkerState H X) → IsReadyAs script lanes number one → IsSeated lanes one
-  is_seated one ready = record { seat = ready.seat.seat; is = ready.seat.is; fits = ready.seat.fits }
-
-  pub went_on : (old new : WorkerState H X) → IsReadyAs script lanes number old → GoesOn old new → IsSeated lanes new →
-      IsReadyAs script lanes number new
-  went_on old new ready on seated =
-      record {
-        row = on.seat.number ∙ ready.row;
-        seat = record {
-          seat = seated.seat;
-          is = seated.is;
-          fits = seated.fits;
-          sole = sym (ap numbers_of seated.is) ∙ (on.numbers ∙ (ap numbers_of ready.seat.is ∙ ready.seat.sole));
-        };
-      }
+use Rattle.op_future.specs.SeatedWorkers.{IsReadyAs}
 
 -- three were taken from a list, the last first
 module _ {A : Type 0} (all two one none : List A) (first second own : A) (is : all ≡ two ++ own ∷ [])
@@ -51,11 +33,6 @@ pushed none one two all first second own empty is then last =
     ∙ ap (λ xs. xs ++ own ∷ []) (then ∙ ap (λ xs. xs ++ second ∷ []) (is ∙ ap (λ xs. xs ++ first ∷ []) empty))
 
 module _ {H X : Type 0} (script : ScriptModel) (lanes : Lanes) where
-  pub ready_at : (all : List (WorkerState H X)) → AreReady script lanes all → (k : ℕ) (one : WorkerState H X) →
-      slice_get all k ≡ Some one → IsReadyAs script lanes k one
-  ready_at all ready k one at =
-      record { row = ready.rows.numbers k one at; seat = ready.seats.each k one at }
-
   -- each of three has its seats
   pub three_ready : (a b c : WorkerState H X) → worker_count script ≡ 3 → lanes.seats ≡ 3 → IsReadyAs script lanes 0 a →
       IsReadyAs script lanes 1 b → IsReadyAs script lanes 2 c → AreReady script lanes (a ∷ b ∷ c ∷ [])

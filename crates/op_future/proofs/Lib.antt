@@ -1,9 +1,11 @@
 pub mod EndLemmas
+pub mod FutureLemmas
 pub mod GatheredLemmas
 pub mod GotLemmas
 pub mod HaveGotLemmas
 pub mod RestLemmas
 pub mod RoundLemmas
+pub mod SeatedWorkerLemmas
 pub mod SeatLemmas
 pub mod SessionLemmas
 pub mod StepLemmas

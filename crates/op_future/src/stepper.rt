@@ -13,6 +13,7 @@ use reactor_trait::Reactor;
 /// may borrow a type that says more of its worker than that it is one.
 pub trait Stepper<C> {
     ghost use Rattle.std.specs.Prelude.{Option};
+    ghost use Rattle.op_future.specs.declared.task_end.TaskEnd.{TaskEnd};
     ghost use Rattle.op_future.specs.Tasks.{TaskState};
 
     /// It may make a step.

@@ -1,8 +1,9 @@
 use Rattle.std.proofs.Common.{◌∙◌, ap, subst, sym}
 use Rattle.std.specs.Prelude.{slice_get}
 use Rattle.lane_turns.specs.AllWorkers.{AreReady}
-use Rattle.future_tests.specs.Seated.{IsReadyAs}
-use Rattle.future_tests.proofs.SeatedLemmas.{pushed, ready_at, three_ready}
+use Rattle.op_future.specs.SeatedWorkers.{IsReadyAs}
+use Rattle.op_future.proofs.SeatedWorkerLemmas.{ready_at}
+use Rattle.future_tests.proofs.SeatedLemmas.{pushed, three_ready}
 use Rattle.future_tests.proofs.joined.run_joined.Goals as goal
 
 pub of-first-requires : goal.of-first-requires
@@ -37,11 +38,11 @@ returns-clause-ready g c =
     let three = sym c.apart-all.ensures.all ∙ c.three_of-first.ensures.all in
     let back =
     pushed c.three_of-first.result.rest.items c.push_reserved.new.self.items c.push_reserved-2.new.self.items
-    c.push_reserved-3.new.self.items c.leave.result c.leave-2.result own c.three_of-first.ensures.none
+    c.push_reserved-3.new.self.items c.leave_as.result c.leave_as-2.result own c.three_of-first.ensures.none
     c.push_reserved.ensures.items c.push_reserved-2.ensures.items c.push_reserved-3.ensures.items in
     subst (λ all. AreReady script lanes all) (sym (c.together.ensures.all ∙ back))
-    (three_ready script lanes c.leave.result c.leave-2.result own (sym c.requires.ready.rows.size ∙ c.requires.three)
+    (three_ready script lanes c.leave_as.result c.leave_as-2.result own (sym c.requires.ready.rows.size ∙ c.requires.three)
     (sym c.requires.ready.seats.size ∙ c.requires.three)
-    (subst (λ l. IsReadyAs script l 0 c.leave.result) (sym c.requires.lanes) c.leave.ensures.ready)
-    (subst (λ l. IsReadyAs script l 1 c.leave-2.result) (sym c.requires.lanes) c.leave-2.ensures.ready)
+    (subst (λ l. IsReadyAs script l 0 c.leave_as.result) (sym c.requires.lanes) c.leave_as.ensures.ready)
+    (subst (λ l. IsReadyAs script l 1 c.leave_as-2.result) (sym c.requires.lanes) c.leave_as-2.ensures.ready)
     (ready_at script lanes c.args.workers.all c.requires.ready 2 own (ap (λ all. slice_get all 2) three)))
