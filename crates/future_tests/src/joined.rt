@@ -6,6 +6,7 @@ ghost use Rattle.history_merge.specs.Room.{most_merged};
 ghost use Rattle.lane_turns.specs.AllWorkers.{AreCuts, AreReady};
 ghost use Rattle.lane_turns.specs.Finishing.{IsOver};
 ghost use Rattle.lane_turns.specs.Logs.{session_layout};
+ghost use Rattle.op_future.specs.Futures.{MayEnd};
 ghost use Rattle.op_future.specs.SeatedWorkers.{IsReadyAs};
 ghost use Rattle.op_future.specs.Sessions.{HasOneRun};
 ghost use Rattle.op_handlers.specs.Rack.{IsWholeRack, handlers_in};
@@ -112,6 +113,8 @@ where
     requires three { length workers.all ≡ 3 }
     ensures ready { AreReady N.names.script context.now result.workers.all }
     ensures opener { result.workers.opener ≡ workers.entry.opener }
+    ensures end { MayEnd N.names.script result.ends.0 }
+    ensures other_end { MayEnd N.names.script result.ends.1 }
 {
     let WorkersApart { all, opener } = workers.apart();
     let Three {
