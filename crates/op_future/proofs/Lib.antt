@@ -1,5 +1,4 @@
 pub mod EndLemmas
-pub mod FutureLemmas
 pub mod GatheredLemmas
 pub mod GotLemmas
 pub mod HaveGotLemmas
