@@ -97,8 +97,7 @@ fn start_first<Rt: Threads + Wait + Sync, C: Sync, W: Runner<C> + Send>(
 }
 
 /// Each of these does so in a thread of its own, where one can be had; the calling thread starts them, in
-/// order, and waits. While it waits its processor is free: where it ran as one of them, a thread would
-/// often begin behind it on the same one.
+/// order, and waits. Where it ran as one of them, a new thread often got no processor for milliseconds.
 #[cycle(starting)]
 fn start_each<Rt: Threads + Wait + Sync, C: Sync, W: Runner<C> + Send>(
     rt: &Rt,
