@@ -1,0 +1,4 @@
+pub mod AtLemmas
+pub mod StayLemmas
+pub mod HeldLemmas
+pub mod RuleLemmas

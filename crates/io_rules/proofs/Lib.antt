@@ -1,0 +1,14 @@
+pub mod AloneLemmas
+pub mod ExampleLemmas
+pub mod FitLemmas
+pub mod LaneLemmas
+pub mod MoveLemmas
+pub mod OnceLemmas
+pub mod OrderLemmas
+pub mod RoomLemmas
+pub mod ShareLemmas
+pub mod StageLemmas
+pub mod StopLemmas
+pub mod StrandLemmas
+pub mod StrandStateLemmas
+pub mod TotalLemmas
