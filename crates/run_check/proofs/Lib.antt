@@ -1,0 +1,10 @@
+pub mod CountLemmas
+pub mod QueueLemmas
+pub mod TestLemmas
+pub mod StackLemmas
+pub mod RuleLemmas
+pub mod JudgeLemmas
+pub mod EntryLemmas
+pub mod FollowLemmas
+pub mod QueuedLemmas
+pub mod StepLemmas

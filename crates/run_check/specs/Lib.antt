@@ -1,0 +1,15 @@
+pub mod Counts
+pub mod Entered
+pub mod LastCalls
+pub mod Judging
+pub mod Marks
+pub mod Queues
+pub mod Stacks
+pub mod Strands
+pub mod Takings
+pub mod Waiting
+pub mod After
+pub mod Beginning
+pub mod Following
+pub mod Called
+pub mod Steps

@@ -1,0 +1,13 @@
+pub mod BadLine
+pub mod Code
+pub mod Entry
+pub mod Letters
+pub mod Line
+pub mod LineText
+pub mod Name
+pub mod Number
+pub mod Reading
+pub mod Run
+pub mod Verb
+pub mod Word
+pub mod Words

@@ -1,0 +1,5 @@
+pub mod CallsLemmas
+pub mod SpentLemmas
+pub mod StrandLemmas
+pub mod TakingLemmas
+pub mod VerdictLemmas

@@ -1,0 +1,10 @@
+pub mod Stacks
+pub mod Calls
+pub mod Entries
+pub mod Takings
+pub mod Starting
+pub mod MayCome
+pub mod Breaks
+pub mod Legal
+pub mod Verdicts
+pub mod Laws
