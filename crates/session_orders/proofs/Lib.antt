@@ -1,0 +1,4 @@
+pub mod ComeLemmas
+pub mod PassedLemmas
+pub mod PlaceLemmas
+pub mod SizeLemmas

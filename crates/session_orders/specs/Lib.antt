@@ -1,0 +1,4 @@
+pub mod Listed
+pub mod Order
+pub mod Place
+pub mod Walk

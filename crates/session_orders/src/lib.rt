@@ -1,0 +1,17 @@
+//! All legal whole histories of a script whose bytes are told. It promises
+//! that each history that it lists is legal and whole, that none is listed twice, and that where it
+//! says that they are all, none is left out. Left out are stops from outside, which may come any
+//! number of times, and, unless they are asked for, failures of the reactor. Whoever asks what a
+//! session may do stands on it.
+#![tactic(auto)]
+
+mod advance;
+mod bounds;
+mod listing;
+mod orders;
+mod place;
+mod walk;
+
+pub use bounds::Bounds;
+pub use listing::list_orders;
+pub use orders::Orders;
