@@ -65,17 +65,20 @@ fn session_of<R: Clock + CpuClock + Threads + Wait + Sync>(
     took
 }
 
-/// The kind of context and the shape that a word names: `locked_` stands before the shape where there
-/// is one lock.
+/// The kind of context and the shape that a word names: before the shape stands `locked_` for the one
+/// with a lock, `lanes_` for the one without, and nothing for what a session chooses by its workers.
 fn named(word: &str) -> Option<(ContextKind, Shape)> {
-    match word.strip_prefix("locked_") {
-        Some(shape) => Some((ContextKind::OneLock, Shape::named(shape)?)),
-        None => Some((ContextKind::WithoutLock, Shape::named(word)?)),
+    if let Some(shape) = word.strip_prefix("locked_") {
+        return Some((ContextKind::OneLock, Shape::named(shape)?));
     }
+    if let Some(shape) = word.strip_prefix("lanes_") {
+        return Some((ContextKind::WithoutLock, Shape::named(shape)?));
+    }
+    Some((ContextKind::Hinted, Shape::named(word)?))
 }
 
-/// `SHAPE ACTS WORKERS`, `locked_SHAPE ACTS WORKERS`: sessions of so many acts of this shape, with so
-/// many workers each, from the script in memory to the history. A step is a handler.
+/// `SHAPE ACTS WORKERS`, `locked_SHAPE ..`, `lanes_SHAPE ..`: sessions of so many acts of this shape,
+/// with so many workers each, from the script in memory to the history. A step is a handler.
 pub(crate) fn histories<R: Clock + CpuClock + Threads + Wait + Sync>(
     rt: &R,
     alloc: Global,

@@ -46,7 +46,7 @@ pub(crate) fn measured<R: Clock + CpuClock + Net + Threads + Wait + Copy + Sync>
         "pairs" => pairs::read(rt, alloc, first, second),
         "replay" => replay::replayed(rt, alloc, first, second),
         "proactor" => proactor::completed(rt, alloc, first, second),
-        "sessions" => sessions::sessions(rt, alloc, ContextKind::WithoutLock, first, second),
+        "sessions" => sessions::sessions(rt, alloc, ContextKind::Hinted, first, second),
         "locked_sessions" => sessions::sessions(rt, alloc, ContextKind::OneLock, first, second),
         _ => of_threads(rt, alloc, measure, first, second),
     }

@@ -48,7 +48,7 @@ fn call_session<
     requires count { length (handlers_in rack.old) ≡ most_acts }
 {
     let (status, _) = match kind {
-        ContextKind::WithoutLock => {
+        ContextKind::Hinted | ContextKind::WithoutLock => {
             asio_session(rt, alloc, words, source, out, notes, reactor, rack)
         }
         ContextKind::OneLock => {

@@ -14,17 +14,17 @@ use Rattle.session_script.proofs.PlacingLemmas.{has_parent}
 use Rattle.strand_core.specs.Execution.{AnyMark, AreCalls, IsWholeExecution, no_act, outside, inside, events_of, execution_of}
 use Rattle.strand_core.specs.declared.posted.Posted.{Posted}
 use Rattle.strand_core.specs.declared.posted.Posted.TheVariants as posted
+use Rattle.execution_laws.specs.Called.{is_called}
+use Rattle.execution_laws.proofs.ActsCalledLemmas.{first_called, later_called}
+use Rattle.execution_laws.proofs.ApartLemmas.{IsOf, apart, called_from}
+use Rattle.execution_laws.proofs.BodyLemmas.{Follows, behind_here, follows-all, follows-next, follows-rest, not_again, only_here}
+use Rattle.execution_laws.proofs.CalledLemmas.{called-append, called-execution}
+use Rattle.execution_laws.proofs.EventLemmas.{events-append}
+use Rattle.execution_laws.proofs.InsideLemmas.{behind-more}
+use Rattle.execution_laws.proofs.PlaceLemmas.{behind_it, within_script}
+use Rattle.execution_laws.proofs.ScriptLemmas.{inline_no_stop}
+use Rattle.execution_laws.proofs.StateLemmas.{IsBehind, acts_in}
 use Rattle.book_context.specs.Bound.{most_events}
-use Rattle.book_context.specs.Called.{is_called}
-use Rattle.book_context.proofs.ActsCalledLemmas.{first_called, later_called}
-use Rattle.book_context.proofs.ApartLemmas.{IsOf, apart, called_from}
-use Rattle.book_context.proofs.BodyLemmas.{Follows, behind_here, follows-all, follows-next, follows-rest, not_again, only_here}
-use Rattle.book_context.proofs.CalledLemmas.{called-append, called-execution}
-use Rattle.book_context.proofs.EventLemmas.{events-append}
-use Rattle.book_context.proofs.InsideLemmas.{behind-more}
-use Rattle.book_context.proofs.PlaceLemmas.{behind_it, within_script}
-use Rattle.book_context.proofs.ScriptLemmas.{inline_no_stop}
-use Rattle.book_context.proofs.StateLemmas.{IsBehind, acts_in}
 use Rattle.reactor_turns.proofs.SummingLemmas.{one_if, summed, summed-less, weigh, weigh-either, weigh-more, weigh-same}
 
 -- the events of a call

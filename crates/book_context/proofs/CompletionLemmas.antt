@@ -19,15 +19,15 @@ use Rattle.history_rules.specs.declared.phase.ActPhase.TheVariants as phase
 use Rattle.history_rules.specs.declared.phase.ActState.{ActState}
 use Rattle.history_rules.specs.declared.phase.CallPhase.TheVariants as call
 use Rattle.history_rules.specs.declared.phase.Cause.TheVariants as cause
-use Rattle.book_context.specs.Order.{IsKept, IsOrderly, has_begun}
-use Rattle.book_context.specs.Ready.{AreReady, AreUntaken, IsCallPast, IsCausePast, IsDated, asked_at, is_ready, ready_at, ready_since}
-use Rattle.book_context.specs.Rest.{IsAtRest, waits_inside}
-use Rattle.book_context.proofs.CountLemmas.{one_more-is}
-use Rattle.book_context.proofs.KeptLemmas.{cause_later, ready_past}
-use Rattle.book_context.proofs.MovesLemmas.{past_later}
-use Rattle.book_context.proofs.RestLemmas.{at_each, is_within}
-use Rattle.book_context.proofs.RisingLemmas.{any-left}
-use Rattle.book_context.proofs.StateLemmas.{act_at-other, act_at-same, length-acts}
+use Rattle.execution_laws.specs.Order.{IsKept, IsOrderly, has_begun}
+use Rattle.execution_laws.specs.Ready.{AreReady, AreUntaken, IsCallPast, IsCausePast, IsDated, asked_at, is_ready, ready_at, ready_since}
+use Rattle.execution_laws.specs.Rest.{IsAtRest, waits_inside}
+use Rattle.execution_laws.proofs.CountLemmas.{one_more-is}
+use Rattle.execution_laws.proofs.KeptLemmas.{cause_later, ready_past}
+use Rattle.execution_laws.proofs.MovesLemmas.{past_later}
+use Rattle.execution_laws.proofs.RestLemmas.{at_each, is_within}
+use Rattle.execution_laws.proofs.RisingLemmas.{any-left}
+use Rattle.execution_laws.proofs.StateLemmas.{act_at-other, act_at-same, length-acts}
 use Rattle.reactor_turns.proofs.TakenLemmas.{done-taken}
 
 module _ (script : ScriptModel) (told : Bool) (s : State) (op : ℕ) (given : Code) (size : ℕ)

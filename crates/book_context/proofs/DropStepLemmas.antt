@@ -15,16 +15,16 @@ use Rattle.history_rules.specs.declared.phase.ActPhase.TheVariants as phase
 use Rattle.history_rules.specs.declared.phase.ActState.{ActState}
 use Rattle.history_rules.specs.declared.phase.CallPhase.{CallPhase}
 use Rattle.history_rules.specs.declared.phase.CallPhase.TheVariants as call
+use Rattle.execution_laws.specs.Kinds.{is_accepted, is_spent, was_called}
+use Rattle.execution_laws.specs.Rest.{waits_inside}
+use Rattle.execution_laws.proofs.RestLemmas.{at_each, is_within}
+use Rattle.execution_laws.proofs.StateLemmas.{act_at-other, act_at-same, length-acts}
 use Rattle.book_context.specs.DropSteps.{DropsTo, HasDropped, IsDoneWith, IsDropping, is_unspent_at, unspent_count}
-use Rattle.book_context.specs.Kinds.{is_accepted, is_spent, was_called}
 use Rattle.book_context.specs.Left.{act_left, act_left_at, phase_left}
 use Rattle.book_context.specs.Recorded.{IsRecorded, is_spent_at, recorded_state}
 use Rattle.book_context.specs.Recording.{Recording, with_event}
-use Rattle.book_context.specs.Rest.{waits_inside}
 use Rattle.book_context.proofs.LeftLemmas.{left-parts}
 use Rattle.book_context.proofs.PartLemmas.{history_goes_on, state_goes_on}
-use Rattle.book_context.proofs.RestLemmas.{at_each, is_within}
-use Rattle.book_context.proofs.StateLemmas.{act_at-other, act_at-same, length-acts}
 use Rattle.reactor_turns.proofs.SummingLemmas.{one_if, summed, summed-apart, summed-less, summed-range}
 
 -- an accepted operation at rest is unspent or spent

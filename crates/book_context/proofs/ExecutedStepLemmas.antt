@@ -23,32 +23,32 @@ use Rattle.history_rules.specs.declared.phase.ActPhase.{ActPhase}
 use Rattle.history_rules.specs.declared.phase.ActPhase.TheVariants as phase
 use Rattle.history_rules.specs.declared.phase.ActState.{ActState}
 use Rattle.history_rules.specs.declared.phase.CallPhase.TheVariants as call
-use Rattle.book_context.specs.Accounted.{IsAccounted}
-use Rattle.book_context.specs.Called.{are_stopping, is_called, settled_phase}
-use Rattle.book_context.specs.Executed.{IsLegalExecution}
-use Rattle.book_context.specs.Kinds.{AreOfKind, is_accepted, is_spent, was_called}
+use Rattle.execution_laws.specs.Accounted.{IsAccounted}
+use Rattle.execution_laws.specs.Called.{are_stopping, is_called, settled_phase}
+use Rattle.execution_laws.specs.Executed.{IsLegalExecution}
+use Rattle.execution_laws.specs.Kinds.{AreOfKind, is_accepted, is_spent, was_called}
+use Rattle.execution_laws.specs.Order.{IsKept, has_begun, postings_of, requests_of}
+use Rattle.execution_laws.specs.Ready.{is_ready}
+use Rattle.execution_laws.proofs.AccountedLemmas.{account_execution, same_pending, did as legally}
+use Rattle.execution_laws.proofs.CalledLemmas.{called-append, called-execution}
+use Rattle.execution_laws.proofs.CountingLemmas.{counted-most}
+use Rattle.execution_laws.proofs.ExecutedLemmas.{is_order_kept}
+use Rattle.execution_laws.proofs.FreeLemmas.{free_executed, free_may_start}
+use Rattle.execution_laws.proofs.KeptLemmas.{before_uncalled}
+use Rattle.execution_laws.proofs.RestLemmas.{is_within}
+use Rattle.execution_laws.proofs.WorkLemmas.{ready_count, request_count}
 use Rattle.reactor_turns.specs.Ahead.{one_unless}
 use Rattle.book_context.specs.Left.{act_left, act_left_at, events_left, phase_left, rounds_left}
-use Rattle.book_context.specs.Order.{IsKept, has_begun, postings_of, requests_of}
-use Rattle.book_context.specs.Ready.{is_ready}
 use Rattle.book_context.specs.Recorded.{IsRecorded, Knows, recorded_state}
 use Rattle.book_context.specs.Recording.{Recording, marked}
 use Rattle.book_context.specs.Steps.{ExecutionIsRecorded, IsRoundOpen, MayExecute, executed_recording}
-use Rattle.book_context.proofs.AccountedLemmas.{account_execution, same_pending, did as legally}
 use Rattle.book_context.proofs.BoundLemmas.{bounded_body, execution_events, shown_by}
-use Rattle.book_context.proofs.CalledLemmas.{called-append, called-execution}
-use Rattle.book_context.proofs.CountingLemmas.{counted-most}
-use Rattle.book_context.proofs.ExecutedLemmas.{is_order_kept}
-use Rattle.book_context.proofs.FreeLemmas.{free_executed, free_may_start}
-use Rattle.book_context.proofs.KeptLemmas.{before_uncalled}
 use Rattle.book_context.proofs.KindLemmas.{settled_accepted, settled_inline, settled_left, settled_other, settled_spent}
 use Rattle.book_context.proofs.LeftLemmas.{acts-fall, left-falls, left_made, rounds_left_at}
 use Rattle.book_context.proofs.NextLemmas.{may_begin}
 use Rattle.book_context.proofs.PartLemmas.{history_goes_on, state_goes_on}
 use Rattle.book_context.proofs.RecordedLemmas.{round_open}
-use Rattle.book_context.proofs.RestLemmas.{is_within}
 use Rattle.reactor_turns.proofs.SummingLemmas.{one_if, only, summed, summed-both, summed-only, weigh, weigh-same}
-use Rattle.book_context.proofs.WorkLemmas.{ready_count, request_count}
 
 begins-append : (n : ℕ) (xs ys : List Posted) → begins_among n (xs ++ ys) ≡ (begins_among n xs || begins_among n ys)
 begins-append n [] ys = refl

@@ -9,11 +9,11 @@ use Rattle.history_rules.specs.Kinds.{is_act, is_control, is_posting}
 use Rattle.history_rules.specs.Rounds.{is_unspent}
 use Rattle.history_rules.specs.declared.phase.ActPhase.{ActPhase}
 use Rattle.history_rules.specs.declared.phase.ActPhase.TheVariants as phase
-use Rattle.book_context.specs.Called.{settled_phase}
-use Rattle.book_context.specs.Kinds.{is_accepted, is_spent}
+use Rattle.execution_laws.specs.Called.{settled_phase}
+use Rattle.execution_laws.specs.Kinds.{is_accepted, is_spent}
+use Rattle.execution_laws.proofs.SettledLemmas.{accepted_by}
 use Rattle.book_context.specs.Left.{phase_left}
 use Rattle.book_context.proofs.BoundLemmas.{shown_by}
-use Rattle.book_context.proofs.SettledLemmas.{accepted_by}
 use Rattle.reactor_turns.proofs.SummingLemmas.{one_if}
 
 -- the two words for an operation

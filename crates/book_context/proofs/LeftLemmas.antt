@@ -15,8 +15,8 @@ use Rattle.history_rules.specs.declared.phase.CallPhase.{CallPhase}
 use Rattle.history_rules.specs.declared.phase.CallPhase.TheVariants as call
 use Rattle.reactor_turns.specs.Ahead.{one_unless}
 use Rattle.reactor_turns.proofs.AheadLemmas.{times-most}
+use Rattle.execution_laws.specs.Work.{is_requested}
 use Rattle.book_context.specs.Left.{act_left, act_left_at, events_left, most_history, phase_left, rounds_left}
-use Rattle.book_context.specs.Work.{is_requested}
 use Rattle.reactor_turns.proofs.SummingLemmas.{one_if, summed, summed-apart, summed-both, summed-less, summed-range, summed-same}
 
 -- what the acts may still show

@@ -16,13 +16,13 @@ use Rattle.reactor_trait.specs.Reactor.{Outside, ReactorState}
 use Rattle.proactor_core.specs.Proactor.{SetupIsRefused, ProactorView}
 use Rattle.strand_core.specs.Execution.{events_of}
 use Rattle.strand_core.specs.Hands.{Held, taken_at}
+use Rattle.execution_laws.specs.Shown.{CallsShowTheirEvents, OpeningsShowNoMarks, is_of_call}
 use Rattle.book_context.specs.Begun.{HoldsAll, IsStarted}
 use Rattle.reactor_turns.specs.Turned.{IsTurned}
 use Rattle.book_context.specs.Book.{HoldsUnspent, IsBook, KeepsHistory, KeepsReactor, unless_spent}
 use Rattle.book_context.specs.Left.{most_history}
 use Rattle.book_context.specs.Recorded.{recorded_half}
 use Rattle.book_context.specs.Recording.{HasCalledOpening, Recording, new_recording, with_calls}
-use Rattle.book_context.specs.Shown.{CallsShowTheirEvents, OpeningsShowNoMarks, is_of_call}
 use Rattle.book_context.specs.Steps as steps
 
 no_fault : (e : Event) → is_of_call e ≡ true → is_fault e ≡ false

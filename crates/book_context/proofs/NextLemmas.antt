@@ -14,10 +14,10 @@ use Rattle.history_rules.specs.State.{State, phase_at}
 use Rattle.history_rules.specs.Stopping.{MayStart}
 use Rattle.history_rules.specs.declared.phase.ActPhase.{ActPhase}
 use Rattle.history_rules.specs.declared.phase.ActPhase.TheVariants as phase
-use Rattle.book_context.specs.Ready.{is_ready}
-use Rattle.book_context.specs.Order.{IsKept}
-use Rattle.book_context.proofs.ReadyLemmas.{first_of_lane, first_request}
-use Rattle.book_context.proofs.RestLemmas.{at_each}
+use Rattle.execution_laws.specs.Ready.{is_ready}
+use Rattle.execution_laws.specs.Order.{IsKept}
+use Rattle.execution_laws.proofs.ReadyLemmas.{first_of_lane, first_request}
+use Rattle.execution_laws.proofs.RestLemmas.{at_each}
 
 pub may_begin : (script : ScriptModel) (s : State) (op : ℕ) (code : Code) (size : ℕ) (newer : List (ℕ × Code × ℕ))
     (requests : List ℕ) → IsKept script s ((op, code, size) ∷ newer) requests → RoundIsOpen script s.context →

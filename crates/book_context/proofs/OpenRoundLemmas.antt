@@ -6,9 +6,9 @@ use Rattle.session_script.specs.Script.{ScriptModel}
 use Rattle.session_script.specs.declared.round.Round.{Round}
 use Rattle.history_rules.specs.Rounds.{AllQuiet, RoundIsOpen, is_held, outstanding_work, restarts, runs, this_round}
 use Rattle.history_rules.specs.Time.{pending_count}
+use Rattle.execution_laws.specs.Order.{IsKept}
 use Rattle.book_context.specs.BookSteps.{IsGoing, IsIdleRound, is_round_open, is_open_with, open_round}
 use Rattle.book_context.specs.Next.{NothingLeftIsQuiet}
-use Rattle.book_context.specs.Order.{IsKept}
 use Rattle.book_context.specs.Recorded.{IsRecorded, recorded_half, recorded_state}
 use Rattle.book_context.specs.Recording.{Recording}
 use Rattle.book_context.specs.RoundSteps.{WorkIsKnown}

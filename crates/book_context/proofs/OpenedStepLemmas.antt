@@ -1,13 +1,13 @@
 -- What is recorded of the calls of `open`.
-use Rattle.std.proofs.Common.{◌≡◌, ℕ, zero, suc, ◌+◌, ◌-◌, ◌<◌, ◌≤◌, Bool, true, false, cond, List, Option, Some, None, inl, inr, length, replicate, refl, sym, ap, subst, ◌∙◌, arith}
-use Rattle.std.specs.Prelude.{slice_get, sum_by}
+use Rattle.std.proofs.Common.{◌≡◌, ℕ, zero, suc, ◌+◌, ◌-◌, ◌<◌, ◌≤◌, Bool, true, false, cond, List, None, inl, inr, length, replicate, refl, sym, ap, subst, ◌∙◌, arith}
+use Rattle.std.specs.Prelude.{sum_by}
 use Rattle.std.specs.List.{slice_index_or}
 use Rattle.std.proofs.lemmas.Bool.{cases_Bool, cases_lt, false_from_ne_true}
 use Rattle.std.proofs.lemmas.List.{get_or-replicate, get_or_past, length-replicate}
 use Rattle.std.proofs.lemmas.List.Elements.{All-nil}
 use Rattle.std.proofs.lemmas.List.Sums.{sum_by-cons}
-use Rattle.session_script.specs.Script.{Entry, ScriptModel, opening_of, parent_of}
-use Rattle.session_script.specs.Lanes.{caller_lane, is_inline, is_inside, lanes_of}
+use Rattle.session_script.specs.Script.{ScriptModel, opening_of}
+use Rattle.session_script.specs.Lanes.{is_inline}
 use Rattle.session_script.specs.WellFormed.{HasParent, IsWellFormed}
 use Rattle.session_script.proofs.PlacingLemmas.{has_parent}
 use Rattle.history_rules.specs.Rounds.{is_running, is_unspent}
@@ -19,29 +19,30 @@ use Rattle.history_rules.specs.declared.phase.ActState.{ActState}
 use Rattle.strand_core.specs.Execution.{AnyMark, AreCalls, events_of}
 use Rattle.strand_core.specs.Hands.{IsInlineOf}
 use Rattle.strand_core.specs.declared.posted.Posted.{Posted}
-use Rattle.book_context.specs.Accounted.{IsAccounted}
-use Rattle.book_context.specs.Called.{is_called, settled_phase}
-use Rattle.book_context.specs.Kinds.{AreOfKind, is_accepted, is_spent, was_called}
+use Rattle.execution_laws.specs.Accounted.{IsAccounted}
+use Rattle.execution_laws.specs.Called.{is_called, settled_phase}
+use Rattle.execution_laws.specs.Kinds.{AreOfKind, is_accepted, is_spent, was_called}
+use Rattle.execution_laws.specs.Opened.{IsLegalOpening}
+use Rattle.execution_laws.specs.Order.{IsKept, has_begun, postings_of, requests_of}
+use Rattle.execution_laws.specs.Work.{is_pending}
+use Rattle.execution_laws.proofs.AccountedLemmas.{account_opening, not_pending, opened as legally}
+use Rattle.execution_laws.proofs.ApartLemmas.{called_from}
+use Rattle.execution_laws.proofs.FreeLemmas.{free_opened}
+use Rattle.execution_laws.proofs.OpenedLemmas.{is_order_begun}
+use Rattle.execution_laws.proofs.PlaceLemmas.{parent_is}
+use Rattle.execution_laws.proofs.RestLemmas.{at_each}
+use Rattle.execution_laws.proofs.ScriptLemmas.{open_outside}
 use Rattle.reactor_turns.specs.Ahead.{one_unless}
 use Rattle.book_context.specs.Left.{act_left, act_left_at, events_left, most_history, phase_left, rounds_left}
-use Rattle.book_context.specs.Opened.{IsLegalOpening}
-use Rattle.book_context.specs.Order.{IsKept, has_begun, postings_of, requests_of}
 use Rattle.book_context.specs.Recorded.{IsRecorded, Knows, is_spent_at, recorded_state}
 use Rattle.book_context.specs.Recording.{Recording}
 use Rattle.reactor_turns.specs.Standing.{queued_of, stands}
 use Rattle.book_context.specs.Steps.{OpeningIsRecorded, opened_recording}
-use Rattle.book_context.specs.Work.{is_pending}
-use Rattle.book_context.proofs.AccountedLemmas.{account_opening, not_pending, opened as legally}
-use Rattle.book_context.proofs.ApartLemmas.{called_from}
 use Rattle.book_context.proofs.BoundLemmas.{bounded_body, shown_by}
 use Rattle.book_context.proofs.ExecutedStepLemmas.{marked-calls, marked-length}
-use Rattle.book_context.proofs.FreeLemmas.{free_opened}
 use Rattle.book_context.proofs.KindLemmas.{settled_accepted, settled_inline, settled_left, settled_other, settled_spent}
 use Rattle.book_context.proofs.LeftLemmas.{acts-fall, first_act, first_bounded, left-falls, rounds_left_at}
-use Rattle.book_context.proofs.OpenedLemmas.{is_order_begun}
-use Rattle.book_context.proofs.PlaceLemmas.{parent_is}
 use Rattle.book_context.proofs.RecordedLemmas.{few_events}
-use Rattle.book_context.proofs.RestLemmas.{at_each}
 use Rattle.reactor_turns.proofs.SummingLemmas.{one_if, weigh}
 
 -- nothing stands anywhere before the first event
@@ -54,17 +55,6 @@ none_queued n (suc k) =
 
 none_stands : (script : ScriptModel) (told : Bool) (n : ℕ) → stands n (first_reactor script told) ≡ 0
 none_stands script told n = let none = none_queued n script.world.streams in omega (arith, none)
-
--- what stands in `open` itself executes outside its call
-pub open_outside : (script : ScriptModel) (n : ℕ) → parent_of script n ≡ None → is_inline script n ≡ false
-open_outside script n under = by_entry (slice_get script.acts n) refl
-  where
-    by_entry : (found : Option Entry) → slice_get script.acts n ≡ found → is_inline script n ≡ false
-    by_entry None there = rw there refl
-    by_entry (Some entry) there =
-        let outside : is_inside (caller_lane (lanes_of script) (parent_of script n)) entry.act ≡ false =
-        ap (λ place. is_inside (caller_lane (lanes_of script) place) entry.act) under in
-        rw there outside
 
 module _ (told : Bool) (script : ScriptModel) (calls : List Posted) (well : IsWellFormed script)
     (acts : AreCalls script AnyMark (opening_of script) calls) where

@@ -6,8 +6,8 @@ use Rattle.history_rules.specs.Legal.{IsLegalFrom, IsLegalSoFar, after_event, st
 use Rattle.history_rules.specs.State.{State, first_state}
 use Rattle.strand_core.specs.Execution.{events_of}
 use Rattle.strand_core.specs.declared.posted.Posted.{Posted}
+use Rattle.execution_laws.proofs.EventLemmas.{events-append, legal-append, state_from-append}
 use Rattle.book_context.specs.Parts.{IsLegalInParts}
-use Rattle.book_context.proofs.EventLemmas.{events-append, legal-append, state_from-append}
 
 module _ (script : ScriptModel) (told : Bool) where
   legal_parts : (s : State) (xs ys : List Event) → IsLegalFrom script told s (xs ++ ys) →

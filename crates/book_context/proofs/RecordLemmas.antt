@@ -17,17 +17,17 @@ use Rattle.strand_core.specs.Execution.{AnyMark, AreCalls, IsWholeExecution, eve
 use Rattle.strand_core.specs.declared.posted.Posted.{Posted}
 use Rattle.strand_core.specs.declared.posted.Posted.TheVariants as posted
 use Rattle.strand_core.proofs.CallLemmas.{with_marks}
+use Rattle.execution_laws.specs.Called.{are_stopping, called_as}
+use Rattle.execution_laws.specs.Order.{postings_of, requests_of}
+use Rattle.execution_laws.specs.Ready.{is_ready}
+use Rattle.execution_laws.proofs.CalledLemmas.{stopping-append}
+use Rattle.execution_laws.proofs.EventLemmas.{events-append}
+use Rattle.execution_laws.proofs.PlaceLemmas.{parent_is}
+use Rattle.execution_laws.proofs.ScriptLemmas.{few_in}
 use Rattle.book_context.specs.Bound.{OpeningsAreBounded}
-use Rattle.book_context.specs.Called.{are_stopping, called_as}
 use Rattle.book_context.specs.Left.{most_history}
 use Rattle.book_context.specs.Listed.{Listed, with_events, with_listed}
-use Rattle.book_context.specs.Order.{postings_of, requests_of}
-use Rattle.book_context.specs.Ready.{is_ready}
 use Rattle.book_context.specs.Recording.{Recording, marked, new_recording, outside_calls, with_calls}
-use Rattle.book_context.proofs.CalledLemmas.{stopping-append}
-use Rattle.book_context.proofs.EventLemmas.{events-append}
-use Rattle.book_context.proofs.PlaceLemmas.{parent_is}
-use Rattle.book_context.proofs.ScriptLemmas.{few_in}
 
 called_by : (here : Bool) (act : ℕ) (xs ys all : List ℕ) → all ≡ xs ++ ys →
     cond here (act ∷ all) all ≡ cond here (act ∷ xs) xs ++ ys

@@ -14,14 +14,14 @@ use Rattle.history_rules.specs.Rounds.{RoundIsOpen, restarts}
 use Rattle.history_rules.specs.State.{State, call_at, phase_at}
 use Rattle.history_rules.specs.Bounds.{AllAhead}
 use Rattle.history_rules.specs.declared.phase.Progress.{Progress}
-use Rattle.book_context.specs.Accounted.{IsAccounted}
-use Rattle.book_context.specs.Kinds.{AreOfKind, is_spent, was_called}
-use Rattle.book_context.specs.Lanes.{IsFreeUnlessStopped}
+use Rattle.execution_laws.specs.Accounted.{IsAccounted}
+use Rattle.execution_laws.specs.Kinds.{AreOfKind, is_spent, was_called}
+use Rattle.execution_laws.specs.Lanes.{IsFreeUnlessStopped}
+use Rattle.execution_laws.specs.Order.{IsKept}
+use Rattle.execution_laws.specs.Standing.{IsStanding}
 use Rattle.book_context.specs.Left.{events_left, most_history}
-use Rattle.book_context.specs.Order.{IsKept}
 use Rattle.book_context.specs.Recorded.{IsRecorded, Knows, recorded_state}
 use Rattle.book_context.specs.Recording.{Recording}
-use Rattle.book_context.specs.Standing.{IsStanding}
 use Rattle.book_context.specs.Steps.{EventIsRecorded, IsRoundOpen}
 use Rattle.book_context.proofs.PartLemmas.{history_goes_on, state_goes_on}
 

@@ -12,20 +12,20 @@ use Rattle.history_rules.specs.Time.{pending_count}
 use Rattle.history_rules.specs.declared.phase.Allowance.TheVariants as allowance
 use Rattle.history_rules.specs.declared.phase.Progress.{Progress}
 use Rattle.reactor_turns.specs.Ahead.{one_unless}
+use Rattle.execution_laws.specs.Order.{IsKept}
+use Rattle.execution_laws.proofs.CountLemmas.{one_more-bound, one_more-from, one_more-is}
+use Rattle.execution_laws.proofs.FreeLemmas.{free_restart}
+use Rattle.execution_laws.proofs.WorkLemmas.{is_work_listed}
 use Rattle.book_context.specs.Left.{rounds_left}
-use Rattle.book_context.specs.Order.{IsKept}
 use Rattle.book_context.specs.Recorded.{IsRecorded, recorded_half, recorded_state}
 use Rattle.book_context.specs.Recording.{Recording, with_closing, with_outside_stop, with_restart}
 use Rattle.book_context.specs.RoundSteps.{IsHalted, IsPolled, WantsRestart}
 use Rattle.book_context.specs.Steps.{EventIsRecorded, IsRoundOpen}
-use Rattle.book_context.proofs.CountLemmas.{one_more-bound, one_more-from, one_more-is}
-use Rattle.book_context.proofs.FreeLemmas.{free_restart}
 use Rattle.book_context.proofs.LeftLemmas.{acts-same, left-falls, rounds_left_at}
 use Rattle.book_context.proofs.NextLemmas.{all_quiet}
 use Rattle.book_context.proofs.RecordedLemmas.{Changes, few_rounds, goes_on, round_open}
 use Rattle.book_context.proofs.TurnStepLemmas.{kinds_same, one_more-most}
 use Rattle.book_context.proofs.TurnLemmas.{others_keep}
-use Rattle.book_context.proofs.WorkLemmas.{is_work_listed}
 
 -- the outstanding work, by what is recorded and what the reactor has to complete
 pub work_known : (told : Bool) (r : Recording) → IsRecorded told r → (recorded_half told r).failed ≡ false →

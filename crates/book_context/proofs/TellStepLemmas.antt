@@ -20,29 +20,29 @@ use Rattle.history_rules.specs.declared.phase.ActPhase.TheVariants as phase
 use Rattle.history_rules.specs.declared.phase.ActState.{ActState}
 use Rattle.history_rules.specs.declared.phase.CallPhase.TheVariants as call
 use Rattle.history_rules.specs.declared.phase.Cause.TheVariants as cause
-use Rattle.book_context.specs.Kinds.{AreOfKind, is_accepted, is_spent, was_called}
+use Rattle.execution_laws.specs.Kinds.{AreOfKind, is_accepted, is_spent, was_called}
+use Rattle.execution_laws.specs.Order.{IsKept}
+use Rattle.execution_laws.specs.Ready.{is_ready}
+use Rattle.execution_laws.specs.Work.{is_pending, is_requested}
+use Rattle.execution_laws.proofs.AccountLemmas.{account_done}
+use Rattle.execution_laws.proofs.CountingLemmas.{counted-most}
+use Rattle.execution_laws.proofs.RestLemmas.{is_within}
+use Rattle.execution_laws.proofs.StateLemmas.{act_at-other, act_at-same, length-acts}
+use Rattle.execution_laws.proofs.WorkLemmas.{ready_count}
 use Rattle.reactor_turns.specs.Ahead.{one_unless}
 use Rattle.book_context.specs.Left.{act_left, act_left_at, events_left}
-use Rattle.book_context.specs.Order.{IsKept}
-use Rattle.book_context.specs.Ready.{is_ready}
 use Rattle.book_context.specs.Recorded.{IsRecorded, recorded_half, recorded_state}
 use Rattle.book_context.specs.Recording.{Recording, with_done}
 use Rattle.reactor_turns.specs.Standing.{stands}
 use Rattle.book_context.specs.Steps.{EventIsRecorded}
 use Rattle.book_context.specs.TurnSteps.{CompletionIsRecorded}
-use Rattle.book_context.specs.Work.{is_pending, is_requested}
-use Rattle.book_context.proofs.AccountLemmas.{account_done}
 use Rattle.reactor_turns.proofs.ClockLemmas.{ahead-time, time-done}
 use Rattle.book_context.proofs.CompletionLemmas.{telling_keeps}
-use Rattle.book_context.proofs.CountingLemmas.{counted-most}
 use Rattle.book_context.proofs.LeftLemmas.{acts-apart, left-falls, left_told}
 use Rattle.book_context.proofs.RecordedLemmas.{Changes, goes_on}
-use Rattle.book_context.proofs.RestLemmas.{is_within}
 use Rattle.reactor_turns.proofs.StandingLemmas.{stands-done}
-use Rattle.book_context.proofs.StateLemmas.{act_at-other, act_at-same, length-acts}
 use Rattle.reactor_turns.proofs.SummingLemmas.{one_if}
 use Rattle.reactor_turns.proofs.TakenLemmas.{done-taken}
-use Rattle.book_context.proofs.WorkLemmas.{ready_count}
 use Rattle.book_context.proofs.TurnStepLemmas.{one_more-most}
 
 one_or : (b : Bool) (k : ℕ) → k + 1 ≡ one_if b → b ≡ true

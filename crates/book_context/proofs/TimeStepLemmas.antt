@@ -13,18 +13,18 @@ use Rattle.history_rules.specs.Rounds.{runs}
 use Rattle.history_rules.specs.State.{State, phase_at}
 use Rattle.history_rules.specs.Time.{IsIdle, at_last, at_time, next_time}
 use Rattle.reactor_turns.specs.Ahead.{one_unless}
+use Rattle.execution_laws.specs.Order.{IsKept}
+use Rattle.execution_laws.specs.Work.{is_requested}
+use Rattle.execution_laws.proofs.AccountLemmas.{account_last, account_tick}
+use Rattle.execution_laws.proofs.CountLemmas.{one_more-bound, one_more-from}
+use Rattle.execution_laws.proofs.FreeLemmas.{free_turn}
 use Rattle.book_context.specs.Left.{events_left}
-use Rattle.book_context.specs.Order.{IsKept}
 use Rattle.book_context.specs.Recorded.{IsRecorded, recorded_half, recorded_state}
 use Rattle.book_context.specs.Recording.{Recording, with_event}
 use Rattle.book_context.specs.Steps.{IsRoundOpen}
 use Rattle.book_context.specs.Turns.{IsSameOrder}
 use Rattle.book_context.specs.TurnSteps.{HasFailed, TurnIsBegun, IsWaiting}
-use Rattle.book_context.specs.Work.{is_requested}
-use Rattle.book_context.proofs.AccountLemmas.{account_last, account_tick}
 use Rattle.reactor_turns.proofs.ClockLemmas.{falls-tick, last-once, last-set, runs-last, runs-tick, settled-ahead, settled-clock}
-use Rattle.book_context.proofs.CountLemmas.{one_more-bound, one_more-from}
-use Rattle.book_context.proofs.FreeLemmas.{free_turn}
 use Rattle.book_context.proofs.LeftLemmas.{acts-same, left-falls}
 use Rattle.book_context.proofs.NextLemmas.{all_quiet}
 use Rattle.book_context.proofs.RecordedLemmas.{Changes, goes_on, round_open}

@@ -21,15 +21,15 @@ use Rattle.history_rules.specs.declared.phase.ActPhase.TheVariants as phase
 use Rattle.history_rules.specs.declared.phase.ActState.{ActState}
 use Rattle.history_rules.specs.declared.phase.CallPhase.TheVariants as call
 use Rattle.reactor_turns.proofs.TakenLemmas.{take-taken}
-use Rattle.book_context.specs.Order.{IsKept, IsOrderly, has_begun}
-use Rattle.book_context.specs.Ready.{AreReady, AreUntaken, IsCallPast, IsCausePast, IsDated, asked_at, is_ready, ready_at, ready_since}
-use Rattle.book_context.specs.Rest.{waits_inside}
+use Rattle.execution_laws.specs.Order.{IsKept, IsOrderly, has_begun}
+use Rattle.execution_laws.specs.Ready.{AreReady, AreUntaken, IsCallPast, IsCausePast, IsDated, asked_at, is_ready, ready_at, ready_since}
+use Rattle.execution_laws.specs.Rest.{waits_inside}
+use Rattle.execution_laws.proofs.CountLemmas.{one_more-is}
+use Rattle.execution_laws.proofs.KeptLemmas.{cause_later}
+use Rattle.execution_laws.proofs.MovesLemmas.{past_later}
+use Rattle.execution_laws.proofs.RestLemmas.{is_within}
+use Rattle.execution_laws.proofs.RisingLemmas.{any_either}
 use Rattle.book_context.specs.Turns.{IsSameOrder}
-use Rattle.book_context.proofs.CountLemmas.{one_more-is}
-use Rattle.book_context.proofs.KeptLemmas.{cause_later}
-use Rattle.book_context.proofs.MovesLemmas.{past_later}
-use Rattle.book_context.proofs.RestLemmas.{is_within}
-use Rattle.book_context.proofs.RisingLemmas.{any_either}
 
 -- where each act is the same
 module _ (s t : ContextState) (same : (n : ℕ) → act_at t n ≡ act_at s n) where

@@ -25,27 +25,26 @@ use Rattle.history_rules.specs.Stopping.{MayStart, allowance_of}
 use Rattle.history_rules.specs.declared.phase.ActState.{ActState}
 use Rattle.history_rules.specs.declared.phase.Allowance.TheVariants as allowance
 use Rattle.history_rules.specs.declared.phase.CallPhase.TheVariants as call
-use Rattle.reactor_turns.specs.Standing.{is_awaited}
-use Rattle.book_context.specs.Accounted.{IsAccounted}
-use Rattle.book_context.specs.Kinds.{AreOfKind, is_accepted, was_called}
-use Rattle.book_context.specs.Lanes.{IsFreeUnlessStopped}
+use Rattle.reactor_turns.specs.Standing.{is_awaited, stands}
+use Rattle.execution_laws.specs.Accounted.{IsAccounted}
+use Rattle.execution_laws.specs.Kinds.{AreOfKind, is_accepted, was_called}
+use Rattle.execution_laws.specs.Lanes.{IsFreeUnlessStopped}
+use Rattle.execution_laws.specs.Order.{IsKept}
+use Rattle.execution_laws.specs.Work.{is_pending, is_requested}
+use Rattle.execution_laws.proofs.AccountLemmas.{account_take}
+use Rattle.execution_laws.proofs.FreeLemmas.{free_turn}
+use Rattle.execution_laws.proofs.RestLemmas.{is_within}
+use Rattle.execution_laws.proofs.SettledLemmas.{awaited}
 use Rattle.reactor_turns.specs.Ahead.{one_unless}
 use Rattle.book_context.specs.Left.{act_left, act_left_at, events_left}
-use Rattle.book_context.specs.Order.{IsKept}
 use Rattle.book_context.specs.Recorded.{IsRecorded, recorded_state}
 use Rattle.book_context.specs.Recording.{Recording}
-use Rattle.reactor_turns.specs.Standing.{stands}
 use Rattle.book_context.specs.Steps.{EventIsRecorded}
 use Rattle.book_context.specs.TurnSteps.{CanTurnNow, HasTaken, TurnIsBegun, taken_recording}
-use Rattle.book_context.specs.Work.{is_pending, is_requested}
-use Rattle.book_context.proofs.AccountLemmas.{account_take}
 use Rattle.reactor_turns.proofs.ClockLemmas.{runs-take, settled-ahead, settled-clock}
-use Rattle.book_context.proofs.FreeLemmas.{free_turn}
 use Rattle.book_context.proofs.LeftLemmas.{acts-apart, left-falls, left_taken}
 use Rattle.book_context.proofs.NextLemmas.{may_take}
 use Rattle.book_context.proofs.RecordedLemmas.{Changes, goes_on, round_open}
-use Rattle.book_context.proofs.RestLemmas.{is_within}
-use Rattle.book_context.proofs.SettledLemmas.{awaited}
 use Rattle.reactor_turns.proofs.StandingLemmas.{stands-take}
 use Rattle.reactor_turns.proofs.SummingLemmas.{one_if}
 use Rattle.reactor_turns.proofs.TakenLemmas.{take-taken}

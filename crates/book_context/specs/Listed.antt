@@ -5,7 +5,7 @@ use Rattle.asio_types.specs.declared.event.Event.{Event}
 use Rattle.session_script.specs.Script.{ScriptModel}
 use Rattle.history_book.specs.History.{Recorded}
 use Rattle.strand_core.specs.declared.posted.Posted.{Posted}
-use Rattle.book_context.specs.Order.{postings_of, requests_of}
+use Rattle.execution_laws.specs.Order.{postings_of, requests_of}
 use Rattle.book_context.specs.Recording.{marked}
 
 pub record Listed : Type 0 where

@@ -8,7 +8,7 @@ use Rattle.history_rules.specs.Requests.{MayTake, MayTurn}
 use Rattle.history_rules.specs.Rounds.{AllQuiet, RoundIsOpen}
 use Rattle.history_rules.specs.State.{State}
 use Rattle.history_rules.specs.Stopping.{MayStart}
-use Rattle.book_context.specs.Order.{IsKept}
+use Rattle.execution_laws.specs.Order.{IsKept}
 
 -- in an open round the oldest ready operation may begin, if its lane may
 abbrev pub OldestMayBegin : Type 0

@@ -8,13 +8,13 @@ use Rattle.session_script.specs.WellFormed.{IsWellFormed}
 use Rattle.history_rules.specs.Legal.{IsLegalSoFar, state_of}
 use Rattle.history_rules.specs.State.{ReactorHalf, State, call_at, phase_at}
 use Rattle.history_rules.specs.Bounds.{AllAhead}
-use Rattle.book_context.specs.Accounted.{IsAccounted}
-use Rattle.book_context.specs.Kinds.{AreOfKind, is_spent, was_called}
-use Rattle.book_context.specs.Lanes.{IsFreeUnlessStopped}
+use Rattle.execution_laws.specs.Accounted.{IsAccounted}
+use Rattle.execution_laws.specs.Kinds.{AreOfKind, is_spent, was_called}
+use Rattle.execution_laws.specs.Lanes.{IsFreeUnlessStopped}
+use Rattle.execution_laws.specs.Order.{IsKept}
+use Rattle.execution_laws.specs.Standing.{IsStanding}
 use Rattle.book_context.specs.Left.{events_left}
-use Rattle.book_context.specs.Order.{IsKept}
 use Rattle.book_context.specs.Recording.{Recording}
-use Rattle.book_context.specs.Standing.{IsStanding}
 
 -- the state of the history that was recorded
 abbrev pub recorded_state : Bool → Recording → State

@@ -10,8 +10,8 @@ use Rattle.strand_core.specs.declared.posted.Posted.{Posted}
 use Rattle.strand_core.specs.declared.posted.Posted.TheVariants as posted
 use Rattle.strand_core.specs.Execution.{AnyMark, AreCalls, IsWholeExecution, events_of}
 use Rattle.strand_core.specs.Hands.{HasRunMark, Held, begins_among, held_at, left_at}
-use Rattle.book_context.specs.Called.{are_stopping}
-use Rattle.book_context.specs.Order.{postings_of, requests_of}
+use Rattle.execution_laws.specs.Called.{are_stopping}
+use Rattle.execution_laws.specs.Order.{postings_of, requests_of}
 
 pub record Recording : Type 0 where
   pub script : ScriptModel

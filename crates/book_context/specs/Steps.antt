@@ -12,8 +12,8 @@ use Rattle.history_rules.specs.State.{first_reactor}
 use Rattle.strand_core.specs.declared.posted.Posted.{Posted}
 use Rattle.strand_core.specs.Execution.{AnyMark, AreCalls, IsWholeExecution, events_of}
 use Rattle.strand_core.specs.Hands.{IsInlineOf, begins_among}
+use Rattle.execution_laws.specs.Order.{postings_of, requests_of}
 use Rattle.book_context.specs.Left.{most_history}
-use Rattle.book_context.specs.Order.{postings_of, requests_of}
 use Rattle.book_context.specs.Recorded.{IsRecorded, is_spent_at, recorded_half, recorded_state}
 use Rattle.book_context.specs.Recording.{Recording, new_recording, with_calls}
 

@@ -10,7 +10,7 @@ use Rattle.history_rules.specs.declared.phase.ActPhase.TheVariants as phase
 use Rattle.history_rules.specs.Legal.{after_event}
 use Rattle.history_rules.specs.Order.{was_taken}
 use Rattle.history_rules.specs.State.{State, phase_at}
-use Rattle.book_context.specs.Order.{IsKept}
+use Rattle.execution_laws.specs.Order.{IsKept}
 
 -- when the oldest request is taken, the others wait as before
 abbrev pub TakingKeepsOrder : Type 0

@@ -1,8 +1,8 @@
 ghost use Rattle.std.specs.Prelude.{◌≡◌, ◌↔◌, IsTrue, IfErr, OnErr, OnOk};
 ghost use Rattle.op_handlers.specs.Rack.{handlers_in};
 ghost use Rattle.proactor_core.specs.Proactor.{tells};
+ghost use Rattle.execution_laws.specs.Setup.{HoldsMarked, IsRefused, TakesHandlers};
 ghost use Rattle.book_context.specs.BookSteps.{IsBookOver};
-ghost use Rattle.book_context.specs.Setup.{HoldsMarked, IsRefused, TakesHandlers};
 
 mod closing;
 mod execution;
@@ -13,11 +13,12 @@ mod turn;
 mod turn_steps;
 mod wait;
 
-use crate::law::{executions_show_marks, openings_are_recorded};
+use crate::law::openings_are_recorded;
 use crate::record::Record;
 use crate::rounds::{are_closed, is_open, is_run};
 use crate::session::Session;
 use asio_types::SetupFault;
+use execution_laws::executions_show_marks;
 use op_handlers::{CompletionHandler, Rack};
 use proactor_core::Proactor;
 use reactor_trait::Reactor;

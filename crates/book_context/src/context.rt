@@ -1,9 +1,9 @@
 ghost use Rattle.std.specs.Prelude.{◌≡◌, IfErr, OnErr, OnOk, true};
 ghost use Rattle.op_handlers.specs.Rack.{handlers_in};
 ghost use Rattle.proactor_core.specs.Proactor.{tells};
+ghost use Rattle.execution_laws.specs.Finished.{IsFinished};
+ghost use Rattle.execution_laws.specs.Setup.{HoldsMarked, IsRefused, TakesHandlers};
 ghost use Rattle.book_context.specs.BookSteps.{IsBookOver};
-ghost use Rattle.book_context.specs.Finished.{IsFinished};
-ghost use Rattle.book_context.specs.Setup.{HoldsMarked, IsRefused, TakesHandlers};
 
 use crate::answer::BookTurn;
 use crate::book::Book;
@@ -46,6 +46,8 @@ fn close_round<'a, X: Reactor, H: CompletionHandler, N: Session, R: Wait>(
         if book.close() || book.over() {
             return;
         }
+        // A guard is held, and what may release it runs elsewhere.
+        thread::yield_now();
     }
 }
 

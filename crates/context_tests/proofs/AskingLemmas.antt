@@ -7,11 +7,11 @@ use Rattle.session_script.specs.Script.{ScriptModel}
 use Rattle.turn_table.specs.Seated.{Lanes}
 use Rattle.lane_clock.specs.Seats.{SeatView}
 use Rattle.lane_clock.specs.declared.found.Found.{Found}
+use Rattle.lane_logs.specs.SeatNumbers.{lane_count}
 use Rattle.lane_turns.specs.AllWorkers.{AreReady, clock_seat}
 use Rattle.lane_turns.specs.Attempts.{IsSeated, WorkerState}
 use Rattle.lane_turns.specs.Gathering.{IsSeatedAs}
 use Rattle.lane_turns.specs.Scanning.{GoesOn, HasLooked, numbers_of}
-use Rattle.lane_turns.specs.SeatNumbers.{lane_count}
 use Rattle.lane_turns.specs.Workers.{Stops, WorkerView}
 use Rattle.context_tests.specs.Asking.{IsReadyAs}
 

@@ -3,13 +3,13 @@ use Rattle.std.proofs.Common.{◌≡◌, ◌∙◌, ◌+◌, ap, inl, inr, lengt
 use Rattle.session_script.specs.Script.{ScriptModel}
 use Rattle.lane_context.specs.declared.round_end.RoundEnd.{RoundEnd}
 use Rattle.lane_context.specs.declared.round_end.RoundEnd.TheVariants as end
+use Rattle.lane_logs.specs.Stand.{Stand}
 use Rattle.lane_turns.specs.ClosingTries.{HasClosedRound}
 use Rattle.lane_turns.specs.Finishing.{IsOver}
 use Rattle.lane_turns.specs.KnownFaults.{KnowsFault}
 use Rattle.lane_turns.specs.LaneValues.{Terms}
 use Rattle.lane_turns.specs.Openers.{OpenerView}
 use Rattle.lane_context.specs.RoundEnds.{EndsRound}
-use Rattle.lane_turns.specs.Stand.{Stand}
 
 module _ {H X : Type 0} (t : Terms H X) (script : ScriptModel) (old new : OpenerView)
     (only : old.stand.closings + 1 ≡ length script.rounds) where

@@ -2,10 +2,10 @@
 use Rattle.std.specs.Prelude.{◌≡◌, ℕ, ◌+◌}
 use Rattle.session_script.specs.Script.{ScriptModel}
 use Rattle.turn_table.specs.Seated.{Lanes}
+use Rattle.lane_logs.specs.SeatNumbers.{lane_count}
 use Rattle.lane_turns.specs.AllWorkers.{clock_seat}
 use Rattle.lane_turns.specs.Attempts.{WorkerState}
 use Rattle.lane_turns.specs.Gathering.{IsSeatedAs}
-use Rattle.lane_turns.specs.SeatNumbers.{lane_count}
 
 -- the worker with this number has its seats of the clock and of the table
 pub record IsReadyAs {H X : Type 0} (script : ScriptModel) (lanes : Lanes) (number : ℕ)

@@ -5,7 +5,8 @@ ghost use Rattle.lane_turns.specs.AllWorkers.{AreReady};
 ghost use Rattle.context_tests.specs.Asking.{IsReadyAs};
 
 use lane_context::{Context, Worker};
-use lane_turns::{LaneSession, One};
+use lane_logs::LaneSession;
+use lane_turns::One;
 use op_handlers::CompletionHandler;
 use reactor_trait::Reactor;
 

@@ -3,9 +3,9 @@
 
 ghost use Rattle.std.specs.Prelude.{◌≡◌, ◌≤◌, IsTrue, Some, length, slice_get};
 ghost use Rattle.history_merge.specs.Room.{most_merged};
+ghost use Rattle.lane_logs.specs.Logs.{session_layout};
 ghost use Rattle.lane_turns.specs.AllWorkers.{AreCuts, AreReady};
 ghost use Rattle.lane_turns.specs.Finishing.{IsOver};
-ghost use Rattle.lane_turns.specs.Logs.{session_layout};
 ghost use Rattle.op_handlers.specs.Rack.{IsWholeRack, handlers_in};
 ghost use Rattle.proactor_core.specs.Proactor.{tells};
 ghost use Rattle.session_run.specs.LaneNames.{names_of};
@@ -17,8 +17,8 @@ use crate::wanted::{MEMORY, is_answer};
 use history_book::History;
 use history_merge::{HistoryRoom, merge};
 use lane_context::{Context, Parts, RoundEnd, Worker, Workers, WorkersApart};
+use lane_logs::LaneSession;
 use lane_map::LaneMap;
-use lane_turns::LaneSession;
 use op_handlers::{CompletionHandler, Rack};
 use reactor_trait::Reactor;
 use session_script::{Round, Script};

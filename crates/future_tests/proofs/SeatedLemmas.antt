@@ -4,9 +4,9 @@ use Rattle.std.specs.Prelude.{slice_get}
 use Rattle.std.proofs.lemmas.List.{nil_from_length}
 use Rattle.session_script.specs.Script.{ScriptModel}
 use Rattle.turn_table.specs.Seated.{Lanes}
+use Rattle.lane_logs.specs.SeatNumbers.{worker_count}
 use Rattle.lane_turns.specs.AllWorkers.{AreReady}
 use Rattle.lane_turns.specs.Attempts.{WorkerState}
-use Rattle.lane_turns.specs.SeatNumbers.{worker_count}
 use Rattle.op_future.specs.SeatedWorkers.{IsReadyAs}
 
 -- three were taken from a list, the last first

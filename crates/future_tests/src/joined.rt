@@ -3,9 +3,9 @@
 
 ghost use Rattle.std.specs.Prelude.{◌≡◌, ◌≤◌, [], ◌∷◌, length, vec_capacity};
 ghost use Rattle.history_merge.specs.Room.{most_merged};
+ghost use Rattle.lane_logs.specs.Logs.{session_layout};
 ghost use Rattle.lane_turns.specs.AllWorkers.{AreCuts, AreReady};
 ghost use Rattle.lane_turns.specs.Finishing.{IsOver};
-ghost use Rattle.lane_turns.specs.Logs.{session_layout};
 ghost use Rattle.op_future.specs.Futures.{MayEnd};
 ghost use Rattle.op_future.specs.SeatedWorkers.{IsReadyAs};
 ghost use Rattle.op_future.specs.Sessions.{HasOneRun};
@@ -24,8 +24,8 @@ use futures::future::join;
 use history_book::History;
 use history_merge::{HistoryRoom, merge};
 use lane_context::{Context, Parts, Worker, Workers, WorkersApart};
+use lane_logs::{LaneSession, Receipt};
 use lane_map::LaneMap;
-use lane_turns::{LaneSession, Receipt};
 use op_future::{LanesNamed, SeatedWorker, Task, TaskEnd, TaskFuture, has_one_run};
 use op_handlers::{CompletionHandler, Rack};
 use reactor_script::ScriptReactor;

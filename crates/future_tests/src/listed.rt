@@ -2,7 +2,7 @@
 ghost use Rattle.std.specs.Prelude.{◌≡◌, ◌+◌, ◌≤◌, [], length, vec_capacity};
 
 use asio_types::OpNo;
-use lane_turns::Receipt;
+use lane_logs::Receipt;
 use op_future::Task;
 use std::sync::atomic::{AtomicBool, Ordering};
 

@@ -2,7 +2,7 @@
 
 use crate::sessions::{Wanted, comes_to, comes_to_seen, is_refused};
 use asio_types::{Code, Event, SetupFault};
-use lane_turns::Receipt;
+use lane_logs::Receipt;
 use op_future::TaskEnd;
 use reactor_script::{FailAt, Method};
 

@@ -3,7 +3,7 @@
 use crate::listed::Listed;
 use crate::looking::{Lookout, looking_rack};
 use asio_types::{Event, OpNo, SetupFault};
-use lane_turns::Receipt;
+use lane_logs::Receipt;
 use op_future::{TaskEnd, TaskReport, has_one_run, task_session};
 use reactor_script::{FailAt, ScriptReactor};
 use session_script::read_script;

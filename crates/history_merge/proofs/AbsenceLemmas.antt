@@ -9,10 +9,10 @@ use Rattle.asio_types.specs.declared.event.Event.TheVariants as event
 use Rattle.history_rules.specs.Kinds.{is_act, is_posting}
 use Rattle.lane_clock.specs.History.{ClockEvent, steps_under}
 use Rattle.lane_clock.proofs.MomentLemmas.{Tail, tail_more, tails_order, under_length}
-use Rattle.lane_turns.specs.Drops.{dropped, has_call, is_call_of}
-use Rattle.lane_turns.specs.Labels.{Labelled}
-use Rattle.lane_turns.specs.Logs.{AreLogs, LogsView}
-use Rattle.lane_turns.specs.Names.{SessionNames}
+use Rattle.lane_logs.specs.Drops.{dropped, has_call, is_call_of}
+use Rattle.lane_logs.specs.Labels.{Labelled}
+use Rattle.lane_logs.specs.Logs.{AreLogs, LogsView}
+use Rattle.lane_logs.specs.Names.{SessionNames}
 use Rattle.history_merge.specs.Merging.{IsMerging}
 use Rattle.history_merge.specs.Receipts.{IsAbsent}
 use Rattle.history_merge.proofs.AlikeLemmas.{is_not}

@@ -1,6 +1,6 @@
 -- What wasn't found behind the closing of the last round neither completed nor was posted: by then all places that were
 -- drawn had their notes, and nothing is drawn behind it.
-use Rattle.std.proofs.Common.{◌≡◌, ◌≢◌, ◌⊎◌, inl, inr, ⊎_elim, ℕ, ◌+◌, ◌-◌, ◌<◌, true, false, cond, List, [], ◌∷◌, None, Some, length, take, refl, sym, ap, subst, ◌∙◌, arith}
+use Rattle.std.proofs.Common.{◌≡◌, ◌≢◌, ◌⊎◌, inl, inr, ⊎_elim, ℕ, ◌+◌, ◌<◌, true, false, cond, List, [], ◌∷◌, Some, length, take, refl, sym, ap, subst, ◌∙◌, arith}
 use Rattle.std.specs.Prelude.{not, slice_index}
 use Rattle.std.proofs.lemmas.Bool.{and_parts, cases_eq, cases_lt, eq-eqb}
 use mathlib.Core.Option.{some}
@@ -16,30 +16,25 @@ use Rattle.history_rules.specs.Kinds.{is_act, is_posting}
 use Rattle.history_rules.specs.State.{call_at}
 use Rattle.history_rules.specs.declared.phase.CallPhase.{CallPhase}
 use Rattle.history_rules.specs.declared.phase.CallPhase.TheVariants as call
-use Rattle.book_context.specs.Kinds.{was_called}
+use Rattle.execution_laws.specs.Kinds.{was_called}
 use Rattle.lane_clock.specs.declared.found.Change.{Change}
 use Rattle.lane_clock.specs.declared.found.Found.{Found}
 use Rattle.lane_clock.specs.declared.note.Note.{Note}
 use Rattle.lane_clock.specs.declared.step.ClockStep.{ClockStep}
 use Rattle.lane_clock.specs.declared.step.ClockStep.TheVariants.{Draw, Join, Look, Place}
 use Rattle.lane_clock.specs.History.{ClockEvent, Fits, cell_after, steps_under}
-use Rattle.lane_clock.specs.Knowledge.{StartOf}
 use Rattle.lane_clock.specs.Rule.{StepAt}
-use Rattle.lane_clock.specs.Seats.{own}
-use Rattle.lane_clock.proofs.KnownLemmas.{at_within, event as step_event}
-use Rattle.lane_clock.proofs.MomentLemmas.{Moment, Tail, at_start, moment_of, sound_tail, tail_more, tail_refl, tail_same, tail_trans, tails_order, under_grows}
+use Rattle.lane_clock.proofs.KnownLemmas.{event as step_event}
+use Rattle.lane_clock.proofs.MomentLemmas.{Moment, Tail, moment_of, sound_tail, tail_more, tail_refl, tail_same, tail_trans, tails_order, under_grows}
 use Rattle.lane_map.specs.LaneNumbers.{cells_of, has_cell, home_lane, reactor_lane}
-use Rattle.lane_turns.specs.Labels.{Labelled, allots, shows}
-use Rattle.lane_turns.specs.Logs.{AreLogs, LogsView, session_layout}
-use Rattle.lane_turns.specs.Names.{SessionNames}
-use Rattle.lane_turns.specs.OpenerLog.{ClosedPart, Closes, OpenerPart, closed, opened, resting, restarted}
-use Rattle.lane_turns.specs.Receipts.{HasFoundNone, SeatHasGone, holds_op}
-use Rattle.lane_turns.specs.SeatNumbers.{lane_count, opener_seat}
-use Rattle.lane_turns.specs.Stand.{Stand, after_draw, after_opening_draw, is_round_open, stand_from, stand_of, wants_restart}
-use Rattle.lane_turns.specs.Workers.{WorkerView}
-use Rattle.lane_turns.proofs.ReceiptLemmas.{none_at, pen_finds}
-use Rattle.lane_turns.proofs.StandLemmas.{open_stand}
-use Rattle.lane_turns.proofs.WorkerLemmas.{closings_rise}
+use Rattle.lane_logs.specs.Labels.{Labelled, allots, shows}
+use Rattle.lane_logs.specs.Logs.{AreLogs, LogsView, session_layout}
+use Rattle.lane_logs.specs.Names.{SessionNames}
+use Rattle.lane_logs.specs.OpenerLog.{ClosedPart, Closes, OpenerPart, closed, opened, resting, restarted}
+use Rattle.lane_logs.specs.Receipts.{holds_op}
+use Rattle.lane_logs.specs.SeatNumbers.{lane_count, opener_seat}
+use Rattle.lane_logs.specs.Stand.{Stand, after_draw, after_opening_draw, is_round_open, stand_from, stand_of, wants_restart}
+use Rattle.lane_logs.proofs.StandLemmas.{open_stand, closings_rise}
 use Rattle.history_merge.specs.Merging.{IsMerging}
 use Rattle.history_merge.specs.Receipts.{ClosesLast, FoundNoneAtEnd, IsAbsent, LooksInVain}
 use Rattle.history_merge.proofs.AbsenceLemmas.{absent, before_steps}
@@ -442,34 +437,3 @@ unfound_are_absent names logs events well logged merging n op has none =
     (λ posting i at.
     not_called names well logs labels logged are so none.closing none.closes op has n none.joined none.counts none.joins
     none.knows none.looks posting i at)
-
--- A worker that found none behind the closing of the last round, of which it knew before, looked so
-pub found_none_at_end : (script : ScriptModel) (lists : ℕ → List ClockStep) (n op : ℕ) (old new : WorkerView) →
-    HasFoundNone SeatHasGone (home_lane script op) (slice_index (cells_of script) (home_lane script op)) op old new →
-    StartOf (own new.pen.seat) (lists n) → (at : ℕ) → ClosesLast script lists at → (joined : ℕ) (counts : List ℕ) →
-    get_elem? (own old.pen.seat) joined ≡ some (Join counts) → at < slice_index counts (opener_seat script) →
-    FoundNoneAtEnd script lists n op
-found_none_at_end script lists n op old new found all at closes joined counts joins knows =
-    let grown : StartOf (own old.pen.seat) (own new.pen.seat) = (_, found.others.gone.gone.steps) in
-    let pens = pen_finds (home_lane script op) _ op None old new found in
-    record {
-      closing = at;
-      closes = closes;
-      joined = joined;
-      counts = counts;
-      joins =
-          at_start (own new.pen.seat) (lists n) joined (Join counts) all
-          (at_start (own old.pen.seat) (own new.pen.seat) joined (Join counts) grown joins);
-      knows = knows;
-      looks = λ place less.
-          let it = none_at (home_lane script op) _ op old.pen new.pen pens place less in
-          let before = at_within (own old.pen.seat) joined (Join counts) joins in
-          record {
-            at = it.0;
-            behind = let behind = it.2 in omega (arith, before, behind);
-            held = it.1;
-            saw =
-                at_start (own new.pen.seat) (lists n) it.0 (Look (home_lane script op) place it.1) all it.3;
-            other = it.4;
-          };
-    }

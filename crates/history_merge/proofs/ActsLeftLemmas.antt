@@ -26,7 +26,7 @@ use Rattle.history_rules.specs.declared.phase.CallPhase.TheVariants as call
 use Rattle.history_rules.specs.declared.phase.Cause.TheVariants as cause
 use Rattle.history_rules.specs.declared.phase.Step.{Step}
 use Rattle.history_rules.specs.declared.phase.Step.TheVariants as step
-use Rattle.book_context.proofs.RestLemmas.{is_within}
+use Rattle.execution_laws.proofs.RestLemmas.{is_within}
 use Rattle.reactor_turns.proofs.SummingLemmas.{one_if, only, summed, summed-both, summed-less, summed-only}
 use Rattle.history_merge.proofs.AlikeLemmas.{never}
 use Rattle.history_merge.proofs.EachActLemmas.{Each, act_in, progress_each, right_set}

@@ -15,8 +15,8 @@ use Rattle.history_rules.specs.declared.phase.CallPhase.{CallPhase}
 use Rattle.history_rules.specs.declared.phase.CallPhase.TheVariants as call
 use Rattle.history_rules.specs.declared.phase.Cause.TheVariants as cause
 use Rattle.history_rules.specs.declared.phase.Step.{Step}
-use Rattle.book_context.specs.Ready.{is_ready}
-use Rattle.book_context.proofs.ScriptLemmas.{accepted-inline}
+use Rattle.execution_laws.specs.Ready.{is_ready}
+use Rattle.execution_laws.proofs.ScriptLemmas.{accepted-inline}
 use Rattle.history_merge.specs.Among.{IsPlaceOff, IsPlaceOn, is_underway}
 use Rattle.history_merge.proofs.BodyLaneLemmas.{inline_place, same_on}
 

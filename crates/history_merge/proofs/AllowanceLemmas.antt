@@ -26,15 +26,15 @@ use Rattle.lane_clock.specs.History.{ClockEvent, steps_under, word_after}
 use Rattle.lane_clock.proofs.KnownLemmas.{event}
 use Rattle.lane_clock.proofs.MomentLemmas.{Tail, sound_tail, tail_more, tail_refl, tail_trans, under_length}
 use Rattle.lane_map.specs.LaneNumbers.{home_lane, lane_number, reactor_lane}
-use Rattle.lane_turns.specs.Labels.{Labelled, allots, shows, silent, step_of}
-use Rattle.lane_turns.specs.LaneLog.{FoundGoing, MayFollow, opener_after}
-use Rattle.lane_turns.specs.Logs.{AreLogs, LogsView, session_layout}
-use Rattle.lane_turns.specs.Names.{SessionNames}
-use Rattle.lane_turns.specs.Parts.{Part, executed, failed, idle, labels_in, missing, turned}
-use Rattle.lane_turns.specs.SeatNumbers.{IsWorkerSeat, lane_count, opener_seat}
-use Rattle.lane_turns.specs.Stand.{Stand, stand_of}
-use Rattle.lane_turns.specs.WorkerLog.{WorkerPart, stopped, waiting}
-use Rattle.book_context.proofs.FreeLemmas.{free_may_start}
+use Rattle.lane_logs.specs.Labels.{Labelled, allots, shows, silent, step_of}
+use Rattle.lane_logs.specs.LaneLog.{FoundGoing, MayFollow, opener_after}
+use Rattle.lane_logs.specs.Logs.{AreLogs, LogsView, session_layout}
+use Rattle.lane_logs.specs.Names.{SessionNames}
+use Rattle.lane_logs.specs.Parts.{Part, executed, failed, idle, labels_in, missing, turned}
+use Rattle.lane_logs.specs.SeatNumbers.{IsWorkerSeat, lane_count, opener_seat}
+use Rattle.lane_logs.specs.Stand.{Stand, stand_of}
+use Rattle.lane_logs.specs.WorkerLog.{WorkerPart, stopped, waiting}
+use Rattle.execution_laws.proofs.FreeLemmas.{free_may_start}
 use Rattle.history_merge.proofs.BetweenLemmas.{IsOwnMoment, begins_at, kept_from, none_drawn, own_before, own_moment, stand_since}
 use Rattle.history_merge.proofs.ClosingLemmas.{restart_closed}
 use Rattle.history_merge.proofs.CutLemmas.{IsRoundOf, open_base}

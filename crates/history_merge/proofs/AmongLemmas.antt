@@ -18,9 +18,9 @@ use Rattle.history_rules.specs.declared.phase.ActPhase.TheVariants as phase
 use Rattle.history_rules.specs.declared.phase.ActState.{ActState}
 use Rattle.strand_core.specs.Execution.{AnyMark, IsWholeExecution, events_of}
 use Rattle.strand_core.specs.declared.posted.Posted.{Posted}
-use Rattle.book_context.specs.Executed.{IsLegalExecution}
-use Rattle.book_context.specs.Rest.{IsAtRest, waits_inside}
-use Rattle.book_context.proofs.RestLemmas.{at_each, is_within}
+use Rattle.execution_laws.specs.Executed.{IsLegalExecution}
+use Rattle.execution_laws.specs.Rest.{IsAtRest, waits_inside}
+use Rattle.execution_laws.proofs.RestLemmas.{at_each, is_within}
 use Rattle.history_merge.specs.Among.{AreAmong, IsLegalToIdle, IsOfOthers, LaneIsIdle, is_underway, none_left, other_next, own_next}
 use Rattle.history_merge.specs.Solo.{solo_context, solo_state}
 use Rattle.history_merge.proofs.AlikeLemmas.{LooksAlike}

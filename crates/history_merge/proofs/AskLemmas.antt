@@ -27,8 +27,8 @@ use Rattle.history_rules.specs.declared.phase.CallPhase.{CallPhase}
 use Rattle.history_rules.specs.declared.phase.CallPhase.TheVariants as call
 use Rattle.history_rules.specs.declared.phase.Cause.TheVariants as cause
 use Rattle.history_rules.specs.declared.phase.Step.{Step}
-use Rattle.book_context.specs.Kinds.{was_called}
-use Rattle.book_context.proofs.RestLemmas.{is_within}
+use Rattle.execution_laws.specs.Kinds.{was_called}
+use Rattle.execution_laws.proofs.RestLemmas.{is_within}
 use Rattle.reactor_turns.specs.Ahead.{IsHalfOf}
 use Rattle.reactor_turns.proofs.StandingLemmas.{stands-done}
 use Rattle.reactor_turns.proofs.SummingLemmas.{one_if}

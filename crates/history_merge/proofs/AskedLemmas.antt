@@ -19,19 +19,19 @@ use Rattle.lane_clock.specs.declared.step.ClockStep.TheVariants.{Draw, Load, Pla
 use Rattle.lane_clock.specs.History.{ClockEvent, places_after, places_with}
 use Rattle.lane_clock.specs.Steps.{place_count}
 use Rattle.lane_map.specs.LaneNumbers.{asked_lane, cells_of, reactor_lane}
-use Rattle.lane_turns.specs.Labels.{AreDrawn, IsDrawn, Labelled, allots, begins, call_note, dispatches, ends, none_drawn, one_drawn, posts, returns, shows, silent, step_of, stops_context}
-use Rattle.lane_turns.specs.LaneLog.{MayFollow}
-use Rattle.lane_turns.specs.Logs.{LogsView}
-use Rattle.lane_turns.specs.Names.{IsNamedMark, SessionNames}
-use Rattle.lane_turns.specs.OpenerLog.{Looked, MayFollowOpened, OpenerPart, closed, look_label, opened, opener_labels, resting, restarted}
-use Rattle.lane_turns.specs.Parts.{Part, executed, failed, idle, labels_in, missing, turned}
-use Rattle.lane_turns.specs.Posting.{CallsActs}
-use Rattle.lane_turns.specs.SeatNumbers.{opener_seat}
-use Rattle.lane_turns.specs.WorkerLog.{MayFollowStopped, WorkerPart, stopped, waiting}
+use Rattle.lane_logs.specs.Labels.{AreDrawn, IsDrawn, Labelled, allots, begins, call_note, dispatches, ends, none_drawn, one_drawn, posts, returns, shows, silent, step_of, stops_context}
+use Rattle.lane_logs.specs.LaneLog.{MayFollow}
+use Rattle.lane_logs.specs.Logs.{LogsView}
+use Rattle.lane_logs.specs.Names.{IsNamedMark, SessionNames}
+use Rattle.lane_logs.specs.OpenerLog.{Looked, MayFollowOpened, OpenerPart, closed, look_label, opened, opener_labels, resting, restarted}
+use Rattle.lane_logs.specs.Parts.{Part, executed, failed, idle, labels_in, missing, turned}
+use Rattle.lane_logs.specs.Calls.{CallsActs}
+use Rattle.lane_logs.specs.SeatNumbers.{opener_seat}
+use Rattle.lane_logs.specs.WorkerLog.{MayFollowStopped, WorkerPart, stopped, waiting}
 use Rattle.history_merge.proofs.HistoryLemmas.{AreLabelled, IsPlain, label_of}
 use Rattle.history_merge.proofs.LabellingLemmas.{AreLabels, each_label}
 use Rattle.history_merge.proofs.PartLemmas.{Every, every-append, every_all, every_so, labels_worker}
-use Rattle.book_context.proofs.PlaceLemmas.{within_script}
+use Rattle.execution_laws.proofs.PlaceLemmas.{within_script}
 use Rattle.reactor_turns.proofs.SummingLemmas.{one_if}
 use Rattle.history_merge.proofs.PlacedLemmas.{total}
 

@@ -12,15 +12,15 @@ use Rattle.lane_clock.specs.History.{ClockEvent, steps_under}
 use Rattle.lane_clock.specs.Rule.{StepAt}
 use Rattle.lane_clock.proofs.KnownLemmas.{event, under_same}
 use Rattle.lane_clock.proofs.MomentLemmas.{Tail, at_start, tail_more, under_grows}
-use Rattle.lane_turns.specs.Cuts.{IsEventAt}
-use Rattle.lane_turns.specs.Knowing.{joined_count}
-use Rattle.lane_turns.specs.Labels.{Labelled, entries_in, events_in, shows, silent, step_of}
-use Rattle.lane_turns.specs.LaneLog.{MayFollow}
-use Rattle.lane_turns.specs.Logs.{AreLogs, LogsView, session_layout}
-use Rattle.lane_turns.specs.Names.{SessionNames}
-use Rattle.lane_turns.specs.Parts.{Part, executed, failed, idle, labels_in, missing, turned}
-use Rattle.lane_turns.specs.SeatNumbers.{lane_count, opener_seat}
-use Rattle.lane_turns.specs.Stand.{Stand, stand_from, stand_of}
+use Rattle.lane_logs.specs.Cuts.{IsEventAt}
+use Rattle.lane_logs.specs.Knowing.{joined_count}
+use Rattle.lane_logs.specs.Labels.{Labelled, entries_in, events_in, shows, silent, step_of}
+use Rattle.lane_logs.specs.LaneLog.{MayFollow}
+use Rattle.lane_logs.specs.Logs.{AreLogs, LogsView, session_layout}
+use Rattle.lane_logs.specs.Names.{SessionNames}
+use Rattle.lane_logs.specs.Parts.{Part, executed, failed, idle, labels_in, missing, turned}
+use Rattle.lane_logs.specs.SeatNumbers.{lane_count, opener_seat}
+use Rattle.lane_logs.specs.Stand.{Stand, stand_from, stand_of}
 use Rattle.history_merge.proofs.CutLemmas.{cut_exact, under_take}
 use Rattle.history_merge.proofs.DrawRoundLemmas.{every_here}
 use Rattle.history_merge.proofs.GoingLemmas.{IsAlone, IsDrawing, IsNoJoin, executed_draws, failed_draws, turned_draws}

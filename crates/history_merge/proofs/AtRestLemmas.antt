@@ -13,10 +13,10 @@ use Rattle.history_rules.specs.declared.phase.ActPhase.TheVariants as phase
 use Rattle.lane_clock.specs.History.{ClockEvent}
 use Rattle.lane_map.specs.LaneNumbers.{home_lane}
 use Rattle.lane_map.proofs.RankLemmas.{op_within}
-use Rattle.lane_turns.specs.Labels.{Labelled}
-use Rattle.lane_turns.specs.Logs.{LogsView}
-use Rattle.lane_turns.specs.Names.{SessionNames}
-use Rattle.lane_turns.specs.SeatNumbers.{lane_count}
+use Rattle.lane_logs.specs.Labels.{Labelled}
+use Rattle.lane_logs.specs.Logs.{LogsView}
+use Rattle.lane_logs.specs.Names.{SessionNames}
+use Rattle.lane_logs.specs.SeatNumbers.{lane_count}
 use Rattle.history_merge.specs.Among.{IsPlaceOn, LaneIsIdle, is_underway}
 use Rattle.history_merge.proofs.AlikeLemmas.{is_not, never}
 use Rattle.history_merge.proofs.AmongLemmas.{IsGoing, going_ends}

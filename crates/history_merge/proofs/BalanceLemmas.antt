@@ -25,12 +25,12 @@ use Rattle.history_rules.specs.declared.phase.ActPhase.TheVariants as phase
 use Rattle.history_rules.specs.declared.phase.ActState.{ActState}
 use Rattle.history_rules.specs.declared.phase.Cause.TheVariants as cause
 use Rattle.history_rules.specs.declared.phase.Step.{Step}
-use Rattle.book_context.specs.Work.{is_pending, is_requested, pending_acts}
-use Rattle.book_context.proofs.AccountLemmas.{account_done, account_last, account_tick, pending_same}
-use Rattle.book_context.proofs.CountingLemmas.{counted, counted-range}
-use Rattle.book_context.proofs.RestLemmas.{is_within}
-use Rattle.book_context.proofs.SettledLemmas.{awaited}
-use Rattle.book_context.proofs.StateLemmas.{act_at-other, act_at-same}
+use Rattle.execution_laws.specs.Work.{is_pending, is_requested, pending_acts}
+use Rattle.execution_laws.proofs.AccountLemmas.{account_done, account_last, account_tick, pending_same}
+use Rattle.execution_laws.proofs.CountingLemmas.{counted, counted-range}
+use Rattle.execution_laws.proofs.RestLemmas.{is_within}
+use Rattle.execution_laws.proofs.SettledLemmas.{awaited}
+use Rattle.execution_laws.proofs.StateLemmas.{act_at-other, act_at-same}
 use Rattle.reactor_turns.specs.Ahead.{IsHalfOf, IsOpenRequest, LeavesRoom, MayShow as MayTurn}
 use Rattle.reactor_turns.specs.Standing.{is_awaited, stands}
 use Rattle.reactor_turns.proofs.AheadLemmas.{event_leaves}

@@ -12,12 +12,12 @@ use Rattle.lane_clock.specs.declared.step.ClockStep.TheVariants.{Load, Look}
 use Rattle.lane_clock.specs.History.{ClockEvent}
 use Rattle.lane_clock.proofs.MomentLemmas.{Tail}
 use Rattle.lane_map.specs.LaneNumbers.{reactor_lane}
-use Rattle.lane_turns.specs.Labels.{Labelled, shows, silent}
-use Rattle.lane_turns.specs.LaneLog.{MayFollow}
-use Rattle.lane_turns.specs.Logs.{AreLogs, LogsView}
-use Rattle.lane_turns.specs.Names.{IsNamedMark, SessionNames}
-use Rattle.lane_turns.specs.Parts.{ExecutedPart, Part, executed, failed, idle, labels_in, missing, next_place, places_used, turned}
-use Rattle.lane_turns.specs.SeatNumbers.{lane_count, opener_seat}
+use Rattle.lane_logs.specs.Labels.{Labelled, shows, silent}
+use Rattle.lane_logs.specs.LaneLog.{MayFollow}
+use Rattle.lane_logs.specs.Logs.{AreLogs, LogsView}
+use Rattle.lane_logs.specs.Names.{IsNamedMark, SessionNames}
+use Rattle.lane_logs.specs.Parts.{ExecutedPart, Part, executed, failed, idle, labels_in, missing, next_place, places_used, turned}
+use Rattle.lane_logs.specs.SeatNumbers.{lane_count, opener_seat}
 use Rattle.history_merge.proofs.AlikeLemmas.{never}
 use Rattle.history_merge.proofs.DrawRoundLemmas.{nothing_in}
 use Rattle.history_merge.proofs.LabellingLemmas.{AreLabels}

@@ -19,9 +19,9 @@ use Rattle.history_rules.specs.declared.phase.ActPhase.TheVariants as phase
 use Rattle.history_rules.specs.declared.phase.ActState.{ActState}
 use Rattle.history_rules.specs.declared.phase.Cause.TheVariants as cause
 use Rattle.history_rules.specs.declared.phase.Step.{Step}
-use Rattle.lane_turns.specs.LaneLog.{is_begin_of}
-use Rattle.book_context.specs.Order.{has_begun}
-use Rattle.book_context.proofs.RestLemmas.{is_within}
+use Rattle.lane_logs.specs.LaneLog.{is_begin_of}
+use Rattle.execution_laws.specs.Order.{has_begun}
+use Rattle.execution_laws.proofs.RestLemmas.{is_within}
 use Rattle.reactor_turns.proofs.SummingLemmas.{one_if}
 use Rattle.history_merge.proofs.CalledLemmas.{AreExpected}
 use Rattle.history_merge.proofs.CountedLemmas.{counted_is, counted_most}

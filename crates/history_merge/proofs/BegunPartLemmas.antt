@@ -15,10 +15,10 @@ use Rattle.lane_clock.specs.declared.note.Note.{Note}
 use Rattle.lane_clock.specs.declared.step.ClockStep.{ClockStep}
 use Rattle.lane_clock.specs.declared.step.ClockStep.TheVariants.{Draw, Load, Place, Put, Look, Join}
 use Rattle.lane_map.specs.LaneNumbers.{cells_of, reactor_lane}
-use Rattle.lane_turns.specs.Labels.{Labelled, allots, entries_in, events_in, shows, silent}
-use Rattle.lane_turns.specs.LaneLog.{AreParts, IsIdleStep, MayFollow}
-use Rattle.lane_turns.specs.Names.{SessionNames}
-use Rattle.lane_turns.specs.Parts.{Part, TurnPart, TurnStart, end_labels, executed, failed, fault_label, idle, labels_in, labels_of, looks_empty, missing, next_place, passes, places_used, start_labels, takes, turned}
+use Rattle.lane_logs.specs.Labels.{Labelled, allots, entries_in, events_in, shows, silent}
+use Rattle.lane_logs.specs.LaneLog.{AreParts, IsIdleStep, MayFollow}
+use Rattle.lane_logs.specs.Names.{SessionNames}
+use Rattle.lane_logs.specs.Parts.{Part, TurnPart, TurnStart, end_labels, executed, failed, fault_label, idle, labels_in, labels_of, looks_empty, missing, next_place, passes, places_used, start_labels, takes, turned}
 use Rattle.history_merge.proofs.DrawnLemmas.{drawn_shown}
 use Rattle.history_merge.proofs.EachLabelLemmas.{HoldsOf, calls_each, end_each, is_of_execution, is_of_turn}
 use Rattle.history_merge.proofs.PartLemmas.{Every, at_left, at_right, every_at}

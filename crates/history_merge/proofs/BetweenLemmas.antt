@@ -12,13 +12,13 @@ use Rattle.lane_clock.specs.History.{ClockEvent, steps_under}
 use Rattle.lane_clock.specs.Rule.{StepAt}
 use Rattle.lane_clock.proofs.KnownLemmas.{at_within, event, under_same}
 use Rattle.lane_clock.proofs.MomentLemmas.{Tail, at_start, moment_of, sound_tail, tail_more, tail_trans, under_length}
-use Rattle.lane_turns.specs.Knowing.{joined_count, known_steps}
-use Rattle.lane_turns.specs.Labels.{Labelled, silent, step_of, steps_in}
-use Rattle.lane_turns.specs.Logs.{AreLogs, LogsView, session_layout}
-use Rattle.lane_turns.specs.Names.{SessionNames}
-use Rattle.lane_turns.specs.Parts.{Part, labels_in, labels_of}
-use Rattle.lane_turns.specs.SeatNumbers.{lane_count, opener_seat}
-use Rattle.lane_turns.specs.Stand.{Stand, first_stand, stand_of}
+use Rattle.lane_logs.specs.Knowing.{joined_count, known_steps}
+use Rattle.lane_logs.specs.Labels.{Labelled, silent, step_of, steps_in}
+use Rattle.lane_logs.specs.Logs.{AreLogs, LogsView, session_layout}
+use Rattle.lane_logs.specs.Names.{SessionNames}
+use Rattle.lane_logs.specs.Parts.{Part, labels_in, labels_of}
+use Rattle.lane_logs.specs.SeatNumbers.{lane_count, opener_seat}
+use Rattle.lane_logs.specs.Stand.{Stand, first_stand, stand_of}
 use Rattle.history_merge.proofs.CutLemmas.{joined_within, known_stand, none_between, opened_stays, stand-append, under_at, under_start, under_take}
 use Rattle.history_merge.proofs.GoingLemmas.{IsDrawing, known, opened_known, quiet, split}
 use Rattle.history_merge.proofs.HistoryLemmas.{IsLabelled, index_is, label_of}

@@ -12,10 +12,10 @@ use Rattle.lane_clock.specs.Steps.{place_count}
 use Rattle.lane_clock.proofs.KnownLemmas.{event as made_event}
 use Rattle.lane_clock.proofs.MomentLemmas.{moment_of, sound_tail, tail_refl}
 use Rattle.lane_map.specs.LaneNumbers.{act_passes, asks_its_lane, home_lane, reactor_lane}
-use Rattle.lane_turns.specs.Labels.{Labelled, allots, shows, silent, step_of}
-use Rattle.lane_turns.specs.Logs.{AreLogs, LogsView, session_layout}
-use Rattle.lane_turns.specs.Names.{SessionNames}
-use Rattle.lane_turns.specs.SeatNumbers.{lane_count}
+use Rattle.lane_logs.specs.Labels.{Labelled, allots, shows, silent, step_of}
+use Rattle.lane_logs.specs.Logs.{AreLogs, LogsView, session_layout}
+use Rattle.lane_logs.specs.Names.{SessionNames}
+use Rattle.lane_logs.specs.SeatNumbers.{lane_count}
 use Rattle.history_merge.specs.Merging.{NoneIsBeyond}
 use Rattle.history_merge.proofs.AskedLemmas.{asked_label}
 use Rattle.history_merge.proofs.CalledLemmas.{AreExpected}

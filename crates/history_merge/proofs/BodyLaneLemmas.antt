@@ -20,7 +20,7 @@ use Rattle.session_script.proofs.PlacingLemmas.{has_parent}
 use Rattle.strand_core.specs.Execution.{AreCalls, IsWholeExecution, events_of, inside, no_act, outside}
 use Rattle.strand_core.specs.declared.posted.Posted.{Posted}
 use Rattle.strand_core.specs.declared.posted.Posted.TheVariants as posted
-use Rattle.book_context.proofs.PlaceLemmas.{parent_is}
+use Rattle.execution_laws.proofs.PlaceLemmas.{parent_is}
 use Rattle.lane_map.proofs.PlaceLemmas.{lane_at}
 use Rattle.history_merge.specs.Among.{IsPlaceOn}
 

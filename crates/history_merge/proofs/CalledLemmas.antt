@@ -23,8 +23,8 @@ use Rattle.history_rules.specs.declared.phase.CallPhase.TheVariants as call
 use Rattle.history_rules.specs.declared.phase.Cause.TheVariants as cause
 use Rattle.history_rules.specs.declared.phase.Step.{Step}
 use Rattle.history_rules.specs.declared.phase.Step.TheVariants as step
-use Rattle.lane_turns.specs.Drops.{is_call_of}
-use Rattle.book_context.specs.Kinds.{was_called}
+use Rattle.lane_logs.specs.Drops.{is_call_of}
+use Rattle.execution_laws.specs.Kinds.{was_called}
 use Rattle.reactor_turns.proofs.SummingLemmas.{one_if}
 use Rattle.history_merge.proofs.CountedLemmas.{counted_is, counted_most}
 use Rattle.history_merge.proofs.EachActLemmas.{Each, right_set}

@@ -8,10 +8,10 @@ use Rattle.session_script.specs.WellFormed.{IsWellFormed}
 use Rattle.history_rules.specs.State.{first_state}
 use Rattle.lane_clock.specs.History.{ClockEvent, IsSoundHistory}
 use Rattle.lane_map.specs.LaneNumbers.{asked_lane, reactor_lane}
-use Rattle.lane_turns.specs.Labels.{Labelled, allots, shows, silent}
-use Rattle.lane_turns.specs.Logs.{LogsView}
-use Rattle.lane_turns.specs.Names.{SessionNames}
-use Rattle.book_context.proofs.CountingLemmas.{counted}
+use Rattle.lane_logs.specs.Labels.{Labelled, allots, shows, silent}
+use Rattle.lane_logs.specs.Logs.{LogsView}
+use Rattle.lane_logs.specs.Names.{SessionNames}
+use Rattle.execution_laws.proofs.CountingLemmas.{counted}
 use Rattle.reactor_turns.proofs.SummingLemmas.{one_if, only, summed, summed-both, summed-only, summed-same}
 use Rattle.history_merge.proofs.AlikeLemmas.{never}
 use Rattle.history_merge.proofs.AskedLemmas.{IsAsked, allots_on, asked_label}

@@ -8,12 +8,12 @@ use Rattle.history_rules.specs.State.{first_state}
 use Rattle.lane_clock.specs.History.{ClockEvent, places_after, steps_under}
 use Rattle.lane_clock.proofs.MomentLemmas.{Tail, sound_tail}
 use Rattle.lane_map.specs.LaneNumbers.{cells_of, cells_on, lane_list, reactor_lane}
-use Rattle.lane_turns.specs.Labels.{Labelled}
-use Rattle.lane_turns.specs.LaneLog.{half_after}
-use Rattle.lane_turns.specs.Logs.{AreLogs, LogsView, session_layout}
-use Rattle.lane_turns.specs.Names.{SessionNames}
-use Rattle.lane_turns.specs.Parts.{labels_of}
-use Rattle.lane_turns.specs.SeatNumbers.{lane_count, opener_seat}
+use Rattle.lane_logs.specs.Labels.{Labelled}
+use Rattle.lane_logs.specs.LaneLog.{half_after}
+use Rattle.lane_logs.specs.Logs.{AreLogs, LogsView, session_layout}
+use Rattle.lane_logs.specs.Names.{SessionNames}
+use Rattle.lane_logs.specs.Parts.{labels_of}
+use Rattle.lane_logs.specs.SeatNumbers.{lane_count, opener_seat}
 use Rattle.reactor_turns.proofs.SummingLemmas.{one_if}
 use Rattle.history_merge.proofs.AskedLemmas.{allots_on, places_total}
 use Rattle.history_merge.proofs.CellsEnoughLemmas.{cells_enough, reacts_total, split_total, told_most}

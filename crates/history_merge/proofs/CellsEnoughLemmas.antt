@@ -11,11 +11,11 @@ use Rattle.session_script.specs.declared.act.Act.TheVariants as act
 use Rattle.history_rules.specs.Kinds.{is_posting}
 use Rattle.reactor_turns.specs.Standing.{is_awaited}
 use Rattle.reactor_turns.proofs.SummingLemmas.{one_if, summed, summed-both, summed-less}
-use Rattle.book_context.proofs.CountingLemmas.{counted, counted-either, counted-range}
+use Rattle.execution_laws.proofs.CountingLemmas.{counted, counted-either, counted-range}
 use Rattle.lane_clock.specs.History.{ClockEvent}
 use Rattle.lane_map.specs.LaneNumbers.{act_passes, asked_lane, asks_its_lane, asks_reactor, cells_on, has_cell, has_cell_on, home_lane, passing_before, reactor_lane}
 use Rattle.lane_map.proofs.RankLemmas.{op_within}
-use Rattle.lane_turns.specs.Labels.{Labelled, allots, shows, silent}
+use Rattle.lane_logs.specs.Labels.{Labelled, allots, shows, silent}
 use Rattle.history_merge.proofs.AlikeLemmas.{is_not, never}
 use Rattle.history_merge.proofs.AskedLemmas.{allots_on}
 use Rattle.history_merge.proofs.BackLemmas.{allots_for}

@@ -20,15 +20,15 @@ use Rattle.lane_clock.specs.declared.step.ClockStep.{ClockStep}
 use Rattle.lane_clock.specs.declared.step.ClockStep.TheVariants.{Look, Put}
 use Rattle.lane_clock.specs.Changes.{stop_of}
 use Rattle.lane_map.specs.LaneNumbers.{asked_lane, cells_of, home_lane}
-use Rattle.lane_turns.specs.Labels.{AreDrawn, IsDrawn, Labelled, allots, begins, call_note, dispatches, ends, none_drawn, one_drawn, posts, returns, shows, silent, stops_context}
-use Rattle.lane_turns.specs.LaneLog.{MayFollow}
-use Rattle.lane_turns.specs.Logs.{LogsView}
-use Rattle.lane_turns.specs.Names.{SessionNames}
-use Rattle.lane_turns.specs.OpenerLog.{ClosedPart, Closes, Looked, MayFollowOpened, OpenerPart, closed, closing_change, look_label, opened, opener_labels, resting, restarted}
-use Rattle.lane_turns.specs.Parts.{Part, TurnEnd, TurnStart, end_labels, executed, failed, fails, idle, labels_in, looks_empty, missing, passes, start_labels, takes, tells, turned}
-use Rattle.lane_turns.specs.ReactorTurns.{AreTold, EndsTurn, MayStartTurn, done_labels, done_note, lets_go, none_told, one_told, point_event}
-use Rattle.lane_turns.specs.SeatNumbers.{opener_seat}
-use Rattle.lane_turns.specs.WorkerLog.{MayFollowStopped, WorkerPart, stopped, waiting}
+use Rattle.lane_logs.specs.Labels.{AreDrawn, IsDrawn, Labelled, allots, begins, call_note, dispatches, ends, none_drawn, one_drawn, posts, returns, shows, silent, stops_context}
+use Rattle.lane_logs.specs.LaneLog.{MayFollow}
+use Rattle.lane_logs.specs.Logs.{LogsView}
+use Rattle.lane_logs.specs.Names.{SessionNames}
+use Rattle.lane_logs.specs.OpenerLog.{ClosedPart, Closes, Looked, MayFollowOpened, OpenerPart, closed, closing_change, look_label, opened, opener_labels, resting, restarted}
+use Rattle.lane_logs.specs.Parts.{Part, TurnEnd, TurnStart, end_labels, executed, failed, fails, idle, labels_in, looks_empty, missing, passes, start_labels, takes, tells, turned}
+use Rattle.lane_logs.specs.ReactorTurns.{AreTold, EndsTurn, MayStartTurn, done_labels, done_note, lets_go, none_told, one_told, point_event}
+use Rattle.lane_logs.specs.SeatNumbers.{opener_seat}
+use Rattle.lane_logs.specs.WorkerLog.{MayFollowStopped, WorkerPart, stopped, waiting}
 use Rattle.history_merge.proofs.LabellingLemmas.{AreLabels, each_label}
 use Rattle.history_merge.proofs.PartLemmas.{Every, every-append, labels_worker}
 use Rattle.history_merge.proofs.StopLemmas.{Halts, halts_with}

@@ -14,14 +14,14 @@ use Rattle.lane_clock.specs.declared.found.Change.{Change}
 use Rattle.lane_clock.specs.declared.found.Found.{Found}
 use Rattle.lane_clock.specs.History.{ClockEvent, steps_under}
 use Rattle.lane_clock.proofs.MomentLemmas.{Tail, tail_more, tail_refl}
-use Rattle.lane_turns.specs.Knowing.{joined_count}
-use Rattle.lane_turns.specs.Labels.{Labelled, shows, steps_in}
-use Rattle.lane_turns.specs.Logs.{AreLogs, LogsView}
-use Rattle.lane_turns.specs.Names.{SessionNames}
-use Rattle.lane_turns.specs.OpenerLog.{ClosedPart, Closes, ClosesPolled, IsClosedPart, OpenerPart, closed, opened, opener_labels, resting, restarted, stand_after}
-use Rattle.lane_turns.specs.SeatNumbers.{lane_count, opener_seat}
-use Rattle.lane_turns.specs.Stand.{Stand, is_round_open, round_at, wants_restart}
-use Rattle.lane_turns.proofs.StandLemmas.{IsWaiting, waiting_stand}
+use Rattle.lane_logs.specs.Knowing.{joined_count}
+use Rattle.lane_logs.specs.Labels.{Labelled, shows, steps_in}
+use Rattle.lane_logs.specs.Logs.{AreLogs, LogsView}
+use Rattle.lane_logs.specs.Names.{SessionNames}
+use Rattle.lane_logs.specs.OpenerLog.{ClosedPart, Closes, ClosesPolled, IsClosedPart, OpenerPart, closed, opened, opener_labels, resting, restarted, stand_after}
+use Rattle.lane_logs.specs.SeatNumbers.{lane_count, opener_seat}
+use Rattle.lane_logs.specs.Stand.{Stand, is_round_open, round_at, wants_restart}
+use Rattle.lane_logs.proofs.StandLemmas.{IsWaiting, waiting_stand}
 use Rattle.history_merge.proofs.AtRestLemmas.{call_closed, no_call_open, nothing_runs}
 use Rattle.history_merge.proofs.AtEventLemmas.{nothing_left}
 use Rattle.history_merge.proofs.DrawRoundLemmas.{nothing_in}

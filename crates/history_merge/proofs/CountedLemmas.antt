@@ -9,7 +9,7 @@ use Rattle.asio_types.specs.declared.event.Event.TheVariants as event
 use Rattle.session_script.specs.Script.{ScriptModel}
 use Rattle.history_rules.specs.Legal.{after_event, context_after, state_from}
 use Rattle.history_rules.specs.State.{State}
-use Rattle.book_context.proofs.CountLemmas.{one_more-is}
+use Rattle.execution_laws.proofs.CountLemmas.{one_more-is}
 use Rattle.reactor_turns.proofs.SummingLemmas.{one_if}
 use Rattle.history_merge.proofs.FrameLemmas.{RoundPart, part-after, round_after, round_part}
 use Rattle.history_merge.proofs.TimesLemmas.{times}

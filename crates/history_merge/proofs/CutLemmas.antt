@@ -17,10 +17,10 @@ use Rattle.lane_clock.specs.Layout.{Layout}
 use Rattle.lane_clock.specs.Rule.{StepAt}
 use Rattle.lane_clock.proofs.KnownLemmas.{at_within, event, under_other, under_same}
 use Rattle.lane_clock.proofs.MomentLemmas.{Tail, moment_of, sound_tail, tail_more, tail_trans, under_grows, under_length}
-use Rattle.lane_turns.specs.Cuts.{IsCut, IsEventAt}
-use Rattle.lane_turns.specs.Knowing.{joined_count, known_steps}
-use Rattle.lane_turns.specs.SeatNumbers.{opener_seat}
-use Rattle.lane_turns.specs.Stand.{Stand, after_draw, after_opening_draw, after_round_draw, base_of, first_stand, is_round_open, shut, stand_from, stand_of, wants_restart}
+use Rattle.lane_logs.specs.Cuts.{IsCut, IsEventAt}
+use Rattle.lane_logs.specs.Knowing.{joined_count, known_steps}
+use Rattle.lane_logs.specs.SeatNumbers.{opener_seat}
+use Rattle.lane_logs.specs.Stand.{Stand, after_draw, after_opening_draw, after_round_draw, base_of, first_stand, is_round_open, shut, stand_from, stand_of, wants_restart}
 use Rattle.history_merge.proofs.PartLemmas.{at_left}
 use mathlib.Core.Logic.{dite}
 use native.Mathlib.Decide.{ℕ_discrete}

@@ -18,8 +18,9 @@ use Rattle.history_rules.specs.declared.phase.ActPhase.TheVariants as phase
 use Rattle.history_rules.specs.declared.phase.ActState.{ActState}
 use Rattle.history_rules.specs.declared.phase.Cause.TheVariants as cause
 use Rattle.history_rules.specs.declared.phase.Step.{Step}
-use Rattle.book_context.specs.Kinds.{was_called}
-use Rattle.book_context.proofs.StateLemmas.{act_at-same}
+use Rattle.execution_laws.specs.Kinds.{was_called}
+use Rattle.execution_laws.proofs.StateLemmas.{act_at-same}
+use Rattle.execution_laws.proofs.RestLemmas.{is_within}
 use Rattle.history_merge.proofs.CountedLemmas.{counted_apart, counted_in, is_counted}
 use Rattle.history_merge.proofs.EachActLemmas.{Each}
 use Rattle.history_merge.proofs.AskLemmas.{IsNoDrop}
@@ -29,7 +30,6 @@ use Rattle.history_merge.proofs.KindLemmas.{AreOfKind, op_is}
 use Rattle.history_merge.proofs.TestLemmas.{IsSame, back_same, base_same, begin_same, call_same, phase_same, stop_same}
 use Rattle.history_merge.proofs.NextCallLemmas.{next_within}
 use Rattle.history_merge.proofs.OrderlyLemmas.{IsExpected, IsInOrder}
-use Rattle.book_context.proofs.RestLemmas.{is_within}
 
 turn_by : (shown : Event) (part : RoundPart) (t : ℕ) → (round_after shown part).turn ≡ Some t →
     (part.turn ≡ Some t) ⊎ ((is_start shown ≡ true) × (t ≡ part.events))

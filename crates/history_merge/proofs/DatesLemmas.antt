@@ -27,7 +27,7 @@ use Rattle.history_rules.specs.declared.phase.CallPhase.TheVariants as call
 use Rattle.history_rules.specs.declared.phase.Cause.TheVariants as cause
 use Rattle.history_rules.specs.declared.phase.Step.{Step}
 use Rattle.history_rules.specs.declared.phase.Step.TheVariants as step
-use Rattle.book_context.specs.Kinds.{was_called}
+use Rattle.execution_laws.specs.Kinds.{was_called}
 use Rattle.history_merge.proofs.CountedLemmas.{counted_in}
 use Rattle.history_merge.proofs.EachActLemmas.{Each, act_in, right_set}
 use Rattle.history_merge.proofs.FrameLemmas.{acts_limited, acts_spent}

@@ -14,16 +14,16 @@ use Rattle.lane_clock.specs.declared.step.ClockStep.TheVariants.{Draw, Join}
 use Rattle.lane_clock.specs.History.{ClockEvent, steps_under}
 use Rattle.lane_clock.specs.Rule.{StepAt}
 use Rattle.lane_clock.proofs.MomentLemmas.{Tail, tail_more}
-use Rattle.lane_turns.specs.Knowing.{known_steps}
-use Rattle.lane_turns.specs.Labels.{Labelled, shows, silent, step_of, steps_in}
-use Rattle.lane_turns.specs.LaneLog.{MayFollow}
-use Rattle.lane_turns.specs.Logs.{AreLogs, LogsView, session_layout}
-use Rattle.lane_turns.specs.Names.{SessionNames}
-use Rattle.lane_turns.specs.Parts.{Part, executed, failed, idle, labels_in, missing, turned}
-use Rattle.lane_turns.specs.SeatNumbers.{IsWorkerSeat, lane_count, opener_seat}
-use Rattle.lane_turns.specs.Stand.{Stand, is_round_open, stand_of}
-use Rattle.lane_turns.specs.WorkerLog.{IsStoppedPart, MayFollowStopped, WorkerPart, labels_of_worker, stand_known, stopped, waiting}
-use Rattle.lane_turns.proofs.PenLemmas.{steps-append}
+use Rattle.lane_logs.specs.Knowing.{known_steps}
+use Rattle.lane_logs.specs.Labels.{Labelled, shows, silent, step_of, steps_in}
+use Rattle.lane_logs.specs.LaneLog.{MayFollow}
+use Rattle.lane_logs.specs.Logs.{AreLogs, LogsView, session_layout}
+use Rattle.lane_logs.specs.Names.{SessionNames}
+use Rattle.lane_logs.specs.Parts.{Part, executed, failed, idle, labels_in, missing, turned}
+use Rattle.lane_logs.specs.SeatNumbers.{IsWorkerSeat, lane_count, opener_seat}
+use Rattle.lane_logs.specs.Stand.{Stand, is_round_open, stand_of}
+use Rattle.lane_logs.specs.WorkerLog.{IsStoppedPart, MayFollowStopped, WorkerPart, labels_of_worker, stand_known, stopped, waiting}
+use Rattle.lane_logs.proofs.LabelLemmas.{steps-append}
 use Rattle.history_merge.proofs.CutLemmas.{IsRoundOf, known_stand, open_opened}
 use Rattle.history_merge.proofs.GoingLemmas.{IsDrawing, executed_draws, failed_draws, going_at, turned_draws}
 use Rattle.history_merge.proofs.HistoryLemmas.{IsLabelled, label_of}

@@ -9,10 +9,10 @@ use Rattle.strand_core.specs.declared.posted.Posted.{Posted}
 use Rattle.lane_clock.specs.declared.note.Note.{Note}
 use Rattle.lane_clock.specs.declared.step.ClockStep.TheVariants.{Put}
 use Rattle.lane_map.specs.LaneNumbers.{asked_lane, cells_of}
-use Rattle.lane_turns.specs.declared.log.LogEntry.{LogEntry}
-use Rattle.lane_turns.specs.Labels.{AreDrawn, IsDrawn, Labelled, begins, call_note, dispatches, ends, entries_in, events_in, none_drawn, one_drawn, posts, returns, silent, stops_context}
-use Rattle.lane_turns.proofs.PenLemmas.{entries-append}
-use Rattle.book_context.proofs.EventLemmas.{events-append}
+use Rattle.lane_logs.specs.declared.log.LogEntry.{LogEntry}
+use Rattle.lane_logs.specs.Labels.{AreDrawn, IsDrawn, Labelled, begins, call_note, dispatches, ends, entries_in, events_in, none_drawn, one_drawn, posts, returns, silent, stops_context}
+use Rattle.lane_logs.proofs.LabelLemmas.{entries-append}
+use Rattle.execution_laws.proofs.EventLemmas.{events-append}
 
 put_by : (within : Bool) (lane place : ℕ) (note : Note) →
     entries_in (cond within (silent (Put lane place note) ∷ []) []) ≡ []

@@ -11,8 +11,8 @@ use Rattle.history_rules.specs.Rounds.{AllClosed, IsOver, MayDrop, is_running, i
 use Rattle.history_rules.specs.State.{State, act_at, fresh, phase_at}
 use Rattle.history_rules.specs.declared.phase.ActPhase.TheVariants as phase
 use Rattle.history_rules.specs.declared.phase.ActState.{ActState}
-use Rattle.book_context.proofs.RestLemmas.{is_within}
-use Rattle.book_context.proofs.StateLemmas.{act_at-other, act_at-same, length-acts}
+use Rattle.execution_laws.proofs.RestLemmas.{is_within}
+use Rattle.execution_laws.proofs.StateLemmas.{act_at-other, act_at-same, length-acts}
 
 -- the drops of those operations from a number on that pass a test
 abbrev pub drops_from : (ℕ → ℕ) → (ℕ → Bool) → ℕ → ℕ → List Event

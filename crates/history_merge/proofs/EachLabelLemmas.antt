@@ -13,10 +13,10 @@ use Rattle.lane_clock.specs.declared.note.Note.{Note}
 use Rattle.lane_clock.specs.declared.step.ClockStep.{ClockStep}
 use Rattle.lane_clock.specs.declared.step.ClockStep.TheVariants.{Look, Put}
 use Rattle.lane_map.specs.LaneNumbers.{cells_of, home_lane}
-use Rattle.lane_turns.specs.Labels.{AreDrawn, IsDrawn, Labelled, allots, begins, call_note, dispatches, ends, none_drawn, one_drawn, posts, put_within, returns, shows, silent, stops_context}
-use Rattle.lane_turns.specs.OpenerLog.{Looked, look_label}
-use Rattle.lane_turns.specs.Parts.{TurnEnd, end_labels, fails, looks_empty, tells}
-use Rattle.lane_turns.specs.ReactorTurns.{AreTold, EndsTurn, done_labels, done_note, none_told, one_told}
+use Rattle.lane_logs.specs.Labels.{AreDrawn, IsDrawn, Labelled, allots, begins, call_note, dispatches, ends, none_drawn, one_drawn, posts, put_within, returns, shows, silent, stops_context}
+use Rattle.lane_logs.specs.OpenerLog.{Looked, look_label}
+use Rattle.lane_logs.specs.Parts.{TurnEnd, end_labels, fails, looks_empty, tells}
+use Rattle.lane_logs.specs.ReactorTurns.{AreTold, EndsTurn, done_labels, done_note, none_told, one_told}
 use Rattle.history_merge.proofs.PartLemmas.{Every, every-append}
 
 -- an event of an execution

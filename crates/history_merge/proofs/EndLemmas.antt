@@ -21,23 +21,23 @@ use Rattle.history_rules.specs.Marks.{HasMarks}
 use Rattle.history_rules.specs.Rounds.{IsOver, is_running, is_unspent}
 use Rattle.history_rules.specs.State.{ReactorHalf, State, first_reactor, first_state, fresh, phase_at}
 use Rattle.history_rules.specs.Time.{at_last, at_time}
-use Rattle.book_context.proofs.EventLemmas.{legal-append, state_from-append}
-use Rattle.book_context.proofs.ShownLemmas.{marks-append}
+use Rattle.execution_laws.proofs.EventLemmas.{legal-append, state_from-append}
+use Rattle.execution_laws.proofs.ShownLemmas.{marks-append}
 use Rattle.reactor_turns.proofs.ClockLemmas.{settled-clock, time-done}
 use Rattle.lane_clock.specs.History.{ClockEvent, steps_under}
 use Rattle.lane_clock.proofs.MomentLemmas.{tail_refl}
 use Rattle.lane_map.specs.LaneNumbers.{home_lane, reactor_lane}
 use Rattle.lane_map.proofs.RankLemmas.{op_within}
-use Rattle.lane_turns.specs.declared.log.LogEntry.{LogEntry}
-use Rattle.lane_turns.specs.Drops.{has_call, is_call_of, is_left}
-use Rattle.lane_turns.specs.Half.{half_from, half_of}
-use Rattle.lane_turns.specs.Labels.{Labelled, entries_in, events_in}
-use Rattle.lane_turns.specs.LaneLog.{has_begun, is_begin_of}
-use Rattle.lane_turns.specs.Logs.{AreLogs, LogsView, all_events, entries_of}
-use Rattle.lane_turns.specs.Names.{SessionNames}
-use Rattle.lane_turns.specs.Parts.{Part, executed, failed, idle, labels_in, missing, turned}
-use Rattle.lane_turns.specs.SeatNumbers.{lane_count, opener_seat}
-use Rattle.lane_turns.specs.Stand.{stand_of}
+use Rattle.lane_logs.specs.declared.log.LogEntry.{LogEntry}
+use Rattle.lane_logs.specs.Drops.{has_call, is_call_of, is_left}
+use Rattle.lane_logs.specs.Half.{half_from, half_of}
+use Rattle.lane_logs.specs.Labels.{Labelled, entries_in, events_in}
+use Rattle.lane_logs.specs.LaneLog.{has_begun, is_begin_of}
+use Rattle.lane_logs.specs.Logs.{AreLogs, LogsView, all_events, entries_of}
+use Rattle.lane_logs.specs.Names.{SessionNames}
+use Rattle.lane_logs.specs.Parts.{Part, executed, failed, idle, labels_in, missing, turned}
+use Rattle.lane_logs.specs.SeatNumbers.{lane_count, opener_seat}
+use Rattle.lane_logs.specs.Stand.{stand_of}
 use Rattle.history_merge.specs.Among.{LaneIsIdle, is_underway}
 use Rattle.history_merge.specs.Merging.{IsLegalMerging, IsMerging, MovesTimeIdly}
 use Rattle.history_merge.proofs.AmongLemmas.{IsGoing, going_ends}

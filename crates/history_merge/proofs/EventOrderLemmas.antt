@@ -28,13 +28,13 @@ use Rattle.history_rules.specs.declared.phase.Cause.TheVariants as cause
 use Rattle.history_rules.specs.declared.phase.Progress.{Progress}
 use Rattle.history_rules.specs.declared.phase.Step.{Step}
 use Rattle.history_rules.specs.declared.phase.Step.TheVariants as step
-use Rattle.book_context.specs.Order.{has_begun}
-use Rattle.book_context.specs.Ready.{IsCallPast, IsCausePast}
-use Rattle.book_context.proofs.CountLemmas.{one_more-is}
-use Rattle.book_context.proofs.MovesLemmas.{past_later}
-use Rattle.book_context.proofs.PlaceLemmas.{few_acts, parent_is, within_script}
-use Rattle.book_context.proofs.ScriptLemmas.{few_in}
-use Rattle.book_context.proofs.StateLemmas.{acts_in}
+use Rattle.execution_laws.specs.Order.{has_begun}
+use Rattle.execution_laws.specs.Ready.{IsCallPast, IsCausePast}
+use Rattle.execution_laws.proofs.CountLemmas.{one_more-is}
+use Rattle.execution_laws.proofs.MovesLemmas.{past_later}
+use Rattle.execution_laws.proofs.PlaceLemmas.{few_acts, parent_is, within_script}
+use Rattle.execution_laws.proofs.ScriptLemmas.{few_in}
+use Rattle.execution_laws.proofs.StateLemmas.{acts_in}
 use Rattle.history_merge.specs.Among.{IsOfOthers, IsPlaceOff}
 use Rattle.history_merge.proofs.EachActLemmas.{Each}
 use Rattle.history_merge.proofs.FrameLemmas.{RoundPart, acts_limited, acts_spent, length-after, opening-limited, opening-spent, part-after, round_after, round_part}

@@ -23,8 +23,8 @@ use Rattle.history_rules.specs.declared.phase.CallPhase.TheVariants as call
 use Rattle.history_rules.specs.declared.phase.Cause.TheVariants as cause
 use Rattle.lane_clock.specs.declared.found.Change.TheVariants as change
 use Rattle.lane_clock.specs.Changes.{down_of, up_of}
-use Rattle.lane_turns.specs.ReactorTurns.{lets_go}
-use Rattle.book_context.proofs.RestLemmas.{is_within}
+use Rattle.lane_logs.specs.ReactorTurns.{lets_go}
+use Rattle.execution_laws.proofs.RestLemmas.{is_within}
 use Rattle.reactor_turns.proofs.SummingLemmas.{one_if}
 use Rattle.reactor_turns.proofs.TakenLemmas.{last-taken, take-taken, tick-taken}
 use Rattle.history_merge.proofs.AlikeLemmas.{never}

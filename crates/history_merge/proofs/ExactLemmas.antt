@@ -16,10 +16,10 @@ use Rattle.history_rules.specs.declared.phase.CallPhase.TheVariants as call
 use Rattle.history_rules.specs.Legal.{MayHappen, after_event, context_after, state_from}
 use Rattle.history_rules.specs.Rounds.{is_unspent}
 use Rattle.history_rules.specs.State.{State, call_at, first_state, fresh, phase_at}
-use Rattle.book_context.specs.Kinds.{is_accepted, was_called}
-use Rattle.book_context.specs.Order.{has_begun}
-use Rattle.lane_turns.specs.Drops.{has_call, is_call_of}
-use Rattle.lane_turns.specs.LaneLog.{has_begun as shows_begin, is_begin_of}
+use Rattle.execution_laws.specs.Kinds.{is_accepted, was_called}
+use Rattle.execution_laws.specs.Order.{has_begun}
+use Rattle.lane_logs.specs.Drops.{has_call, is_call_of}
+use Rattle.lane_logs.specs.LaneLog.{has_begun as shows_begin, is_begin_of}
 use Rattle.reactor_turns.proofs.SummingLemmas.{one_if}
 use Rattle.history_merge.specs.Among.{is_underway}
 use Rattle.history_merge.proofs.BegunLemmas.{begins_of, begun_exact}

@@ -14,12 +14,12 @@ use Rattle.lane_clock.specs.declared.found.Found.{Found}
 use Rattle.lane_clock.specs.History.{ClockEvent}
 use Rattle.lane_clock.proofs.MomentLemmas.{Tail, tail_more}
 use Rattle.lane_map.specs.LaneNumbers.{reactor_lane}
-use Rattle.lane_turns.specs.Labels.{Labelled, shows}
-use Rattle.lane_turns.specs.LaneLog.{MayFollow}
-use Rattle.lane_turns.specs.Logs.{AreLogs, LogsView}
-use Rattle.lane_turns.specs.Names.{SessionNames}
-use Rattle.lane_turns.specs.Parts.{ExecutedPart, executed}
-use Rattle.lane_turns.specs.SeatNumbers.{lane_count, opener_seat}
+use Rattle.lane_logs.specs.Labels.{Labelled, shows}
+use Rattle.lane_logs.specs.LaneLog.{MayFollow}
+use Rattle.lane_logs.specs.Logs.{AreLogs, LogsView}
+use Rattle.lane_logs.specs.Names.{SessionNames}
+use Rattle.lane_logs.specs.Parts.{ExecutedPart, executed}
+use Rattle.lane_logs.specs.SeatNumbers.{lane_count, opener_seat}
 use Rattle.history_merge.specs.Among.{LaneIsIdle, is_underway}
 use Rattle.history_merge.proofs.DatesLemmas.{is_past}
 use Rattle.history_merge.proofs.FirstOfLaneLemmas.{first_of_lane}

@@ -9,8 +9,8 @@ use Rattle.session_script.specs.WellFormed.{IsWellFormed}
 use Rattle.history_rules.specs.FromOutside.{is_fault, is_outside_stop}
 use Rattle.history_rules.specs.Legal.{IsLegalFrom, MayHappen, after_event, context_after, reactor_after}
 use Rattle.history_rules.specs.State.{ContextState, ReactorHalf, State}
-use Rattle.book_context.proofs.CountLemmas.{one_more-is}
-use Rattle.book_context.proofs.RecordRoomLemmas.{rounds-below}
+use Rattle.execution_laws.proofs.CountLemmas.{one_more-is}
+use Rattle.execution_laws.proofs.RecordRoomLemmas.{rounds-below}
 use Rattle.reactor_turns.proofs.SummingLemmas.{one_if}
 use Rattle.history_merge.proofs.FrameLemmas.{RoundPart, part-after, round_after, round_part}
 use Rattle.history_merge.proofs.RestingLemmas.{take_works}

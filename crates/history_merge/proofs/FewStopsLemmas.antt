@@ -30,16 +30,16 @@ use Rattle.lane_clock.specs.History.{ClockEvent, IsSoundHistory, steps_under}
 use Rattle.lane_clock.proofs.MomentLemmas.{Tail, sound_tail}
 use Rattle.lane_map.specs.LaneNumbers.{cells_of, reactor_lane}
 use Rattle.lane_map.proofs.NumberLemmas.{cell_count, lane_count as lanes_counted}
-use Rattle.lane_turns.specs.Labels.{Labelled, allots, shows, silent}
-use Rattle.lane_turns.specs.LaneLog.{MayFollow}
-use Rattle.lane_turns.specs.Logs.{AreLogs, LogsView, session_layout}
-use Rattle.lane_turns.specs.Names.{SessionNames}
-use Rattle.lane_turns.specs.OpenerLog.{ClosedPart, Closes, MayFollowOpened, OpenerPart, closed, look_label, opened, opener_labels, resting, restarted}
-use Rattle.lane_turns.specs.Parts.{Part, executed, failed, idle, labels_in, missing, turned}
-use Rattle.lane_turns.specs.SeatNumbers.{lane_count, most_workers, opener_seat}
-use Rattle.lane_turns.specs.WorkerLog.{MayFollowStopped, WorkerPart, stand_known, stopped, stops_drawn, waiting}
-use Rattle.lane_turns.proofs.StandLemmas.{open_stand}
-use Rattle.book_context.proofs.RecordRoomLemmas.{rounds-below}
+use Rattle.lane_logs.specs.Labels.{Labelled, allots, shows, silent}
+use Rattle.lane_logs.specs.LaneLog.{MayFollow}
+use Rattle.lane_logs.specs.Logs.{AreLogs, LogsView, session_layout}
+use Rattle.lane_logs.specs.Names.{SessionNames}
+use Rattle.lane_logs.specs.OpenerLog.{ClosedPart, Closes, MayFollowOpened, OpenerPart, closed, look_label, opened, opener_labels, resting, restarted}
+use Rattle.lane_logs.specs.Parts.{Part, executed, failed, idle, labels_in, missing, turned}
+use Rattle.lane_logs.specs.SeatNumbers.{lane_count, most_workers, opener_seat}
+use Rattle.lane_logs.specs.WorkerLog.{MayFollowStopped, WorkerPart, stand_known, stopped, stops_drawn, waiting}
+use Rattle.lane_logs.proofs.StandLemmas.{open_stand}
+use Rattle.execution_laws.proofs.RecordRoomLemmas.{rounds-below}
 use Rattle.reactor_turns.proofs.SummingLemmas.{one_if, summed, summed-both}
 use Rattle.history_merge.proofs.AlikeLemmas.{never}
 use Rattle.history_merge.proofs.BodyLaneLemmas.{IsOwn}

@@ -15,16 +15,16 @@ use Rattle.lane_clock.specs.declared.found.Found.{Found}
 use Rattle.lane_clock.specs.declared.step.ClockStep.{ClockStep}
 use Rattle.lane_map.specs.LaneNumbers.{cells_of, reactor_lane}
 use Rattle.lane_map.proofs.NumberLemmas.{lane_count as lanes_counted}
-use Rattle.lane_turns.specs.declared.log.LogEntry.{LogEntry}
-use Rattle.lane_turns.specs.Half.{half_of}
-use Rattle.lane_turns.specs.Labels.{Labelled, entries_in, events_in}
-use Rattle.lane_turns.specs.LaneLog.{AreParts, MayFollow, entries_after}
-use Rattle.lane_turns.specs.Logs.{AreLogs, LogsView, all_events, entries_of}
-use Rattle.lane_turns.specs.Names.{SessionNames}
-use Rattle.lane_turns.specs.Parts.{Part, TurnStart, end_labels, executed, failed, idle, labels_in, labels_of, missing, passes, start_labels, takes, turned}
-use Rattle.lane_turns.specs.ReactorTurns.{MayStartTurn, point_event}
-use Rattle.lane_turns.specs.SeatNumbers.{lane_count}
-use Rattle.lane_turns.proofs.PenLemmas.{entries-append}
+use Rattle.lane_logs.specs.declared.log.LogEntry.{LogEntry}
+use Rattle.lane_logs.specs.Half.{half_of}
+use Rattle.lane_logs.specs.Labels.{Labelled, entries_in, events_in}
+use Rattle.lane_logs.specs.LaneLog.{AreParts, MayFollow, entries_after}
+use Rattle.lane_logs.specs.Logs.{AreLogs, LogsView, all_events, entries_of}
+use Rattle.lane_logs.specs.Names.{SessionNames}
+use Rattle.lane_logs.specs.Parts.{Part, TurnStart, end_labels, executed, failed, idle, labels_in, labels_of, missing, passes, start_labels, takes, turned}
+use Rattle.lane_logs.specs.ReactorTurns.{MayStartTurn, point_event}
+use Rattle.lane_logs.specs.SeatNumbers.{lane_count}
+use Rattle.lane_logs.proofs.LabelLemmas.{entries-append}
 use Rattle.history_merge.proofs.OpenedLemmas.{events-entries}
 use Rattle.history_merge.proofs.RestingLemmas.{either_false, look_entries}
 

@@ -29,10 +29,11 @@ use Rattle.lane_clock.specs.declared.note.Note.{Note}
 use Rattle.lane_clock.specs.History.{ClockEvent, steps_under}
 use Rattle.lane_clock.proofs.MomentLemmas.{Tail}
 use Rattle.lane_map.specs.LaneNumbers.{act_passes, asks_its_lane, home_lane, lane_number, reactor_lane}
-use Rattle.lane_turns.specs.Labels.{Labelled, allots, shows}
-use Rattle.lane_turns.specs.Logs.{AreLogs, LogsView}
-use Rattle.lane_turns.specs.Names.{SessionNames}
-use Rattle.lane_turns.specs.SeatNumbers.{lane_count}
+use Rattle.lane_logs.specs.Labels.{Labelled, allots, shows}
+use Rattle.lane_logs.specs.Logs.{AreLogs, LogsView}
+use Rattle.lane_logs.specs.Names.{SessionNames}
+use Rattle.lane_logs.specs.SeatNumbers.{lane_count}
+use Rattle.lane_logs.proofs.RequestLemmas.{posting_asks}
 use Rattle.history_merge.proofs.AlikeLemmas.{is_not, never}
 use Rattle.history_merge.proofs.AskedLemmas.{IsAskedPlace, asked_label}
 use Rattle.history_merge.proofs.CountedLemmas.{counted_in, is_counted}
@@ -42,8 +43,7 @@ use Rattle.history_merge.proofs.HalfLemmas.{off_turn}
 use Rattle.history_merge.proofs.HistoryLemmas.{AreLabelled, shown_in}
 use Rattle.history_merge.proofs.LabellingLemmas.{AreLabels}
 use Rattle.history_merge.proofs.NoteLemmas.{IsCallNote, IsDoneNote, IsNoted, call_note_op}
-use Rattle.lane_turns.proofs.TakingLemmas.{posting_asks}
-use Rattle.book_context.specs.Ready.{is_ready}
+use Rattle.execution_laws.specs.Ready.{is_ready}
 use Rattle.history_rules.specs.Rounds.{is_unspent}
 use Rattle.history_merge.proofs.FirstLemmas.{IsCalledBefore, back_before, called_before, placed_by}
 use Rattle.history_merge.proofs.SoLemmas.{IsSo, events_so, state_so}

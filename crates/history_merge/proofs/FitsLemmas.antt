@@ -9,10 +9,10 @@ use Rattle.session_script.specs.WellFormed.{IsWellFormed}
 use Rattle.history_rules.specs.Rounds.{is_unspent}
 use Rattle.history_rules.specs.State.{ContextState, act_at, phase_at}
 use Rattle.reactor_turns.proofs.SummingLemmas.{one_if, summed-less, summed-range}
-use Rattle.lane_turns.specs.Drops.{dropped, is_left}
-use Rattle.lane_turns.specs.Labels.{Labelled}
-use Rattle.lane_turns.specs.Logs.{AreLogs, LogsView, all_events}
-use Rattle.lane_turns.specs.Names.{SessionNames}
+use Rattle.lane_logs.specs.Drops.{dropped, is_left}
+use Rattle.lane_logs.specs.Labels.{Labelled}
+use Rattle.lane_logs.specs.Logs.{AreLogs, LogsView, all_events}
+use Rattle.lane_logs.specs.Names.{SessionNames}
 use Rattle.history_merge.specs.Merging.{IsMerging}
 use Rattle.history_merge.specs.Room.{most_merged}
 use Rattle.history_merge.proofs.ActsLeftLemmas.{act_shows, acts_show, unspent_shows}

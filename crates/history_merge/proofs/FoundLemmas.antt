@@ -12,7 +12,7 @@ use Rattle.history_rules.specs.Rounds.{is_act_outstanding, is_held, outstanding_
 use Rattle.history_rules.specs.State.{State, call_at}
 use Rattle.history_rules.specs.declared.phase.CallPhase.TheVariants as call
 use Rattle.lane_clock.specs.declared.found.Change.{Change}
-use Rattle.book_context.proofs.CountingLemmas.{counted-most, counted-range}
+use Rattle.execution_laws.proofs.CountingLemmas.{counted-most, counted-range}
 use Rattle.history_merge.proofs.ChangeLemmas.{halts_change}
 use Rattle.history_merge.proofs.EventWorkLemmas.{work_after}
 use Rattle.history_merge.proofs.FrameLemmas.{length-after}

@@ -29,7 +29,7 @@ use Rattle.history_rules.specs.declared.phase.Cause.TheVariants as cause
 use Rattle.history_rules.specs.declared.phase.Progress.{Progress}
 use Rattle.history_rules.specs.declared.phase.Step.{Step}
 use Rattle.history_rules.specs.declared.phase.Step.TheVariants as step
-use Rattle.book_context.proofs.StateLemmas.{IsElsewhere, IsHandlers, act_at-other, act_at-same}
+use Rattle.execution_laws.proofs.StateLemmas.{IsElsewhere, IsHandlers, act_at-other, act_at-same}
 use Rattle.history_merge.proofs.EachActLemmas.{act_in}
 
 -- the allowances that a stop or a begin changes are no matter to acts

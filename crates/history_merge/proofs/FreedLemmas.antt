@@ -28,8 +28,8 @@ use Rattle.history_rules.specs.declared.phase.CallPhase.TheVariants as call
 use Rattle.history_rules.specs.declared.phase.Cause.TheVariants as cause
 use Rattle.history_rules.specs.declared.phase.Step.{Step}
 use Rattle.history_rules.specs.declared.phase.Step.TheVariants as step
-use Rattle.book_context.specs.Lanes.{IsFreeUnlessStopped}
-use Rattle.book_context.proofs.FreeLemmas.{free_restart}
+use Rattle.execution_laws.specs.Lanes.{IsFreeUnlessStopped}
+use Rattle.execution_laws.proofs.FreeLemmas.{free_restart}
 use Rattle.history_merge.proofs.AlikeLemmas.{never}
 use Rattle.history_merge.proofs.EachActLemmas.{Each, right_set}
 use Rattle.history_merge.proofs.SoloLemmas.{all_fresh}

@@ -12,15 +12,15 @@ use Rattle.lane_clock.specs.History.{ClockEvent, steps_under}
 use Rattle.lane_clock.specs.Rule.{StepAt, by_load}
 use Rattle.lane_clock.proofs.KnownLemmas.{at_within}
 use Rattle.lane_clock.proofs.MomentLemmas.{Tail, tail_more}
-use Rattle.lane_turns.specs.Knowing.{known_steps}
-use Rattle.lane_turns.specs.Labels.{Labelled, shows, silent, step_of, steps_in}
-use Rattle.lane_turns.specs.LaneLog.{FoundGoing, MayFollow}
-use Rattle.lane_turns.specs.Logs.{AreLogs, LogsView, session_layout}
-use Rattle.lane_turns.specs.Names.{SessionNames}
-use Rattle.lane_turns.specs.Parts.{ExecutedPart, FailedPart, Part, TurnPart, TurnStart, end_labels, executed, failed, fault_label, labels_in, labels_of, looks_empty, looks_full, passes, start_labels, takes, turned}
-use Rattle.lane_turns.specs.SeatNumbers.{lane_count, opener_seat}
-use Rattle.lane_turns.specs.Stand.{stand_of}
-use Rattle.lane_turns.proofs.PenLemmas.{steps-append}
+use Rattle.lane_logs.specs.Knowing.{known_steps}
+use Rattle.lane_logs.specs.Labels.{Labelled, shows, silent, step_of, steps_in}
+use Rattle.lane_logs.specs.LaneLog.{FoundGoing, MayFollow}
+use Rattle.lane_logs.specs.Logs.{AreLogs, LogsView, session_layout}
+use Rattle.lane_logs.specs.Names.{SessionNames}
+use Rattle.lane_logs.specs.Parts.{ExecutedPart, FailedPart, Part, TurnPart, TurnStart, end_labels, executed, failed, fault_label, labels_in, labels_of, looks_empty, looks_full, passes, start_labels, takes, turned}
+use Rattle.lane_logs.specs.SeatNumbers.{lane_count, opener_seat}
+use Rattle.lane_logs.specs.Stand.{stand_of}
+use Rattle.lane_logs.proofs.LabelLemmas.{steps-append}
 use Rattle.history_merge.proofs.CutLemmas.{IsRoundOf, known_stand, open_base, open_opened}
 use Rattle.history_merge.proofs.EachLabelLemmas.{HoldsOf, calls_each, empty_each, end_each, is_of_execution, is_of_turn}
 use Rattle.history_merge.proofs.HistoryLemmas.{label_of}

@@ -22,12 +22,12 @@ use Rattle.lane_clock.proofs.KnownLemmas.{under_other, under_same}
 use Rattle.lane_clock.proofs.MomentLemmas.{Tail}
 use Rattle.lane_map.specs.LaneNumbers.{home_lane, reactor_lane}
 use Rattle.lane_map.proofs.RankLemmas.{op_within}
-use Rattle.lane_turns.specs.Labels.{Labelled, allots, shows, silent}
-use Rattle.lane_turns.specs.LaneLog.{MayFollow}
-use Rattle.lane_turns.specs.Logs.{AreLogs, LogsView}
-use Rattle.lane_turns.specs.Names.{IsNamedMark, SessionNames}
-use Rattle.lane_turns.specs.Parts.{ExecutedPart, Part, executed}
-use Rattle.lane_turns.specs.SeatNumbers.{lane_count, opener_seat}
+use Rattle.lane_logs.specs.Labels.{Labelled, allots, shows, silent}
+use Rattle.lane_logs.specs.LaneLog.{MayFollow}
+use Rattle.lane_logs.specs.Logs.{AreLogs, LogsView}
+use Rattle.lane_logs.specs.Names.{IsNamedMark, SessionNames}
+use Rattle.lane_logs.specs.Parts.{ExecutedPart, Part, executed}
+use Rattle.lane_logs.specs.SeatNumbers.{lane_count, opener_seat}
 use Rattle.history_merge.specs.Among.{LaneIsIdle}
 use Rattle.history_merge.proofs.AmongLemmas.{IsGoing, going_begins, going_ends, going_legal, going_others, going_own}
 use Rattle.history_merge.proofs.DrawnLemmas.{drawn_shown}

@@ -22,8 +22,8 @@ use Rattle.history_rules.specs.State.{ReactorHalf}
 use Rattle.history_rules.specs.declared.wait.Wait.{Wait}
 use Rattle.history_rules.specs.Legal.{reactor_after}
 use Rattle.history_rules.specs.Time.{at_last, at_time}
-use Rattle.lane_turns.specs.Half.{held_guards}
-use Rattle.lane_turns.specs.ReactorTurns.{lets_go}
+use Rattle.lane_logs.specs.Half.{held_guards}
+use Rattle.lane_logs.specs.ReactorTurns.{lets_go}
 
 guards-connected : (slot : Option ℕ) (op : ℕ) (r : ReactorHalf) → (connected slot op r).guards ≡ r.guards
 guards-connected None op r = refl

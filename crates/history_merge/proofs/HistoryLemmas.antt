@@ -12,7 +12,7 @@ use Rattle.lane_clock.specs.Steps.{draw_count, place_count}
 use Rattle.lane_clock.proofs.ClockLemmas.{found_clock}
 use Rattle.lane_clock.proofs.KnownLemmas.{under_same}
 use Rattle.lane_clock.proofs.MomentLemmas.{Tail, at_start, sound_tail, tail_more, under_grows}
-use Rattle.lane_turns.specs.Labels.{Labelled, allots, entries_in, events_in, shows, silent, step_of, steps_in}
+use Rattle.lane_logs.specs.Labels.{Labelled, allots, entries_in, events_in, shows, silent, step_of, steps_in}
 use Rattle.history_merge.proofs.PartLemmas.{at_seam, label_of_step}
 
 -- a step by itself neither draws nor gets a place

@@ -15,13 +15,13 @@ use Rattle.lane_clock.specs.History.{ClockEvent, cell_after, steps_under}
 use Rattle.lane_clock.proofs.KnownLemmas.{event}
 use Rattle.lane_clock.proofs.MomentLemmas.{Tail, sound_tail, tail_more, tail_trans}
 use Rattle.lane_map.specs.LaneNumbers.{act_passes, asks_its_lane, home_lane, reactor_lane}
-use Rattle.lane_turns.specs.Labels.{Labelled, allots, shows, silent, step_of}
+use Rattle.lane_logs.specs.Labels.{Labelled, allots, shows, silent, step_of}
+use Rattle.lane_logs.specs.LaneLog.{MayFollow}
+use Rattle.lane_logs.specs.Logs.{AreLogs, LogsView, session_layout}
+use Rattle.lane_logs.specs.Names.{SessionNames}
+use Rattle.lane_logs.specs.Parts.{ExecutedPart, Part, executed, labels_in}
+use Rattle.lane_logs.specs.SeatNumbers.{lane_count, opener_seat}
 use Rattle.lane_map.proofs.NumberLemmas.{lane_count as lanes_counted}
-use Rattle.lane_turns.specs.LaneLog.{MayFollow}
-use Rattle.lane_turns.specs.Logs.{AreLogs, LogsView, session_layout}
-use Rattle.lane_turns.specs.Names.{SessionNames}
-use Rattle.lane_turns.specs.Parts.{ExecutedPart, Part, executed, labels_in}
-use Rattle.lane_turns.specs.SeatNumbers.{lane_count, opener_seat}
 use Rattle.history_merge.proofs.AskedLemmas.{IsAsked, asked_label}
 use Rattle.history_merge.proofs.BetweenLemmas.{own_moment}
 use Rattle.history_merge.proofs.DrawRoundLemmas.{lane_at, lane_draws, lane_follows}

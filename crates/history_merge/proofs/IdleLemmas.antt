@@ -19,15 +19,15 @@ use Rattle.lane_clock.specs.History.{ClockEvent, steps_under, word_after}
 use Rattle.lane_clock.specs.ClockWord.{found_of}
 use Rattle.lane_clock.proofs.KnownLemmas.{event as made_event}
 use Rattle.lane_clock.proofs.MomentLemmas.{Tail, sound_tail, tail_more, tail_refl, tail_trans, under_length}
-use Rattle.lane_turns.specs.Half.{half_from, held_guards}
-use Rattle.lane_turns.specs.Labels.{Labelled, allots, entries_in, shows, silent}
-use Rattle.lane_turns.specs.Logs.{AreLogs, LogsView, session_layout}
-use Rattle.lane_turns.specs.Names.{SessionNames}
-use Rattle.lane_turns.specs.LaneLog.{opener_after}
-use Rattle.lane_turns.specs.Parts.{Part, labels_in, looks_empty}
-use Rattle.lane_turns.specs.ReactorTurns.{MayPass}
-use Rattle.lane_turns.specs.SeatNumbers.{lane_count, opener_seat}
-use Rattle.lane_turns.specs.Stand.{Stand, is_round_open, is_running_round, stand_of}
+use Rattle.lane_logs.specs.Half.{half_from, held_guards}
+use Rattle.lane_logs.specs.Labels.{Labelled, allots, entries_in, shows, silent}
+use Rattle.lane_logs.specs.Logs.{AreLogs, LogsView, session_layout}
+use Rattle.lane_logs.specs.Names.{SessionNames}
+use Rattle.lane_logs.specs.LaneLog.{opener_after}
+use Rattle.lane_logs.specs.Parts.{Part, labels_in, looks_empty}
+use Rattle.lane_logs.specs.ReactorTurns.{MayPass}
+use Rattle.lane_logs.specs.SeatNumbers.{lane_count, opener_seat}
+use Rattle.lane_logs.specs.Stand.{Stand, is_round_open, is_running_round, stand_of}
 use Rattle.history_merge.proofs.BetweenLemmas.{IsOwnMoment, own_moment, stand_since}
 use Rattle.history_merge.proofs.EachLabelLemmas.{empty_each}
 use Rattle.history_merge.proofs.GoingLemmas.{round_known}

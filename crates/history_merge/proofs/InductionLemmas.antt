@@ -8,10 +8,10 @@ use Rattle.session_script.specs.WellFormed.{IsWellFormed}
 use Rattle.lane_clock.specs.History.{ClockEvent, steps_under}
 use Rattle.lane_clock.proofs.MomentLemmas.{Tail, tail_more, tail_refl}
 use Rattle.lane_map.specs.LaneNumbers.{reactor_lane}
-use Rattle.lane_turns.specs.Labels.{Labelled}
-use Rattle.lane_turns.specs.Logs.{AreLogs, LogsView}
-use Rattle.lane_turns.specs.Names.{SessionNames}
-use Rattle.lane_turns.specs.SeatNumbers.{lane_count, opener_seat}
+use Rattle.lane_logs.specs.Labels.{Labelled}
+use Rattle.lane_logs.specs.Logs.{AreLogs, LogsView}
+use Rattle.lane_logs.specs.Names.{SessionNames}
+use Rattle.lane_logs.specs.SeatNumbers.{lane_count, opener_seat}
 use Rattle.history_merge.specs.Merging.{IsLegalMerging, IsMerging}
 use Rattle.history_merge.specs.Ordering.{ArePositioned}
 use Rattle.history_merge.specs.Room.{most_merged}

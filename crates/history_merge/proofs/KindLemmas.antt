@@ -31,9 +31,9 @@ use Rattle.history_rules.specs.declared.phase.Cause.TheVariants as cause
 use Rattle.history_rules.specs.declared.phase.Progress.{Progress}
 use Rattle.history_rules.specs.declared.phase.Step.{Step}
 use Rattle.history_rules.specs.declared.phase.Step.TheVariants as step
-use Rattle.book_context.specs.Kinds.{is_accepted, was_called}
-use Rattle.book_context.specs.Ready.{is_ready}
-use Rattle.book_context.proofs.ScriptLemmas.{accepted-inline}
+use Rattle.execution_laws.specs.Kinds.{is_accepted, was_called}
+use Rattle.execution_laws.specs.Ready.{is_ready}
+use Rattle.execution_laws.proofs.ScriptLemmas.{accepted-inline}
 use Rattle.history_merge.proofs.AlikeLemmas.{is_not, never}
 use Rattle.history_merge.proofs.EachActLemmas.{act_in, right_set}
 use Rattle.history_merge.proofs.FrameLemmas.{acts_limited, acts_spent}

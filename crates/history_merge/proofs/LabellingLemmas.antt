@@ -12,14 +12,14 @@ use Rattle.lane_clock.specs.declared.step.ClockStep.TheVariants.{Draw, Load, Pla
 use Rattle.lane_clock.specs.History.{ClockEvent, IsSoundHistory, steps_under}
 use Rattle.lane_clock.proofs.KnownLemmas.{under_other}
 use Rattle.lane_map.specs.LaneNumbers.{cells_of, cells_on, lane_list}
-use Rattle.lane_turns.specs.Labels.{Labelled, entries_in, silent, steps_in}
-use Rattle.lane_turns.specs.LaneLog.{AreParts, IsIdleStep, MayFollow}
-use Rattle.lane_turns.specs.Logs.{AreLogs, LogsView, entries_of, missed_by}
-use Rattle.lane_turns.specs.Names.{SessionNames}
-use Rattle.lane_turns.specs.OpenerLog.{AreOpenerParts, IsRestingStep, MayFollowOpened, OpenerPart, closed, labels_of_opener, look_label, opened, opener_labels, resting, restarted}
-use Rattle.lane_turns.specs.Parts.{Part, TurnPart, TurnStart, end_labels, executed, failed, first_missed, idle, labels_in, labels_of, looks_empty, missing, passes, start_labels, takes, turned}
-use Rattle.lane_turns.specs.SeatNumbers.{IsWorkerSeat, lane_count, opener_seat, worker_count}
-use Rattle.lane_turns.specs.WorkerLog.{AreWorkerParts, MayFollowStopped, WorkerPart, labels_of_worker, stopped, waiting}
+use Rattle.lane_logs.specs.Labels.{Labelled, entries_in, silent, steps_in}
+use Rattle.lane_logs.specs.LaneLog.{AreParts, IsIdleStep, MayFollow}
+use Rattle.lane_logs.specs.Logs.{AreLogs, LogsView, entries_of, missed_by}
+use Rattle.lane_logs.specs.Names.{SessionNames}
+use Rattle.lane_logs.specs.OpenerLog.{AreOpenerParts, IsRestingStep, MayFollowOpened, OpenerPart, closed, labels_of_opener, look_label, opened, opener_labels, resting, restarted}
+use Rattle.lane_logs.specs.Parts.{Part, TurnPart, TurnStart, end_labels, executed, failed, first_missed, idle, labels_in, labels_of, looks_empty, missing, passes, start_labels, takes, turned}
+use Rattle.lane_logs.specs.SeatNumbers.{IsWorkerSeat, lane_count, opener_seat, worker_count}
+use Rattle.lane_logs.specs.WorkerLog.{AreWorkerParts, MayFollowStopped, WorkerPart, labels_of_worker, stopped, waiting}
 use Rattle.history_merge.proofs.EachLabelLemmas.{HoldsOf, calls_each, empty_each, end_each, is_of_execution, is_of_turn, looks_each}
 use Rattle.history_merge.proofs.HistoryLemmas.{IsPlain}
 use Rattle.history_merge.proofs.PartLemmas.{Every, Follow, all_made, every-append, every_at, every_made, labels_worker, lane_made, opener_made, worker_made}

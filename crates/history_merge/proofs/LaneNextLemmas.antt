@@ -12,12 +12,12 @@ use Rattle.lane_clock.specs.declared.step.ClockStep.{ClockStep}
 use Rattle.lane_clock.specs.History.{ClockEvent}
 use Rattle.lane_clock.proofs.MomentLemmas.{Tail, tail_refl}
 use Rattle.lane_map.specs.LaneNumbers.{reactor_lane}
-use Rattle.lane_turns.specs.Labels.{Labelled, shows}
-use Rattle.lane_turns.specs.LaneLog.{MayFollow}
-use Rattle.lane_turns.specs.Logs.{AreLogs, LogsView}
-use Rattle.lane_turns.specs.Names.{SessionNames}
-use Rattle.lane_turns.specs.Parts.{ExecutedPart, Part, executed}
-use Rattle.lane_turns.specs.SeatNumbers.{lane_count, opener_seat}
+use Rattle.lane_logs.specs.Labels.{Labelled, shows}
+use Rattle.lane_logs.specs.LaneLog.{MayFollow}
+use Rattle.lane_logs.specs.Logs.{AreLogs, LogsView}
+use Rattle.lane_logs.specs.Names.{SessionNames}
+use Rattle.lane_logs.specs.Parts.{ExecutedPart, Part, executed}
+use Rattle.lane_logs.specs.SeatNumbers.{lane_count, opener_seat}
 use Rattle.history_merge.specs.Among.{LaneIsIdle}
 use Rattle.history_merge.proofs.BeginAllowedLemmas.{begin_allowed, lane_round_open}
 use Rattle.history_merge.proofs.BeginPartLemmas.{begins_part}

@@ -21,8 +21,8 @@ use Rattle.history_rules.specs.Executions.{MayBegin}
 use Rattle.history_rules.specs.Legal.{IsLegalFrom, after_event}
 use Rattle.history_rules.specs.Rounds.{is_running}
 use Rattle.history_rules.specs.State.{ContextState, State, call_at, phase_at}
-use Rattle.book_context.specs.Ready.{is_ready}
-use Rattle.book_context.specs.Rest.{waits_inside}
+use Rattle.execution_laws.specs.Ready.{is_ready}
+use Rattle.execution_laws.specs.Rest.{waits_inside}
 use Rattle.strand_core.specs.declared.posted.Posted.{Posted}
 use Rattle.strand_core.specs.declared.posted.Posted.TheVariants as posted
 use Rattle.lane_clock.specs.History.{ClockEvent, steps_under}
@@ -31,14 +31,14 @@ use Rattle.lane_clock.specs.declared.found.Found.{Found}
 use Rattle.lane_clock.specs.declared.step.ClockStep.{ClockStep}
 use Rattle.lane_map.specs.LaneNumbers.{home_lane}
 use Rattle.lane_map.proofs.RankLemmas.{op_within}
-use Rattle.lane_turns.specs.Labels.{AreDrawn, IsDrawn, Labelled, begins, dispatches, ends, entries_in, events_in, none_drawn, one_drawn, posts, returns, shows, stops_context}
-use Rattle.lane_turns.specs.LaneLog.{MayFollow}
-use Rattle.lane_turns.specs.Logs.{LogsView}
-use Rattle.lane_turns.specs.Names.{SessionNames}
-use Rattle.lane_turns.specs.Parts.{Part, executed, failed, idle, labels_in, missing, turned}
-use Rattle.lane_turns.specs.SeatNumbers.{lane_count, opener_seat}
-use Rattle.lane_turns.specs.declared.log.LogEntry.{LogEntry}
-use Rattle.lane_turns.proofs.PenLemmas.{entries-append}
+use Rattle.lane_logs.specs.declared.log.LogEntry.{LogEntry}
+use Rattle.lane_logs.specs.Labels.{AreDrawn, IsDrawn, Labelled, begins, dispatches, ends, entries_in, events_in, none_drawn, one_drawn, posts, returns, shows, stops_context}
+use Rattle.lane_logs.specs.LaneLog.{MayFollow}
+use Rattle.lane_logs.specs.Logs.{LogsView}
+use Rattle.lane_logs.specs.Names.{SessionNames}
+use Rattle.lane_logs.specs.Parts.{Part, executed, failed, idle, labels_in, missing, turned}
+use Rattle.lane_logs.specs.SeatNumbers.{lane_count, opener_seat}
+use Rattle.lane_logs.proofs.LabelLemmas.{entries-append}
 use Rattle.history_merge.specs.Among.{IsPlaceOn, LaneIsIdle, is_underway}
 use Rattle.history_merge.proofs.AlikeLemmas.{is_executed, is_not, never}
 use Rattle.history_merge.proofs.AmongLemmas.{IsGoing, going_ends, not_underway}

@@ -18,13 +18,13 @@ use Rattle.lane_clock.specs.Knowledge.{StartOf}
 use Rattle.lane_clock.specs.History.{ClockEvent, Fits, cell_after, cell_with, steps_under, word_after, word_with}
 use Rattle.lane_clock.proofs.KnownLemmas.{event, under_same}
 use Rattle.lane_clock.proofs.MomentLemmas.{Moment, Tail, moment_of, sound_tail, tail_more, tail_refl, tail_trans, under_grows, under_length}
-use Rattle.lane_turns.specs.Knowing.{joined_count}
-use Rattle.lane_turns.specs.Labels.{Labelled, allots, shows, silent, step_of, steps_in}
-use Rattle.lane_turns.specs.Logs.{AreLogs, LogsView, session_layout}
-use Rattle.lane_turns.specs.Names.{SessionNames}
-use Rattle.lane_turns.specs.OpenerLog.{ClosedPart, Looked, OpenerPart, closed, labels_of_opener, look_label, opener_labels, opener_steps, stand_after}
-use Rattle.lane_turns.specs.SeatNumbers.{opener_seat}
-use Rattle.lane_turns.specs.Stand.{Stand}
+use Rattle.lane_logs.specs.Knowing.{joined_count}
+use Rattle.lane_logs.specs.Labels.{Labelled, allots, shows, silent, step_of, steps_in}
+use Rattle.lane_logs.specs.Logs.{AreLogs, LogsView, session_layout}
+use Rattle.lane_logs.specs.Names.{SessionNames}
+use Rattle.lane_logs.specs.OpenerLog.{ClosedPart, Looked, OpenerPart, closed, labels_of_opener, look_label, opener_labels, opener_steps, stand_after}
+use Rattle.lane_logs.specs.SeatNumbers.{opener_seat}
+use Rattle.lane_logs.specs.Stand.{Stand}
 use Rattle.history_merge.proofs.CutLemmas.{joined_within, open_opened}
 use Rattle.history_merge.proofs.HistoryLemmas.{AreLabelled, IsLabelled, label_of, shown_by, shown_in}
 use Rattle.history_merge.proofs.LabellingLemmas.{AreLabels}

@@ -17,20 +17,20 @@ use Rattle.history_rules.specs.State.{ReactorHalf}
 use Rattle.history_rules.specs.Time.{next_time}
 use Rattle.strand_core.specs.Execution.{events_of}
 use Rattle.strand_core.specs.declared.posted.Posted.{Posted}
-use Rattle.book_context.proofs.ShownLemmas.{marked_execution, marks-append, unmarked_opening}
+use Rattle.execution_laws.proofs.ShownLemmas.{marked_execution, marks-append, unmarked_opening}
 use Rattle.lane_clock.specs.declared.found.Change.{Change}
 use Rattle.lane_clock.specs.declared.found.Found.{Found}
 use Rattle.lane_clock.specs.declared.step.ClockStep.{ClockStep}
 use Rattle.lane_clock.specs.History.{ClockEvent, steps_under}
-use Rattle.lane_turns.specs.Labels.{AreDrawn, Labelled, allots, entries_in, events_in, shows, silent}
-use Rattle.lane_turns.specs.LaneLog.{MayFollow}
-use Rattle.lane_turns.specs.Logs.{LogsView}
-use Rattle.lane_turns.specs.Names.{SessionNames}
-use Rattle.lane_turns.specs.OpenerLog.{ClosedPart, Closes, MayFollowOpened, OpenerPart, closed, look_label, opened, opener_labels, resting, restarted}
-use Rattle.lane_turns.specs.Parts.{Part, TurnStart, end_labels, executed, failed, idle, labels_in, looks_empty, missing, passes, start_labels, takes, turned}
-use Rattle.lane_turns.specs.ReactorTurns.{MayStartTurn, point_event}
-use Rattle.lane_turns.specs.SeatNumbers.{IsWorkerSeat, opener_seat}
-use Rattle.lane_turns.specs.WorkerLog.{WorkerPart, stopped, waiting}
+use Rattle.lane_logs.specs.Labels.{AreDrawn, Labelled, allots, entries_in, events_in, shows, silent}
+use Rattle.lane_logs.specs.LaneLog.{MayFollow}
+use Rattle.lane_logs.specs.Logs.{LogsView}
+use Rattle.lane_logs.specs.Names.{SessionNames}
+use Rattle.lane_logs.specs.OpenerLog.{ClosedPart, Closes, MayFollowOpened, OpenerPart, closed, look_label, opened, opener_labels, resting, restarted}
+use Rattle.lane_logs.specs.Parts.{Part, TurnStart, end_labels, executed, failed, idle, labels_in, looks_empty, missing, passes, start_labels, takes, turned}
+use Rattle.lane_logs.specs.ReactorTurns.{MayStartTurn, point_event}
+use Rattle.lane_logs.specs.SeatNumbers.{IsWorkerSeat, opener_seat}
+use Rattle.lane_logs.specs.WorkerLog.{WorkerPart, stopped, waiting}
 use Rattle.history_merge.specs.Merging.{NoWorkerStops}
 use Rattle.history_merge.proofs.DrawnLemmas.{drawn_shown}
 use Rattle.history_merge.proofs.EachLabelLemmas.{calls_each, empty_each, end_each, is_of_execution, is_of_turn, looks_each}

@@ -10,10 +10,10 @@ use Rattle.lane_clock.specs.declared.step.ClockStep.TheVariants.{Draw}
 use Rattle.lane_clock.proofs.ClockLemmas.{clock_is}
 use Rattle.lane_clock.proofs.KnownLemmas.{event as made_event}
 use Rattle.lane_clock.proofs.MomentLemmas.{moment_of, tail_refl}
-use Rattle.lane_turns.specs.declared.log.LogEntry.{LogEntry}
-use Rattle.lane_turns.specs.Labels.{Labelled, events_in, shows, silent}
-use Rattle.lane_turns.specs.Logs.{AreLogs, LogsView, session_layout}
-use Rattle.lane_turns.specs.Names.{SessionNames}
+use Rattle.lane_logs.specs.declared.log.LogEntry.{LogEntry}
+use Rattle.lane_logs.specs.Labels.{Labelled, events_in, shows, silent}
+use Rattle.lane_logs.specs.Logs.{AreLogs, LogsView, session_layout}
+use Rattle.lane_logs.specs.Names.{SessionNames}
 use Rattle.history_merge.specs.Merging.{IsMerging}
 use Rattle.history_merge.specs.Ordering.{IsEntryIn, IsInOrder}
 use Rattle.history_merge.proofs.HistoryLemmas.{AreLabelled, index_is, label_of, shown_at, shown_count, shown_in}

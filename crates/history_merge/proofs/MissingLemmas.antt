@@ -21,12 +21,12 @@ use Rattle.lane_clock.proofs.KnownLemmas.{at_within}
 use Rattle.lane_clock.proofs.MomentLemmas.{tail_refl}
 use Rattle.lane_map.specs.LaneNumbers.{act_passes, asked_lane, asks_reactor, has_cell, has_cell_on, home_lane, reactor_lane}
 use Rattle.lane_map.proofs.RankLemmas.{op_within}
-use Rattle.lane_turns.specs.Labels.{Labelled, allots, events_in, silent}
-use Rattle.lane_turns.specs.LaneLog.{AreParts, MayFollow, entries_after, half_after, has_begun}
-use Rattle.lane_turns.specs.Logs.{AreLogs, LogsView, session_layout}
-use Rattle.lane_turns.specs.Names.{SessionNames}
-use Rattle.lane_turns.specs.Parts.{Part, end_labels, executed, failed, first_missed, idle, labels_in, missed_in, missing, next_place, places_used, start_labels, takes, takes_place, turned}
-use Rattle.lane_turns.specs.SeatNumbers.{lane_count, opener_seat}
+use Rattle.lane_logs.specs.Labels.{Labelled, allots, events_in, silent}
+use Rattle.lane_logs.specs.LaneLog.{AreParts, MayFollow, entries_after, half_after, has_begun}
+use Rattle.lane_logs.specs.Logs.{AreLogs, LogsView, session_layout}
+use Rattle.lane_logs.specs.Names.{SessionNames}
+use Rattle.lane_logs.specs.Parts.{Part, end_labels, executed, failed, first_missed, idle, labels_in, missed_in, missing, next_place, places_used, start_labels, takes, takes_place, turned}
+use Rattle.lane_logs.specs.SeatNumbers.{lane_count, opener_seat}
 use Rattle.history_merge.specs.Merging.{NoneIsMissing}
 use Rattle.history_merge.proofs.AlikeLemmas.{never}
 use Rattle.history_merge.proofs.AskedLemmas.{IsAskedPlace, asked_label}

@@ -20,9 +20,9 @@ use Rattle.history_rules.specs.declared.phase.ActState.{ActState}
 use Rattle.history_rules.specs.declared.phase.CallPhase.TheVariants as call
 use Rattle.history_rules.specs.declared.phase.Progress.{Progress}
 use Rattle.history_rules.specs.declared.phase.Step.TheVariants as step
-use Rattle.book_context.proofs.ApartLemmas.{numbers_rise}
-use Rattle.book_context.proofs.PlaceLemmas.{within_script}
-use Rattle.book_context.proofs.StateLemmas.{acts_in}
+use Rattle.execution_laws.proofs.ApartLemmas.{numbers_rise}
+use Rattle.execution_laws.proofs.PlaceLemmas.{within_script}
+use Rattle.execution_laws.proofs.StateLemmas.{acts_in}
 use Rattle.history_merge.proofs.AlikeLemmas.{never}
 use Rattle.history_merge.proofs.FrameLemmas.{calling_act}
 use Rattle.history_merge.proofs.OrderlyLemmas.{HasMade, IsInOrder, IsMadeIn, uncalled_or}

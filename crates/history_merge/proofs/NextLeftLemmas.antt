@@ -15,10 +15,10 @@ use Rattle.lane_clock.specs.declared.found.Change.TheVariants as change
 use Rattle.lane_clock.specs.declared.found.Found.{Found}
 use Rattle.lane_clock.specs.declared.step.ClockStep.{ClockStep}
 use Rattle.lane_map.specs.LaneNumbers.{reactor_lane}
-use Rattle.lane_turns.specs.Labels.{AreDrawn, IsDrawn, Labelled, allots, begins, dispatches, ends, entries_in, events_in, none_drawn, one_drawn, posts, returns, shows, silent, stops_context}
-use Rattle.lane_turns.specs.LaneLog.{MayFollow}
-use Rattle.lane_turns.specs.Names.{SessionNames}
-use Rattle.lane_turns.specs.Parts.{ExecutedPart, Part, executed, failed, idle, labels_in, missing, turned}
+use Rattle.lane_logs.specs.Labels.{AreDrawn, IsDrawn, Labelled, allots, begins, dispatches, ends, entries_in, events_in, none_drawn, one_drawn, posts, returns, shows, silent, stops_context}
+use Rattle.lane_logs.specs.LaneLog.{MayFollow}
+use Rattle.lane_logs.specs.Names.{SessionNames}
+use Rattle.lane_logs.specs.Parts.{ExecutedPart, Part, executed, failed, idle, labels_in, missing, turned}
 use Rattle.history_merge.proofs.HistoryLemmas.{shown_by}
 use Rattle.history_merge.proofs.PartLemmas.{IsMadeAt}
 use Rattle.history_merge.proofs.StageLemmas.{left_behind, left_first, left_last, left_of, stage_at}

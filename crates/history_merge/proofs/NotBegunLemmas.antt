@@ -13,17 +13,17 @@ use Rattle.history_rules.specs.State.{State, first_state, phase_at}
 use Rattle.history_rules.specs.declared.phase.ActPhase.{ActPhase}
 use Rattle.history_rules.specs.declared.phase.ActPhase.TheVariants as phase
 use Rattle.history_rules.specs.declared.phase.ActState.{ActState}
-use Rattle.book_context.specs.Order.{has_begun}
+use Rattle.execution_laws.specs.Order.{has_begun}
 use Rattle.reactor_turns.proofs.SummingLemmas.{one_if}
 use Rattle.lane_clock.specs.History.{ClockEvent}
 use Rattle.lane_clock.proofs.CountLemmas.{few_drawn}
 use Rattle.lane_clock.proofs.MomentLemmas.{Tail, tail_same, tails_order, tail_more}
 use Rattle.lane_map.specs.LaneNumbers.{reactor_lane}
 use Rattle.lane_map.proofs.RankLemmas.{op_within}
-use Rattle.lane_turns.specs.Labels.{Labelled, allots}
-use Rattle.lane_turns.specs.LaneLog.{is_begin_of}
-use Rattle.lane_turns.specs.Logs.{AreLogs, LogsView}
-use Rattle.lane_turns.specs.Names.{SessionNames}
+use Rattle.lane_logs.specs.Labels.{Labelled, allots}
+use Rattle.lane_logs.specs.LaneLog.{is_begin_of}
+use Rattle.lane_logs.specs.Logs.{AreLogs, LogsView}
+use Rattle.lane_logs.specs.Names.{SessionNames}
 use Rattle.history_merge.proofs.BegunLemmas.{begins_of, begun_shown}
 use Rattle.history_merge.proofs.CalledLemmas.{first_order}
 use Rattle.history_merge.proofs.DatesLemmas.{is_dropped, is_past}

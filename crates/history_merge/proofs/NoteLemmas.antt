@@ -17,11 +17,11 @@ use Rattle.lane_clock.specs.declared.step.ClockStep.TheVariants.{Join, Look, Put
 use Rattle.lane_clock.specs.History.{ClockEvent, Fits, IsSoundHistory, cell_after, steps_under}
 use Rattle.lane_clock.proofs.MomentLemmas.{Tail, sound_tail, tail_more, tail_trans}
 use Rattle.lane_map.specs.LaneNumbers.{act_passes, asked_lane, asks_its_lane, home_lane, reactor_lane}
-use Rattle.lane_turns.specs.Labels.{Labelled, allots, call_note, shows, silent, step_of}
-use Rattle.lane_turns.specs.Logs.{LogsView}
-use Rattle.lane_turns.specs.Names.{SessionNames}
-use Rattle.lane_turns.specs.SeatNumbers.{lane_count}
-use Rattle.lane_turns.proofs.TakingLemmas.{posting_asks}
+use Rattle.lane_logs.specs.Labels.{Labelled, allots, call_note, shows, silent, step_of}
+use Rattle.lane_logs.specs.Logs.{LogsView}
+use Rattle.lane_logs.specs.Names.{SessionNames}
+use Rattle.lane_logs.specs.SeatNumbers.{lane_count}
+use Rattle.lane_logs.proofs.RequestLemmas.{posting_asks}
 use Rattle.history_merge.proofs.AlikeLemmas.{never}
 use Rattle.history_merge.proofs.AskedLemmas.{IsAskedPlace, asked_label}
 use Rattle.history_merge.proofs.DatesLemmas.{AreDated}

@@ -9,11 +9,11 @@ use Rattle.session_script.specs.Lanes.{lane_of}
 use Rattle.session_script.specs.WellFormed.{IsWellFormed}
 use Rattle.strand_core.specs.Execution.{AnyMark, AreCalls, events_of, inside, no_act, outside}
 use Rattle.strand_core.specs.declared.posted.Posted.{Posted}
-use Rattle.book_context.proofs.PlaceLemmas.{parent_is}
+use Rattle.execution_laws.proofs.PlaceLemmas.{parent_is}
 use Rattle.lane_clock.specs.declared.step.ClockStep.{ClockStep}
-use Rattle.lane_turns.specs.Labels.{Labelled, allots, entries_in, events_in, shows, silent}
-use Rattle.lane_turns.specs.OpenerLog.{ClosedPart, Closes, Looked, MayFollowOpened, OpenerPart, closed, look_label, opened, opener_labels, resting, restarted}
-use Rattle.lane_turns.specs.WorkerLog.{MayFollowStopped, WorkerPart, stopped, waiting}
+use Rattle.lane_logs.specs.Labels.{Labelled, allots, entries_in, events_in, shows, silent}
+use Rattle.lane_logs.specs.OpenerLog.{ClosedPart, Closes, Looked, MayFollowOpened, OpenerPart, closed, look_label, opened, opener_labels, resting, restarted}
+use Rattle.lane_logs.specs.WorkerLog.{MayFollowStopped, WorkerPart, stopped, waiting}
 use Rattle.history_merge.specs.Among.{IsPlaceOff, IsPlaceOn}
 use Rattle.history_merge.proofs.AskLemmas.{IsNoDrop}
 use Rattle.history_merge.proofs.BodyLaneLemmas.{IsOwn, inline_place}

@@ -18,19 +18,19 @@ use Rattle.lane_clock.specs.declared.found.Change.{Change}
 use Rattle.lane_clock.specs.declared.found.Found.{Found}
 use Rattle.lane_clock.specs.History.{ClockEvent, steps_under}
 use Rattle.lane_clock.proofs.MomentLemmas.{Tail, tail_more}
-use Rattle.lane_turns.specs.declared.log.LogEntry.{LogEntry}
-use Rattle.lane_turns.specs.Labels.{Labelled, entries_in, events_in, shows, steps_in}
-use Rattle.lane_turns.specs.Logs.{AreLogs, LogsView}
-use Rattle.lane_turns.specs.Names.{SessionNames}
-use Rattle.lane_turns.specs.OpenerLog.{IsOpenedPart, MayFollowOpened, OpenerPart, labels_of_opener, opened, opener_labels}
-use Rattle.lane_turns.specs.Opening.{called_each}
-use Rattle.lane_turns.specs.SeatNumbers.{opener_seat}
-use Rattle.lane_turns.specs.Stand.{Stand, first_stand, stand_of}
-use Rattle.lane_turns.proofs.OpeningLemmas.{called_sum, opening_outside}
-use Rattle.lane_turns.proofs.PenLemmas.{entries-append, steps-append}
-use Rattle.lane_turns.proofs.StandLemmas.{opening_passed}
-use Rattle.book_context.specs.Opened.{IsLegalOpening}
-use Rattle.book_context.proofs.OpenedLemmas.{is_legal_opening}
+use Rattle.lane_logs.specs.declared.log.LogEntry.{LogEntry}
+use Rattle.lane_logs.specs.Labels.{Labelled, entries_in, events_in, shows, steps_in}
+use Rattle.lane_logs.specs.Logs.{AreLogs, LogsView}
+use Rattle.lane_logs.specs.Names.{SessionNames}
+use Rattle.lane_logs.specs.OpenerLog.{IsOpenedPart, MayFollowOpened, OpenerPart, labels_of_opener, opened, opener_labels}
+use Rattle.lane_logs.specs.Calls.{called_each}
+use Rattle.lane_logs.specs.SeatNumbers.{opener_seat}
+use Rattle.lane_logs.specs.Stand.{Stand, first_stand, stand_of}
+use Rattle.lane_logs.proofs.OpeningLemmas.{called_sum, opening_outside}
+use Rattle.lane_logs.proofs.LabelLemmas.{entries-append, steps-append}
+use Rattle.lane_logs.proofs.StandLemmas.{opening_passed}
+use Rattle.execution_laws.specs.Opened.{IsLegalOpening}
+use Rattle.execution_laws.proofs.OpenedLemmas.{is_legal_opening}
 use Rattle.history_merge.proofs.AlikeLemmas.{never}
 use Rattle.history_merge.proofs.DrawnLemmas.{drawn_shown}
 use Rattle.history_merge.proofs.HistoryLemmas.{AreLabelled, IsPlain, label_of, shown_by, shown_in}

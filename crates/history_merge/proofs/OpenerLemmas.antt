@@ -9,12 +9,12 @@ use Rattle.lane_clock.specs.declared.step.ClockStep.TheVariants.{Draw, Load, Pla
 use Rattle.lane_clock.specs.History.{ClockEvent, steps_under}
 use Rattle.lane_clock.proofs.KnownLemmas.{event, under_other, under_same}
 use Rattle.lane_clock.proofs.MomentLemmas.{Tail, tail_more}
-use Rattle.lane_turns.specs.declared.log.LogEntry.{LogEntry}
-use Rattle.lane_turns.specs.Labels.{Labelled, allots, entries_in, events_in, shows, silent}
-use Rattle.lane_turns.specs.Logs.{AreLogs, LogsView}
-use Rattle.lane_turns.specs.Names.{SessionNames}
-use Rattle.lane_turns.specs.SeatNumbers.{opener_seat}
-use Rattle.lane_turns.specs.Stand.{Stand, after_draw, after_opening_draw, after_round_draw, first_stand, stand_from, stand_of, wants_restart}
+use Rattle.lane_logs.specs.declared.log.LogEntry.{LogEntry}
+use Rattle.lane_logs.specs.Labels.{Labelled, allots, entries_in, events_in, shows, silent}
+use Rattle.lane_logs.specs.Logs.{AreLogs, LogsView}
+use Rattle.lane_logs.specs.Names.{SessionNames}
+use Rattle.lane_logs.specs.SeatNumbers.{opener_seat}
+use Rattle.lane_logs.specs.Stand.{Stand, after_draw, after_opening_draw, after_round_draw, first_stand, stand_from, stand_of, wants_restart}
 use Rattle.history_merge.proofs.CutLemmas.{open_opened, stand-append}
 use Rattle.history_merge.proofs.DrawRoundLemmas.{drawn_round}
 use Rattle.history_merge.proofs.HistoryLemmas.{AreLabelled, IsLabelled, entries_shown, label_of, shown_by, shown_in}

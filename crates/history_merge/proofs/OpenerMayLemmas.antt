@@ -10,11 +10,11 @@ use Rattle.lane_clock.specs.declared.found.Found.{Found}
 use Rattle.lane_clock.specs.History.{ClockEvent, places_after, steps_under}
 use Rattle.lane_clock.proofs.MomentLemmas.{Tail, tail_more}
 use Rattle.lane_map.specs.LaneNumbers.{cells_of}
-use Rattle.lane_turns.specs.Labels.{Labelled, shows}
-use Rattle.lane_turns.specs.Logs.{AreLogs, LogsView}
-use Rattle.lane_turns.specs.Names.{SessionNames}
-use Rattle.lane_turns.specs.OpenerLog.{ClosedPart, ClosesPolled, OpenerPart, closed, opened, opener_labels, resting, restarted}
-use Rattle.lane_turns.specs.SeatNumbers.{IsWorkerSeat, lane_count, opener_seat}
+use Rattle.lane_logs.specs.Labels.{Labelled, shows}
+use Rattle.lane_logs.specs.Logs.{AreLogs, LogsView}
+use Rattle.lane_logs.specs.Names.{SessionNames}
+use Rattle.lane_logs.specs.OpenerLog.{ClosedPart, ClosesPolled, OpenerPart, closed, opened, opener_labels, resting, restarted}
+use Rattle.lane_logs.specs.SeatNumbers.{IsWorkerSeat, lane_count, opener_seat}
 use Rattle.history_merge.proofs.AllowanceLemmas.{by_worker}
 use Rattle.history_merge.proofs.ClosingLemmas.{closing_may, restart_may}
 use Rattle.history_merge.proofs.DrawRoundLemmas.{drawn_round, nothing_in}

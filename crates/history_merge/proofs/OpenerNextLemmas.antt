@@ -13,10 +13,10 @@ use Rattle.lane_clock.specs.History.{ClockEvent, steps_under}
 use Rattle.lane_clock.proofs.MomentLemmas.{Tail, tail_more, tail_refl}
 use Rattle.lane_map.specs.LaneNumbers.{reactor_lane}
 use Rattle.lane_map.proofs.NumberLemmas.{lane_count as lanes_counted}
-use Rattle.lane_turns.specs.Labels.{Labelled, allots, shows, silent}
-use Rattle.lane_turns.specs.Logs.{AreLogs, LogsView}
-use Rattle.lane_turns.specs.Names.{SessionNames}
-use Rattle.lane_turns.specs.SeatNumbers.{IsWorkerSeat, opener_seat}
+use Rattle.lane_logs.specs.Labels.{Labelled, allots, shows, silent}
+use Rattle.lane_logs.specs.Logs.{AreLogs, LogsView}
+use Rattle.lane_logs.specs.Names.{SessionNames}
+use Rattle.lane_logs.specs.SeatNumbers.{IsWorkerSeat, opener_seat}
 use Rattle.history_merge.proofs.AskLemmas.{IsNoDrop}
 use Rattle.history_merge.proofs.CalledLemmas.{AreExpected}
 use Rattle.history_merge.proofs.CellRoomLemmas.{cells_room}

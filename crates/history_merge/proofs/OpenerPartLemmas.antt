@@ -14,13 +14,13 @@ use Rattle.lane_clock.specs.History.{ClockEvent, steps_under}
 use Rattle.lane_clock.specs.Knowledge.{StartOf}
 use Rattle.lane_clock.specs.Steps.{draw_count, step_count}
 use Rattle.lane_clock.proofs.MomentLemmas.{Tail, tail_more, under_grows}
-use Rattle.lane_turns.specs.Labels.{Labelled, allots, entries_in, shows, silent, step_of, steps_in}
-use Rattle.lane_turns.specs.Logs.{AreLogs, LogsView}
-use Rattle.lane_turns.specs.Names.{SessionNames}
-use Rattle.lane_turns.specs.OpenerLog.{ClosedPart, Looked, MayFollowOpened, OpenerPart, closed, closing_change, labels_of_opener, look_label, opener_labels, opener_steps, restarted, stand_after}
-use Rattle.lane_turns.specs.SeatNumbers.{opener_seat}
-use Rattle.lane_turns.specs.Stand.{Stand, first_stand, stand_from, stand_of}
-use Rattle.lane_turns.proofs.PenLemmas.{steps-append}
+use Rattle.lane_logs.specs.Labels.{Labelled, allots, entries_in, shows, silent, step_of, steps_in}
+use Rattle.lane_logs.specs.Logs.{AreLogs, LogsView}
+use Rattle.lane_logs.specs.Names.{SessionNames}
+use Rattle.lane_logs.specs.OpenerLog.{ClosedPart, Looked, MayFollowOpened, OpenerPart, closed, closing_change, labels_of_opener, look_label, opener_labels, opener_steps, restarted, stand_after}
+use Rattle.lane_logs.specs.SeatNumbers.{opener_seat}
+use Rattle.lane_logs.specs.Stand.{Stand, first_stand, stand_from, stand_of}
+use Rattle.lane_logs.proofs.LabelLemmas.{steps-append}
 use Rattle.history_merge.proofs.CutLemmas.{stand-append}
 use Rattle.history_merge.proofs.HistoryLemmas.{IsLabelled, IsPlain, label_of}
 use Rattle.history_merge.proofs.LabellingLemmas.{AreLabels}

@@ -1,9 +1,8 @@
 -- At most one call of `open` is open at a time: each event keeps it.
 use Rattle.std.proofs.Common.{◌≡◌, ◌⊎◌, ℕ, ◌+◌, ◌<◌, Bool, true, false, List, Some, None, inl, inr, length, refl, sym, ap, subst, ◌∙◌, arith}
-use Rattle.std.specs.Prelude.{slice_get, IsSomeAnd}
+use Rattle.std.specs.Prelude.{slice_get, IsSomeAnd, ◌&&◌}
 use Rattle.std.specs.Option.{unwrap_or}
 use Rattle.std.specs.List.{slice_set}
-use Rattle.std.specs.Prelude.{◌&&◌}
 use Rattle.std.proofs.lemmas.Option.{slice_get_within}
 use Rattle.asio_types.specs.Faults.{most_faults, one_more}
 use Rattle.asio_types.specs.Code.{class_of_code}
@@ -26,10 +25,10 @@ use Rattle.history_rules.specs.declared.phase.Cause.TheVariants as cause
 use Rattle.history_rules.specs.declared.phase.Progress.{Progress}
 use Rattle.history_rules.specs.declared.phase.Step.{Step}
 use Rattle.history_rules.specs.declared.phase.Step.TheVariants as step
-use Rattle.book_context.proofs.CountLemmas.{one_more-is}
-use Rattle.book_context.proofs.ScriptLemmas.{few_in}
-use Rattle.book_context.proofs.PlaceLemmas.{few_acts}
-use Rattle.book_context.proofs.StateLemmas.{IsElsewhere, IsHandlers}
+use Rattle.execution_laws.proofs.CountLemmas.{one_more-is}
+use Rattle.execution_laws.proofs.ScriptLemmas.{few_in}
+use Rattle.execution_laws.proofs.PlaceLemmas.{few_acts}
+use Rattle.execution_laws.proofs.StateLemmas.{IsElsewhere, IsHandlers}
 use Rattle.history_merge.proofs.AlikeLemmas.{closed_returned, never}
 use Rattle.history_merge.proofs.EachActLemmas.{Each, right_set}
 use Rattle.history_merge.proofs.FrameLemmas.{acts_limited, acts_spent, opening-after, returned_act}

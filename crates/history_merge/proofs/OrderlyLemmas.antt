@@ -24,11 +24,11 @@ use Rattle.history_rules.specs.declared.phase.CallPhase.TheVariants as call
 use Rattle.history_rules.specs.declared.phase.Cause.TheVariants as cause
 use Rattle.history_rules.specs.declared.phase.Step.{Step}
 use Rattle.history_rules.specs.declared.phase.Step.TheVariants as step
-use Rattle.book_context.specs.Order.{IsOrderly, has_begun}
-use Rattle.book_context.specs.Ready.{IsCallPast, IsCausePast}
-use Rattle.book_context.proofs.KeptLemmas.{cause_later}
-use Rattle.book_context.proofs.MovesLemmas.{past_later}
-use Rattle.book_context.proofs.StateLemmas.{acts_in}
+use Rattle.execution_laws.specs.Order.{IsOrderly, has_begun}
+use Rattle.execution_laws.specs.Ready.{IsCallPast, IsCausePast}
+use Rattle.execution_laws.proofs.KeptLemmas.{cause_later}
+use Rattle.execution_laws.proofs.MovesLemmas.{past_later}
+use Rattle.execution_laws.proofs.StateLemmas.{acts_in}
 use Rattle.history_merge.proofs.EachActLemmas.{Each, act_in, right_set}
 
 -- a handler has made the call at this index of its branch for a class
@@ -249,7 +249,7 @@ stands_in script n at under = by_entry (slice_get script.acts n) refl
         let number : 0 + n ≡ n = omega arith in
         (found.0, found.1 ∙ ap Some number)
 
--- what is said of a session at rest holds at each event: book_context's laws may be used
+-- what is said of a session at rest holds at each event: the laws of executions may be used
 pub is_orderly : (script : ScriptModel) (s : State) → IsInOrder script s.context →
     ((n : ℕ) → call_at s.context n ≡ call.Uncalled → was_taken s.reactor n ≡ false) → IsOrderly script s
 is_orderly script s order untaken = record {

@@ -5,10 +5,10 @@ use Rattle.std.proofs.lemmas.List.{append_assoc}
 use mathlib.Core.Option.{some, some-injective, some-ne-none}
 use lib.ListN.{get_elem?}
 use Rattle.lane_clock.specs.declared.step.ClockStep.{ClockStep}
-use Rattle.lane_turns.specs.Labels.{Labelled, step_of, steps_in}
-use Rattle.lane_turns.specs.OpenerLog.{OpenerPart, labels_of_opener, opener_labels}
-use Rattle.lane_turns.specs.Parts.{Part, labels_in, labels_of}
-use Rattle.lane_turns.specs.WorkerLog.{WorkerPart, labels_of_worker, worker_label}
+use Rattle.lane_logs.specs.Labels.{Labelled, step_of, steps_in}
+use Rattle.lane_logs.specs.OpenerLog.{OpenerPart, labels_of_opener, opener_labels}
+use Rattle.lane_logs.specs.Parts.{Part, labels_in, labels_of}
+use Rattle.lane_logs.specs.WorkerLog.{WorkerPart, labels_of_worker, worker_label}
 use Rattle.session_script.specs.Script.{ScriptModel}
 
 -- an element of a list parts it

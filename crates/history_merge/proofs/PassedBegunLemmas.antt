@@ -15,12 +15,12 @@ use Rattle.lane_clock.specs.declared.step.ClockStep.TheVariants.{Look}
 use Rattle.lane_clock.specs.History.{ClockEvent}
 use Rattle.lane_clock.proofs.MomentLemmas.{Tail, tail_more}
 use Rattle.lane_map.specs.LaneNumbers.{reactor_lane}
-use Rattle.lane_turns.specs.Labels.{Labelled, allots, shows, silent}
-use Rattle.lane_turns.specs.LaneLog.{AreParts, MayFollow}
-use Rattle.lane_turns.specs.Logs.{AreLogs, LogsView}
-use Rattle.lane_turns.specs.Names.{IsNamedMark, SessionNames}
-use Rattle.lane_turns.specs.Parts.{ExecutedPart, Part, TurnPart, TurnStart, end_labels, executed, failed, idle, labels_in, missing, next_place, passes, start_labels, takes, turned}
-use Rattle.lane_turns.specs.SeatNumbers.{lane_count, opener_seat}
+use Rattle.lane_logs.specs.Labels.{Labelled, allots, shows, silent}
+use Rattle.lane_logs.specs.LaneLog.{AreParts, MayFollow}
+use Rattle.lane_logs.specs.Logs.{AreLogs, LogsView}
+use Rattle.lane_logs.specs.Names.{IsNamedMark, SessionNames}
+use Rattle.lane_logs.specs.Parts.{ExecutedPart, Part, TurnPart, TurnStart, end_labels, executed, failed, idle, labels_in, missing, next_place, passes, start_labels, takes, turned}
+use Rattle.lane_logs.specs.SeatNumbers.{lane_count, opener_seat}
 use Rattle.history_merge.proofs.DatesLemmas.{is_past}
 use Rattle.history_merge.proofs.LabellingLemmas.{AreLabels, lane_are}
 use Rattle.history_merge.proofs.NextLeftLemmas.{execution_first}

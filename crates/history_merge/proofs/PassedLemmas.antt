@@ -2,9 +2,9 @@
 use Rattle.std.proofs.Common.{◌≡◌, ℕ, ◌+◌, ◌<◌, ◌≤◌, cond, List, [], ◌∷◌, ◌++◌, inl, inr, refl, ap, arith}
 use Rattle.std.proofs.lemmas.Bool.{cases_lt}
 use Rattle.lane_clock.specs.declared.step.ClockStep.{ClockStep}
-use Rattle.lane_turns.specs.LaneLog.{AreParts, MayFollow}
-use Rattle.lane_turns.specs.Names.{SessionNames}
-use Rattle.lane_turns.specs.Parts.{Part, TurnStart, executed, failed, idle, missing, next_place, passes, places_used, takes, takes_place, turned}
+use Rattle.lane_logs.specs.LaneLog.{AreParts, MayFollow}
+use Rattle.lane_logs.specs.Names.{SessionNames}
+use Rattle.lane_logs.specs.Parts.{Part, TurnStart, executed, failed, idle, missing, next_place, passes, places_used, takes, takes_place, turned}
 
 -- the part executes or takes what was seen at this place
 abbrev pub TakesPlace : TurnStart → ℕ → ℕ → Type 0

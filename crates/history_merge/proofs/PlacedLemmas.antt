@@ -2,21 +2,21 @@
 use Rattle.std.proofs.Common.{◌≡◌, ◌≢◌, ℕ, zero, suc, ◌+◌, ◌^◌, ◌<◌, ◌≤◌, Bool, true, false, List, [], ◌∷◌, inl, inr, length, take, refl, sym, ap, subst, ◌∙◌, arith}
 use Rattle.std.specs.Prelude.{◌&&◌, ◌==◌, not}
 use Rattle.std.proofs.lemmas.Bool.{cases_eq, cases_lt, eq-eqb, ne_eqb}
-use Rattle.lane_turns.specs.Drops.{is_call_of}
+use Rattle.lane_logs.specs.Drops.{is_call_of}
+use Rattle.lane_logs.specs.Labels.{Labelled, allots, shows, silent}
+use Rattle.lane_logs.specs.LaneLog.{MayFollow}
+use Rattle.lane_logs.specs.Logs.{LogsView}
+use Rattle.lane_logs.specs.Names.{SessionNames}
+use Rattle.lane_logs.specs.OpenerLog.{MayFollowOpened, OpenerPart, opener_labels}
+use Rattle.lane_logs.specs.Parts.{Part, labels_in}
+use Rattle.lane_logs.specs.SeatNumbers.{lane_count, opener_seat}
+use Rattle.lane_logs.specs.WorkerLog.{MayFollowStopped, WorkerPart}
 use Rattle.session_script.specs.Script.{ScriptModel}
 use Rattle.session_script.specs.WellFormed.{IsWellFormed}
 use Rattle.history_rules.specs.State.{first_state}
 use Rattle.lane_clock.specs.History.{ClockEvent, IsSoundHistory}
 use Rattle.lane_clock.proofs.CountLemmas.{few_drawn}
 use Rattle.lane_map.specs.LaneNumbers.{reactor_lane}
-use Rattle.lane_turns.specs.Labels.{Labelled, allots, shows, silent}
-use Rattle.lane_turns.specs.LaneLog.{MayFollow}
-use Rattle.lane_turns.specs.Logs.{LogsView}
-use Rattle.lane_turns.specs.Names.{SessionNames}
-use Rattle.lane_turns.specs.OpenerLog.{MayFollowOpened, OpenerPart, opener_labels}
-use Rattle.lane_turns.specs.Parts.{Part, labels_in}
-use Rattle.lane_turns.specs.SeatNumbers.{lane_count, opener_seat}
-use Rattle.lane_turns.specs.WorkerLog.{MayFollowStopped, WorkerPart}
 use Rattle.reactor_turns.proofs.SummingLemmas.{one_if, summed, summed-less}
 use Rattle.history_merge.proofs.CalledLemmas.{AreExpected, called_at_most, calls_of}
 use Rattle.history_merge.proofs.HistoryLemmas.{AreLabelled, label_of, shown_by, shown_count, shown_in}

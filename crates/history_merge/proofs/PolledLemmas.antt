@@ -19,15 +19,15 @@ use Rattle.lane_clock.specs.History.{ClockEvent, cell_after, places_after, steps
 use Rattle.lane_clock.proofs.KnownLemmas.{event}
 use Rattle.lane_clock.proofs.MomentLemmas.{Tail, moment_of, sound_tail, tail_more, tail_refl, tail_trans, within_before}
 use Rattle.lane_map.specs.LaneNumbers.{cells_of}
-use Rattle.lane_turns.specs.Cuts.{HasStarted}
-use Rattle.lane_turns.specs.Labels.{Labelled, allots, shows, silent, steps_in}
-use Rattle.lane_turns.specs.LaneLog.{MayFollow}
-use Rattle.lane_turns.specs.Logs.{AreLogs, LogsView, session_layout}
-use Rattle.lane_turns.specs.Names.{SessionNames}
-use Rattle.lane_turns.specs.OpenerLog.{ClosedPart, ClosesPolled, Looked, MayFollowOpened, OpenerPart, closed, labels_of_opener, look_label, opener_labels, opener_steps}
-use Rattle.lane_turns.specs.Parts.{Part, labels_in}
-use Rattle.lane_turns.specs.SeatNumbers.{IsWorkerSeat, lane_count, opener_seat}
-use Rattle.lane_turns.specs.WorkerLog.{MayFollowStopped, WorkerPart, stopped, waiting}
+use Rattle.lane_logs.specs.Cuts.{HasStarted}
+use Rattle.lane_logs.specs.Labels.{Labelled, allots, shows, silent, steps_in}
+use Rattle.lane_logs.specs.LaneLog.{MayFollow}
+use Rattle.lane_logs.specs.Logs.{AreLogs, LogsView, session_layout}
+use Rattle.lane_logs.specs.Names.{SessionNames}
+use Rattle.lane_logs.specs.OpenerLog.{ClosedPart, ClosesPolled, Looked, MayFollowOpened, OpenerPart, closed, labels_of_opener, look_label, opener_labels, opener_steps}
+use Rattle.lane_logs.specs.Parts.{Part, labels_in}
+use Rattle.lane_logs.specs.SeatNumbers.{IsWorkerSeat, lane_count, opener_seat}
+use Rattle.lane_logs.specs.WorkerLog.{MayFollowStopped, WorkerPart, stopped, waiting}
 use Rattle.history_merge.proofs.AtEventLemmas.{lane_between}
 use Rattle.history_merge.proofs.HistoryLemmas.{AreLabelled, label_of}
 use Rattle.history_merge.proofs.LabellingLemmas.{AreLabels}

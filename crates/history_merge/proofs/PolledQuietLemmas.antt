@@ -33,15 +33,15 @@ use Rattle.lane_clock.specs.Steps.{draw_count}
 use Rattle.lane_clock.proofs.KnownLemmas.{event as step_event}
 use Rattle.lane_clock.proofs.MomentLemmas.{Tail, moment_of, sound_tail, tail_more, tail_refl}
 use Rattle.lane_map.specs.LaneNumbers.{asked_lane, cells_of, home_lane, reactor_lane}
-use Rattle.lane_turns.specs.Cuts.{HasStarted}
-use Rattle.lane_turns.specs.Labels.{Labelled, allots, shows, silent, step_of, steps_in}
-use Rattle.lane_turns.specs.LaneLog.{AreParts, MayFollow}
-use Rattle.lane_turns.specs.Logs.{AreLogs, LogsView, session_layout}
-use Rattle.lane_turns.specs.Names.{SessionNames}
-use Rattle.lane_turns.specs.OpenerLog.{ClosedPart, ClosesPolled, closed}
-use Rattle.lane_turns.specs.Parts.{Part, labels_in, labels_of}
-use Rattle.lane_turns.specs.SeatNumbers.{lane_count, opener_seat}
-use Rattle.book_context.specs.Ready.{is_ready}
+use Rattle.lane_logs.specs.Cuts.{HasStarted}
+use Rattle.lane_logs.specs.Labels.{Labelled, allots, shows, silent, step_of, steps_in}
+use Rattle.lane_logs.specs.LaneLog.{AreParts, MayFollow}
+use Rattle.lane_logs.specs.Logs.{AreLogs, LogsView, session_layout}
+use Rattle.lane_logs.specs.Names.{SessionNames}
+use Rattle.lane_logs.specs.OpenerLog.{ClosedPart, ClosesPolled, closed}
+use Rattle.lane_logs.specs.Parts.{Part, labels_in, labels_of}
+use Rattle.lane_logs.specs.SeatNumbers.{lane_count, opener_seat}
+use Rattle.execution_laws.specs.Ready.{is_ready}
 use Rattle.lane_map.proofs.NumberLemmas.{lane_count as lanes_counted}
 use Rattle.history_merge.proofs.AcceptedLemmas.{posted_asks, ready_by, request_asks, waits_by}
 use Rattle.history_merge.proofs.AlikeLemmas.{is_not, never}

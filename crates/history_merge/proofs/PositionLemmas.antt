@@ -9,10 +9,10 @@ use Rattle.lane_clock.specs.declared.found.Found.{Found}
 use Rattle.lane_clock.specs.declared.step.ClockStep.TheVariants.{Draw, Place}
 use Rattle.lane_clock.specs.Laws.{PositionsOnce}
 use Rattle.lane_clock.specs.Steps.{draw_count}
-use Rattle.lane_turns.specs.declared.log.LogEntry.{LogEntry}
-use Rattle.lane_turns.specs.Labels.{Labelled, allots, entries_in, shows, silent, step_of}
-use Rattle.lane_turns.specs.Logs.{AreLogs, LogsView, entries_of}
-use Rattle.lane_turns.specs.Names.{SessionNames}
+use Rattle.lane_logs.specs.declared.log.LogEntry.{LogEntry}
+use Rattle.lane_logs.specs.Labels.{Labelled, allots, entries_in, shows, silent, step_of}
+use Rattle.lane_logs.specs.Logs.{AreLogs, LogsView, entries_of}
+use Rattle.lane_logs.specs.Names.{SessionNames}
 use Rattle.history_merge.specs.Ordering.{ArePositioned, IsEntryIn}
 use Rattle.history_merge.proofs.HistoryLemmas.{IsPlain}
 use Rattle.history_merge.proofs.LabellingLemmas.{AreLabels, are_labels, labels_under, plain_label}

@@ -12,14 +12,14 @@ use Rattle.lane_clock.specs.declared.step.ClockStep.TheVariants.{Draw, Load, Pla
 use Rattle.lane_clock.specs.History.{ClockEvent, cell_after, cell_with}
 use Rattle.lane_clock.proofs.MomentLemmas.{Tail}
 use Rattle.lane_map.specs.LaneNumbers.{asked_lane, cells_of, reactor_lane}
-use Rattle.lane_turns.specs.Labels.{AreDrawn, IsDrawn, Labelled, allots, begins, call_note, dispatches, ends, none_drawn, one_drawn, posts, returns, shows, silent, stops_context}
-use Rattle.lane_turns.specs.LaneLog.{IsIdleStep, MayFollow}
-use Rattle.lane_turns.specs.Logs.{LogsView}
-use Rattle.lane_turns.specs.Names.{SessionNames}
-use Rattle.lane_turns.specs.OpenerLog.{IsRestingStep, Looked, MayFollowOpened, OpenerPart, closed, look_label, opened, opener_labels, resting, restarted}
-use Rattle.lane_turns.specs.Parts.{Part, executed, failed, idle, labels_in, missing, turned}
-use Rattle.lane_turns.specs.SeatNumbers.{lane_count, opener_seat}
-use Rattle.lane_turns.specs.WorkerLog.{MayFollowStopped, WorkerPart, stopped, waiting}
+use Rattle.lane_logs.specs.Labels.{AreDrawn, IsDrawn, Labelled, allots, begins, call_note, dispatches, ends, none_drawn, one_drawn, posts, returns, shows, silent, stops_context}
+use Rattle.lane_logs.specs.LaneLog.{IsIdleStep, MayFollow}
+use Rattle.lane_logs.specs.Logs.{LogsView}
+use Rattle.lane_logs.specs.Names.{SessionNames}
+use Rattle.lane_logs.specs.OpenerLog.{IsRestingStep, Looked, MayFollowOpened, OpenerPart, closed, look_label, opened, opener_labels, resting, restarted}
+use Rattle.lane_logs.specs.Parts.{Part, executed, failed, idle, labels_in, missing, turned}
+use Rattle.lane_logs.specs.SeatNumbers.{lane_count, opener_seat}
+use Rattle.lane_logs.specs.WorkerLog.{MayFollowStopped, WorkerPart, stopped, waiting}
 use Rattle.history_merge.proofs.LabellingLemmas.{AreLabels, AreMadeOf}
 use Rattle.history_merge.proofs.PartLemmas.{Follow, all_made, labels_worker}
 

@@ -10,10 +10,10 @@ use Rattle.history_rules.specs.declared.phase.ActState.{ActState}
 use Rattle.history_rules.specs.Time.{pending_count}
 use Rattle.history_rules.specs.declared.phase.ActPhase.{ActPhase}
 use Rattle.history_rules.specs.declared.phase.ActPhase.TheVariants as phase
-use Rattle.lane_turns.specs.Half.{held_guards}
-use Rattle.book_context.specs.Rest.{waits_inside}
-use Rattle.book_context.specs.Work.{is_pending, is_requested, pending_acts}
-use Rattle.book_context.proofs.CountingLemmas.{counted, counted-either, counted-range, counted-same}
+use Rattle.lane_logs.specs.Half.{held_guards}
+use Rattle.execution_laws.specs.Rest.{waits_inside}
+use Rattle.execution_laws.specs.Work.{is_pending, is_requested, pending_acts}
+use Rattle.execution_laws.proofs.CountingLemmas.{counted, counted-either, counted-range, counted-same}
 
 -- outstanding by itself, and not since the reactor has it to complete
 abbrev pub is_busy : ActPhase → Bool → Bool

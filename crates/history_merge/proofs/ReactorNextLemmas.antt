@@ -14,16 +14,16 @@ use Rattle.history_rules.specs.Requests.{MayTell}
 use Rattle.history_rules.specs.State.{State, phase_at}
 use Rattle.history_rules.specs.declared.phase.ActPhase.{ActPhase}
 use Rattle.history_rules.specs.declared.phase.ActPhase.TheVariants as phase
-use Rattle.book_context.specs.Standing.{IsStanding}
-use Rattle.book_context.specs.Work.{is_pending, is_requested}
+use Rattle.execution_laws.specs.Standing.{IsStanding}
+use Rattle.execution_laws.specs.Work.{is_pending, is_requested}
 use Rattle.reactor_turns.proofs.StandingLemmas.{stands-done}
 use Rattle.reactor_turns.proofs.SummingLemmas.{one_if}
 use Rattle.lane_clock.specs.History.{ClockEvent}
 use Rattle.lane_clock.proofs.MomentLemmas.{Tail, tail_refl}
 use Rattle.lane_map.specs.LaneNumbers.{reactor_lane}
-use Rattle.lane_turns.specs.Labels.{Labelled, allots, shows, silent}
-use Rattle.lane_turns.specs.Logs.{AreLogs, LogsView}
-use Rattle.lane_turns.specs.Names.{SessionNames}
+use Rattle.lane_logs.specs.Labels.{Labelled, allots, shows, silent}
+use Rattle.lane_logs.specs.Logs.{AreLogs, LogsView}
+use Rattle.lane_logs.specs.Names.{SessionNames}
 use Rattle.history_merge.proofs.AskLemmas.{IsNoDrop}
 use Rattle.history_merge.proofs.GoingNextLemmas.{IsExpectedLabel}
 use Rattle.history_merge.proofs.HistoryLemmas.{label_of}

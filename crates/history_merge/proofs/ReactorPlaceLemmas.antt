@@ -27,17 +27,29 @@ use Rattle.lane_clock.specs.declared.note.Note.{Note}
 use Rattle.lane_clock.specs.declared.step.ClockStep.{ClockStep}
 use Rattle.lane_clock.specs.declared.step.ClockStep.TheVariants.{Load, Look, Put}
 use Rattle.lane_map.specs.LaneNumbers.{cells_of, home_lane, reactor_lane}
-use Rattle.lane_turns.specs.Half.{half_from}
-use Rattle.lane_turns.specs.Labels.{Labelled, allots, entries_in, shows, silent}
-use Rattle.lane_turns.specs.LaneLog.{AreParts, MayFollow, half_after}
-use Rattle.lane_turns.specs.Names.{SessionNames}
-use Rattle.lane_turns.specs.Parts.{FailedPart, Part, TurnEnd, TurnPart, TurnStart, are_broken, end_labels, executed, failed, fails, fault_label, idle, is_broken, is_failing, labels_in, labels_of, looks_empty, missing, passes, start_labels, takes, tells, turned}
-use Rattle.lane_turns.specs.ReactorTurns.{AreTold, EndsTurn, MayStartTurn, done_labels, done_note, may_take, none_told, one_told, point_event, start_event}
-use Rattle.lane_turns.proofs.TakingLemmas.{open_request, request_within}
+use Rattle.lane_logs.specs.Half.{half_from}
+use Rattle.lane_logs.specs.Labels.{Labelled, allots, entries_in, shows, silent}
+use Rattle.lane_logs.specs.LaneLog.{AreParts, MayFollow, half_after}
+use Rattle.lane_logs.specs.Names.{SessionNames}
+use Rattle.lane_logs.specs.Parts.{FailedPart, Part, TurnEnd, TurnPart, TurnStart, are_broken, end_labels, executed, failed, fails, fault_label, idle, is_broken, is_failing, labels_in, labels_of, looks_empty, missing, passes, start_labels, takes, tells, turned}
+use Rattle.lane_logs.specs.ReactorTurns.{AreTold, EndsTurn, MayStartTurn, done_labels, done_note, may_take, none_told, one_told, point_event, start_event}
+use Rattle.lane_logs.proofs.RequestLemmas.{request_within, asked, asks_kind}
 use Rattle.history_merge.proofs.BackLemmas.{allots_for}
 use Rattle.history_merge.proofs.PartLemmas.{Every, every-append}
 use Rattle.history_merge.proofs.RestingLemmas.{IsResting, either_false, goes_on, half-append, look_entries, put_entries, rests, turn_half}
 use Rattle.history_merge.proofs.TimesLemmas.{times, times-append}
+
+-- a request that may be taken
+open_request : (script : ScriptModel) (half : ReactorHalf) (a : ℕ) → may_take script half a ≡ true →
+    IsOpenRequest script half a
+open_request script half a may =
+    let request = asked script half a may in
+    record {
+      act = request.given;
+      is = request.is;
+      asks = asks_kind request.given request.asks;
+      untaken = request.untaken;
+    }
 
 module _ (script : ScriptModel) where
   -- an asynchronous operation

@@ -21,8 +21,8 @@ use Rattle.history_rules.specs.declared.phase.CallPhase.TheVariants as call
 use Rattle.history_rules.specs.declared.phase.Cause.TheVariants as cause
 use Rattle.history_rules.specs.declared.phase.Step.{Step}
 use Rattle.history_rules.specs.declared.phase.Step.TheVariants as step
-use Rattle.book_context.specs.Kinds.{was_called}
-use Rattle.book_context.specs.Order.{has_begun}
+use Rattle.execution_laws.specs.Kinds.{was_called}
+use Rattle.execution_laws.specs.Order.{has_begun}
 use Rattle.history_merge.proofs.EachActLemmas.{act_in, right_set}
 use Rattle.history_merge.proofs.FrameLemmas.{acts_limited, acts_spent}
 use Rattle.history_merge.proofs.KindLemmas.{called_returned, called_stopping}

@@ -9,15 +9,15 @@ use Rattle.history_rules.specs.State.{State, phase_at}
 use Rattle.history_rules.specs.declared.phase.ActPhase.{ActPhase}
 use Rattle.history_rules.specs.declared.phase.ActPhase.TheVariants as phase
 use Rattle.history_rules.specs.declared.phase.Cause.TheVariants as cause
-use Rattle.book_context.specs.Order.{has_begun}
+use Rattle.execution_laws.specs.Order.{has_begun}
 use Rattle.lane_clock.specs.declared.found.Change.TheVariants as change
 use Rattle.lane_clock.specs.declared.note.Note.{Note}
 use Rattle.lane_clock.specs.History.{ClockEvent}
 use Rattle.lane_clock.proofs.MomentLemmas.{Tail}
 use Rattle.lane_map.specs.LaneNumbers.{reactor_lane}
-use Rattle.lane_turns.specs.Labels.{Labelled}
-use Rattle.lane_turns.specs.Logs.{AreLogs, LogsView}
-use Rattle.lane_turns.specs.Names.{SessionNames}
+use Rattle.lane_logs.specs.Labels.{Labelled}
+use Rattle.lane_logs.specs.Logs.{AreLogs, LogsView}
+use Rattle.lane_logs.specs.Names.{SessionNames}
 use Rattle.history_merge.proofs.AlikeLemmas.{never}
 use Rattle.history_merge.proofs.DatesLemmas.{StandsTold, is_over, is_past, is_told}
 use Rattle.history_merge.proofs.FirstLemmas.{called_before}

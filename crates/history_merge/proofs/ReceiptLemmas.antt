@@ -18,13 +18,13 @@ use Rattle.lane_clock.specs.Rule.{by_draw, StepAt}
 use Rattle.lane_clock.proofs.KnownLemmas.{at_within}
 use Rattle.lane_clock.proofs.MomentLemmas.{tail_refl}
 use Rattle.lane_map.specs.LaneNumbers.{home_lane, reactor_lane}
-use Rattle.lane_turns.specs.declared.receipt.Receipt.{Receipt}
-use Rattle.lane_turns.specs.Drops.{is_call_of}
-use Rattle.lane_turns.specs.Labels.{Labelled, allots, shows, silent, step_of}
-use Rattle.lane_turns.specs.Logs.{AreLogs, LogsView}
-use Rattle.lane_turns.specs.Names.{SessionNames}
-use Rattle.lane_turns.specs.Receipts.{IsReceiptOf, note_of}
-use Rattle.lane_turns.specs.SeatNumbers.{lane_count}
+use Rattle.lane_logs.specs.declared.receipt.Receipt.{Receipt}
+use Rattle.lane_logs.specs.Drops.{is_call_of}
+use Rattle.lane_logs.specs.Labels.{Labelled, allots, shows, silent, step_of}
+use Rattle.lane_logs.specs.Logs.{AreLogs, LogsView}
+use Rattle.lane_logs.specs.Names.{SessionNames}
+use Rattle.lane_logs.specs.Receipts.{IsReceiptOf, note_of}
+use Rattle.lane_logs.specs.SeatNumbers.{lane_count}
 use Rattle.history_merge.specs.Merging.{IsMerging}
 use Rattle.history_merge.specs.Receipts.{AreOfOneLane, CompletesBefore, HoldsIn, ReceiptsHold, done_of}
 use Rattle.history_merge.proofs.AlikeLemmas.{never}

@@ -16,12 +16,12 @@ use Rattle.lane_clock.specs.History.{ClockEvent, IsSoundHistory, steps_under}
 use Rattle.lane_clock.proofs.KnownLemmas.{at_within}
 use Rattle.lane_clock.proofs.MomentLemmas.{Tail, sound_tail, tail_more, tail_refl}
 use Rattle.lane_map.specs.LaneNumbers.{reactor_lane}
-use Rattle.lane_turns.specs.Labels.{Labelled, allots, shows, silent}
-use Rattle.lane_turns.specs.LaneLog.{AreParts, MayFollow}
-use Rattle.lane_turns.specs.Logs.{AreLogs, LogsView, session_layout}
-use Rattle.lane_turns.specs.Names.{SessionNames}
-use Rattle.lane_turns.specs.Parts.{Part, TurnPart, TurnStart, end_labels, executed, failed, idle, labels_in, missing, passes, start_labels, takes, turned}
-use Rattle.lane_turns.specs.SeatNumbers.{lane_count, opener_seat}
+use Rattle.lane_logs.specs.Labels.{Labelled, allots, shows, silent}
+use Rattle.lane_logs.specs.LaneLog.{AreParts, MayFollow}
+use Rattle.lane_logs.specs.Logs.{AreLogs, LogsView, session_layout}
+use Rattle.lane_logs.specs.Names.{SessionNames}
+use Rattle.lane_logs.specs.Parts.{Part, TurnPart, TurnStart, end_labels, executed, failed, idle, labels_in, missing, passes, start_labels, takes, turned}
+use Rattle.lane_logs.specs.SeatNumbers.{lane_count, opener_seat}
 use Rattle.history_merge.proofs.FirstLemmas.{IsNextRequest, next_request}
 use Rattle.history_merge.proofs.HistoryLemmas.{AreLabelled}
 use Rattle.history_merge.proofs.LabellingLemmas.{AreLabels, lane_are}

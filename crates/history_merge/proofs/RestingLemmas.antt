@@ -18,13 +18,13 @@ use Rattle.lane_clock.specs.declared.note.Note.{Note}
 use Rattle.lane_clock.specs.declared.step.ClockStep.{ClockStep}
 use Rattle.lane_clock.specs.declared.step.ClockStep.TheVariants.{Look, Put}
 use Rattle.lane_map.specs.LaneNumbers.{cells_of, home_lane, reactor_lane}
-use Rattle.lane_turns.specs.Half.{half_from}
-use Rattle.lane_turns.specs.Labels.{Labelled, entries_in, silent}
-use Rattle.lane_turns.specs.LaneLog.{AreParts, MayFollow, half_after}
-use Rattle.lane_turns.specs.Names.{SessionNames}
-use Rattle.lane_turns.specs.Parts.{Part, TurnEnd, TurnPart, TurnStart, are_broken, end_labels, executed, failed, fails, idle, is_broken, is_failing, labels_in, labels_of, missing, passes, start_labels, takes, tells, turned}
-use Rattle.lane_turns.specs.ReactorTurns.{AreTold, EndsTurn, MayStartTurn, done_labels, done_note, none_told, one_told, point_event, start_event}
-use Rattle.lane_turns.proofs.PenLemmas.{entries-append}
+use Rattle.lane_logs.specs.Half.{half_from}
+use Rattle.lane_logs.specs.Labels.{Labelled, entries_in, silent}
+use Rattle.lane_logs.specs.LaneLog.{AreParts, MayFollow, half_after}
+use Rattle.lane_logs.specs.Names.{SessionNames}
+use Rattle.lane_logs.specs.Parts.{Part, TurnEnd, TurnPart, TurnStart, are_broken, end_labels, executed, failed, fails, idle, is_broken, is_failing, labels_in, labels_of, missing, passes, start_labels, takes, tells, turned}
+use Rattle.lane_logs.specs.ReactorTurns.{AreTold, EndsTurn, MayStartTurn, done_labels, done_note, none_told, one_told, point_event, start_event}
+use Rattle.lane_logs.proofs.LabelLemmas.{entries-append}
 use Rattle.reactor_turns.proofs.ClockLemmas.{runs-take, settled-clock, time-done}
 use Rattle.history_merge.proofs.HalfLemmas.{half_from-append}
 

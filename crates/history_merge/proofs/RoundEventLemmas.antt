@@ -7,7 +7,7 @@ use Rattle.session_script.specs.Script.{ScriptModel}
 use Rattle.history_rules.specs.Legal.{context_after}
 use Rattle.history_rules.specs.State.{ContextState}
 use Rattle.lane_clock.specs.declared.step.ClockStep.{ClockStep}
-use Rattle.lane_turns.specs.OpenerLog.{ClosedPart, Closes, OpenerPart}
+use Rattle.lane_logs.specs.OpenerLog.{ClosedPart, Closes, OpenerPart}
 use Rattle.history_merge.proofs.EachLabelLemmas.{is_of_execution}
 use Rattle.history_merge.proofs.FrameLemmas.{IsWithinRound, RoundPart, round_after}
 use Rattle.history_merge.proofs.StopLemmas.{Halts, halts_with}

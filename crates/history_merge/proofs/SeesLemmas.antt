@@ -28,7 +28,7 @@ use Rattle.history_rules.specs.declared.phase.CallPhase.TheVariants as call
 use Rattle.history_rules.specs.declared.phase.Cause.TheVariants as cause
 use Rattle.history_rules.specs.declared.phase.Step.{Step}
 use Rattle.history_rules.specs.declared.phase.Step.TheVariants as step
-use Rattle.book_context.specs.Ready.{is_ready}
+use Rattle.execution_laws.specs.Ready.{is_ready}
 use Rattle.history_merge.specs.Among.{IsOfOthers, IsPlaceOff, IsPlaceOn}
 use Rattle.history_merge.proofs.BodyLaneLemmas.{IsOwn}
 use Rattle.history_merge.proofs.EachActLemmas.{act_in, both_set, right_set}

@@ -21,16 +21,16 @@ use Rattle.strand_core.specs.Execution.{IsWholeExecution, events_of}
 use Rattle.lane_clock.specs.declared.found.Found.{Found}
 use Rattle.lane_clock.specs.declared.step.ClockStep.{ClockStep}
 use Rattle.lane_map.specs.LaneNumbers.{reactor_lane}
-use Rattle.lane_turns.specs.Labels.{AreDrawn, Labelled, allots, entries_in, events_in, shows, silent}
-use Rattle.lane_turns.specs.LaneLog.{MayFollow}
-use Rattle.lane_turns.specs.Logs.{LogsView}
-use Rattle.lane_turns.specs.Names.{IsNamedMark, SessionNames}
-use Rattle.lane_turns.specs.OpenerLog.{opener_labels}
-use Rattle.lane_turns.specs.Parts.{ExecutedPart, FailedPart, Part, TurnPart, TurnStart, end_labels, executed, failed, idle, labels_in, looks_empty, missing, passes, start_labels, takes, turned}
-use Rattle.lane_turns.specs.ReactorTurns.{MayStartTurn, point_event}
-use Rattle.lane_turns.specs.SeatNumbers.{lane_count, opener_seat}
-use Rattle.lane_turns.specs.WorkerLog.{MayFollowStopped, WorkerPart, stopped, waiting}
-use Rattle.book_context.proofs.StateLemmas.{IsHandlers}
+use Rattle.lane_logs.specs.Labels.{AreDrawn, Labelled, allots, entries_in, events_in, shows, silent}
+use Rattle.lane_logs.specs.LaneLog.{MayFollow}
+use Rattle.lane_logs.specs.Logs.{LogsView}
+use Rattle.lane_logs.specs.Names.{IsNamedMark, SessionNames}
+use Rattle.lane_logs.specs.OpenerLog.{opener_labels}
+use Rattle.lane_logs.specs.Parts.{ExecutedPart, FailedPart, Part, TurnPart, TurnStart, end_labels, executed, failed, idle, labels_in, looks_empty, missing, passes, start_labels, takes, turned}
+use Rattle.lane_logs.specs.ReactorTurns.{MayStartTurn, point_event}
+use Rattle.lane_logs.specs.SeatNumbers.{lane_count, opener_seat}
+use Rattle.lane_logs.specs.WorkerLog.{MayFollowStopped, WorkerPart, stopped, waiting}
+use Rattle.execution_laws.proofs.StateLemmas.{IsHandlers}
 use Rattle.history_merge.specs.Among.{IsPlaceOn}
 use Rattle.history_merge.proofs.BodyLaneLemmas.{AreOwn, IsOwn, execution_is_own}
 use Rattle.history_merge.proofs.DrawnLemmas.{drawn_shown}

@@ -13,13 +13,13 @@ use Rattle.lane_clock.specs.declared.found.Found.{Found}
 use Rattle.lane_clock.specs.History.{ClockEvent, steps_under}
 use Rattle.lane_clock.proofs.MomentLemmas.{Tail, tail_more, tail_trans, under_length}
 use Rattle.lane_map.specs.LaneNumbers.{reactor_lane}
-use Rattle.lane_turns.specs.Half.{half_from, half_of}
-use Rattle.lane_turns.specs.Labels.{Labelled, allots, entries_in, shows, silent, step_of}
-use Rattle.lane_turns.specs.LaneLog.{half_after}
-use Rattle.lane_turns.specs.Logs.{AreLogs, LogsView}
-use Rattle.lane_turns.specs.Names.{SessionNames}
-use Rattle.lane_turns.specs.Parts.{Part, labels_in}
-use Rattle.lane_turns.specs.SeatNumbers.{lane_count, opener_seat}
+use Rattle.lane_logs.specs.Half.{half_from, half_of}
+use Rattle.lane_logs.specs.Labels.{Labelled, allots, entries_in, shows, silent, step_of}
+use Rattle.lane_logs.specs.LaneLog.{half_after}
+use Rattle.lane_logs.specs.Logs.{AreLogs, LogsView}
+use Rattle.lane_logs.specs.Names.{SessionNames}
+use Rattle.lane_logs.specs.Parts.{Part, labels_in}
+use Rattle.lane_logs.specs.SeatNumbers.{lane_count, opener_seat}
 use Rattle.history_merge.proofs.BetweenLemmas.{kept_from, made_within, none_drawn, own_before}
 use Rattle.history_merge.proofs.GoingLemmas.{IsDrawing}
 use Rattle.history_merge.proofs.HalfLemmas.{half_is}

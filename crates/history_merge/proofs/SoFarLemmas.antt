@@ -6,10 +6,10 @@ use Rattle.history_rules.specs.State.{State, first_state}
 use Rattle.lane_clock.specs.declared.step.ClockStep.{ClockStep}
 use Rattle.lane_clock.specs.History.{ClockEvent, steps_under}
 use Rattle.lane_clock.proofs.KnownLemmas.{under_other, under_same}
-use Rattle.lane_turns.specs.declared.log.LogEntry.{LogEntry}
-use Rattle.lane_turns.specs.Labels.{Labelled, allots, entries_in, shows, silent}
-use Rattle.lane_turns.proofs.PenLemmas.{entries-append}
-use Rattle.book_context.proofs.EventLemmas.{legal-append, state_from-append}
+use Rattle.lane_logs.specs.declared.log.LogEntry.{LogEntry}
+use Rattle.lane_logs.specs.Labels.{Labelled, allots, entries_in, shows, silent}
+use Rattle.lane_logs.proofs.LabelLemmas.{entries-append}
+use Rattle.execution_laws.proofs.EventLemmas.{legal-append, state_from-append}
 use Rattle.history_merge.proofs.CutLemmas.{take_next}
 use Rattle.history_merge.proofs.HistoryLemmas.{IsLabelled, label_of, shown_by, shown_in}
 

@@ -16,16 +16,16 @@ use Rattle.history_rules.specs.declared.phase.ActPhase.TheVariants as phase
 use Rattle.history_rules.specs.declared.phase.ActState.{ActState}
 use Rattle.history_rules.specs.declared.phase.CallPhase.TheVariants as call
 use Rattle.history_rules.specs.declared.phase.Cause.TheVariants as cause
-use Rattle.book_context.specs.Kinds.{was_called}
-use Rattle.book_context.specs.Rest.{IsAtRest, waits_inside}
-use Rattle.book_context.specs.Work.{is_pending, is_requested, pending_acts}
-use Rattle.book_context.proofs.CountingLemmas.{counted-never, counted-range}
+use Rattle.execution_laws.specs.Kinds.{was_called}
+use Rattle.execution_laws.specs.Rest.{IsAtRest, waits_inside}
+use Rattle.execution_laws.specs.Work.{is_pending, is_requested, pending_acts}
+use Rattle.execution_laws.proofs.CountingLemmas.{counted-never, counted-range}
 use Rattle.reactor_turns.proofs.AheadLemmas.{none_first, starts_bounded}
 use Rattle.lane_map.specs.LaneNumbers.{home_lane}
-use Rattle.lane_turns.specs.Labels.{Labelled}
-use Rattle.lane_turns.specs.Logs.{AreLogs, LogsView, session_layout}
-use Rattle.lane_turns.specs.Names.{SessionNames}
-use Rattle.lane_turns.specs.SeatNumbers.{lane_count}
+use Rattle.lane_logs.specs.Labels.{Labelled}
+use Rattle.lane_logs.specs.Logs.{AreLogs, LogsView, session_layout}
+use Rattle.lane_logs.specs.Names.{SessionNames}
+use Rattle.lane_logs.specs.SeatNumbers.{lane_count}
 use Rattle.asio_types.specs.declared.number.Lane.{Lane}
 use Rattle.history_merge.specs.Among.{is_underway}
 use Rattle.history_merge.proofs.AlikeLemmas.{LooksAlike, never}

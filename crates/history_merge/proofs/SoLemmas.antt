@@ -9,17 +9,17 @@ use Rattle.history_rules.specs.Legal.{IsLegalSoFar}
 use Rattle.history_rules.specs.Order.{is_request, was_taken}
 use Rattle.history_rules.specs.State.{ContextState, State, call_at, first_state, phase_at}
 use Rattle.history_rules.specs.declared.phase.CallPhase.TheVariants as call
-use Rattle.book_context.specs.Accounted.{IsAccounted}
-use Rattle.book_context.specs.Kinds.{was_called}
-use Rattle.book_context.specs.Standing.{IsStanding}
+use Rattle.execution_laws.specs.Accounted.{IsAccounted}
+use Rattle.execution_laws.specs.Kinds.{was_called}
+use Rattle.execution_laws.specs.Standing.{IsStanding}
 use Rattle.reactor_turns.specs.Ahead.{IsHalfOf}
 use Rattle.lane_clock.specs.History.{ClockEvent, word_after}
 use Rattle.lane_clock.specs.ClockWord.{found_of}
 use Rattle.lane_map.specs.LaneNumbers.{act_passes, asks_reactor, home_lane}
-use Rattle.lane_turns.specs.Labels.{Labelled}
-use Rattle.lane_turns.specs.Logs.{LogsView}
-use Rattle.lane_turns.specs.Names.{SessionNames}
-use Rattle.lane_turns.specs.SeatNumbers.{lane_count}
+use Rattle.lane_logs.specs.Labels.{Labelled}
+use Rattle.lane_logs.specs.Logs.{LogsView}
+use Rattle.lane_logs.specs.Names.{SessionNames}
+use Rattle.lane_logs.specs.SeatNumbers.{lane_count}
 use Rattle.history_merge.proofs.AmongLemmas.{IsGoing}
 use Rattle.history_merge.proofs.CalledLemmas.{AreExpected}
 use Rattle.history_merge.proofs.DatesLemmas.{AreDated}

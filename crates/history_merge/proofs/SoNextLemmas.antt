@@ -12,10 +12,10 @@ use Rattle.lane_clock.specs.declared.found.Found.{Found}
 use Rattle.lane_clock.specs.History.{ClockEvent, steps_under}
 use Rattle.lane_clock.proofs.CountLemmas.{few_drawn}
 use Rattle.lane_clock.proofs.MomentLemmas.{Tail, tail_more}
-use Rattle.lane_turns.specs.Labels.{Labelled, allots, shows, silent}
-use Rattle.lane_turns.specs.Logs.{AreLogs, LogsView}
-use Rattle.lane_turns.specs.Names.{SessionNames}
-use Rattle.lane_turns.specs.ReactorTurns.{take_change}
+use Rattle.lane_logs.specs.Labels.{Labelled, allots, shows, silent}
+use Rattle.lane_logs.specs.Logs.{AreLogs, LogsView}
+use Rattle.lane_logs.specs.Names.{SessionNames}
+use Rattle.lane_logs.specs.ReactorTurns.{take_change}
 use Rattle.history_merge.proofs.CalledLemmas.{AreExpected}
 use Rattle.history_merge.proofs.ChangeLemmas.{HasChange, IsChangeOf, label_changes}
 use Rattle.history_merge.proofs.CountedLemmas.{counted_in, counted_is, counted_most}

@@ -20,12 +20,12 @@ use Rattle.history_rules.specs.declared.phase.ActState.{ActState}
 use Rattle.history_rules.specs.declared.phase.Cause.TheVariants as cause
 use Rattle.strand_core.specs.Execution.{AnyMark, IsWholeExecution}
 use Rattle.strand_core.specs.declared.posted.Posted.{Posted}
-use Rattle.book_context.specs.Executed.{IsLegalExecution}
-use Rattle.book_context.specs.Rest.{IsAtRest, waits_inside}
-use Rattle.book_context.proofs.ExecutedLemmas.{is_legal_execution}
-use Rattle.book_context.proofs.FreeLemmas.{free_may_start}
-use Rattle.book_context.proofs.RestLemmas.{at_each}
-use Rattle.book_context.specs.Ready.{is_ready}
+use Rattle.execution_laws.specs.Executed.{IsLegalExecution}
+use Rattle.execution_laws.specs.Rest.{IsAtRest, waits_inside}
+use Rattle.execution_laws.specs.Ready.{is_ready}
+use Rattle.execution_laws.proofs.ExecutedLemmas.{is_legal_execution}
+use Rattle.execution_laws.proofs.FreeLemmas.{free_may_start}
+use Rattle.execution_laws.proofs.RestLemmas.{at_each}
 use Rattle.history_merge.specs.Among.{LaneIsIdle, IsPlaceOn, is_underway}
 use Rattle.history_merge.specs.Solo.{solo_act, solo_context, solo_state}
 use Rattle.history_merge.proofs.AlikeLemmas.{LooksAlike, is_executed, is_not, never}

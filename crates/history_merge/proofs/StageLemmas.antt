@@ -5,11 +5,11 @@ use Rattle.std.proofs.lemmas.Bool.{cases_lt}
 use Rattle.asio_types.specs.declared.event.Event.{Event}
 use Rattle.session_script.specs.Script.{ScriptModel}
 use Rattle.lane_clock.specs.History.{ClockEvent, steps_under}
-use Rattle.lane_turns.specs.Labels.{Labelled, entries_in, events_in}
-use Rattle.lane_turns.specs.Logs.{LogsView}
-use Rattle.lane_turns.specs.Names.{SessionNames}
-use Rattle.lane_turns.specs.Parts.{Part, executed, failed, idle, labels_in, missing, turned}
-use Rattle.lane_turns.specs.SeatNumbers.{lane_count}
+use Rattle.lane_logs.specs.Labels.{Labelled, entries_in, events_in}
+use Rattle.lane_logs.specs.Logs.{LogsView}
+use Rattle.lane_logs.specs.Names.{SessionNames}
+use Rattle.lane_logs.specs.Parts.{Part, executed, failed, idle, labels_in, missing, turned}
+use Rattle.lane_logs.specs.SeatNumbers.{lane_count}
 use Rattle.history_merge.proofs.LabellingLemmas.{AreLabels}
 use Rattle.history_merge.proofs.PartLemmas.{all_made, made-append}
 

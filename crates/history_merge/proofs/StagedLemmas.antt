@@ -19,16 +19,16 @@ use Rattle.lane_clock.specs.declared.step.ClockStep.TheVariants.{Look}
 use Rattle.lane_clock.specs.History.{ClockEvent, IsSoundHistory, steps_under}
 use Rattle.lane_clock.proofs.MomentLemmas.{Tail, sound_tail, tail_more}
 use Rattle.lane_map.specs.LaneNumbers.{home_lane, lane_number, reactor_lane}
-use Rattle.lane_turns.specs.declared.log.LogEntry.{LogEntry}
-use Rattle.lane_turns.specs.Labels.{Labelled, entries_in, events_in, shows, silent}
-use Rattle.lane_turns.proofs.PenLemmas.{entries-append}
-use Rattle.lane_turns.specs.LaneLog.{MayFollow}
-use Rattle.lane_turns.specs.Logs.{AreLogs, LogsView, session_layout}
-use Rattle.lane_turns.specs.Names.{IsNamedMark, SessionNames}
-use Rattle.lane_turns.specs.OpenerLog.{MayFollowOpened, OpenerPart, opener_labels}
-use Rattle.lane_turns.specs.Parts.{ExecutedPart, Part, executed, labels_in}
-use Rattle.lane_turns.specs.SeatNumbers.{IsWorkerSeat, lane_count, opener_seat}
-use Rattle.lane_turns.specs.WorkerLog.{MayFollowStopped, WorkerPart}
+use Rattle.lane_logs.specs.declared.log.LogEntry.{LogEntry}
+use Rattle.lane_logs.specs.Labels.{Labelled, entries_in, events_in, shows, silent}
+use Rattle.lane_logs.specs.LaneLog.{MayFollow}
+use Rattle.lane_logs.specs.Logs.{AreLogs, LogsView, session_layout}
+use Rattle.lane_logs.specs.Names.{IsNamedMark, SessionNames}
+use Rattle.lane_logs.specs.OpenerLog.{MayFollowOpened, OpenerPart, opener_labels}
+use Rattle.lane_logs.specs.Parts.{ExecutedPart, Part, executed, labels_in}
+use Rattle.lane_logs.specs.SeatNumbers.{IsWorkerSeat, lane_count, opener_seat}
+use Rattle.lane_logs.specs.WorkerLog.{MayFollowStopped, WorkerPart}
+use Rattle.lane_logs.proofs.LabelLemmas.{entries-append}
 use Rattle.history_merge.proofs.AskLemmas.{IsNoDrop}
 use Rattle.history_merge.proofs.BodyLaneLemmas.{AreOwn, IsOwn, execution_is_own}
 use Rattle.history_merge.proofs.DrawnLemmas.{drawn_shown}

@@ -21,7 +21,7 @@ use Rattle.history_rules.specs.Legal.{MayHappen, after_event}
 use Rattle.history_rules.specs.Order.{was_taken}
 use Rattle.history_rules.specs.Rounds.{AllQuiet, is_quiet, is_running}
 use Rattle.history_rules.specs.State.{State, act_at, call_at, phase_at}
-use Rattle.book_context.specs.Rest.{waits_inside}
+use Rattle.execution_laws.specs.Rest.{waits_inside}
 use Rattle.history_merge.proofs.AlikeLemmas.{never}
 use Rattle.history_merge.proofs.EachLabelLemmas.{is_of_execution}
 use Rattle.history_merge.proofs.NextCallLemmas.{in_opening}

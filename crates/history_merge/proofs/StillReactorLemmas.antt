@@ -12,16 +12,16 @@ use Rattle.lane_clock.specs.History.{ClockEvent, steps_under}
 use Rattle.lane_clock.proofs.MomentLemmas.{Tail, tail_more}
 use Rattle.lane_map.specs.LaneNumbers.{reactor_lane}
 use Rattle.lane_map.proofs.NumberLemmas.{lane_count as lanes_counted}
-use Rattle.lane_turns.specs.Cuts.{NoneStops, is_stop_draw}
-use Rattle.lane_turns.specs.Knowing.{joined_count}
-use Rattle.lane_turns.specs.Labels.{Labelled, entries_in, shows, silent, step_of, steps_in}
-use Rattle.lane_turns.specs.LaneLog.{AreParts, MayFollow}
-use Rattle.lane_turns.specs.Half.{half_of}
-use Rattle.lane_turns.specs.Logs.{AreLogs, LogsView, session_layout}
-use Rattle.lane_turns.specs.Names.{SessionNames}
-use Rattle.lane_turns.specs.OpenerLog.{Looked, ReactorWorks, look_label, opener_steps}
-use Rattle.lane_turns.specs.Parts.{Part, TurnEnd, are_broken, end_labels, executed, failed, fails, fault_label, idle, is_broken, is_failing, labels_in, looks_empty, missing, start_labels, tells, turned}
-use Rattle.lane_turns.specs.SeatNumbers.{lane_count, opener_seat}
+use Rattle.lane_logs.specs.Cuts.{NoneStops, is_stop_draw}
+use Rattle.lane_logs.specs.Knowing.{joined_count}
+use Rattle.lane_logs.specs.Labels.{Labelled, entries_in, shows, silent, step_of, steps_in}
+use Rattle.lane_logs.specs.LaneLog.{AreParts, MayFollow}
+use Rattle.lane_logs.specs.Half.{half_of}
+use Rattle.lane_logs.specs.Logs.{AreLogs, LogsView, session_layout}
+use Rattle.lane_logs.specs.Names.{SessionNames}
+use Rattle.lane_logs.specs.OpenerLog.{Looked, ReactorWorks, look_label, opener_steps}
+use Rattle.lane_logs.specs.Parts.{Part, TurnEnd, are_broken, end_labels, executed, failed, fails, fault_label, idle, is_broken, is_failing, labels_in, looks_empty, missing, start_labels, tells, turned}
+use Rattle.lane_logs.specs.SeatNumbers.{lane_count, opener_seat}
 use Rattle.history_merge.proofs.AtEventLemmas.{IsBetween, lane_between, others_exact}
 use Rattle.history_merge.proofs.CutLemmas.{joined-append, under_take}
 use Rattle.history_merge.proofs.DrawRoundLemmas.{every_here}

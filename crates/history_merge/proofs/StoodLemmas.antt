@@ -20,15 +20,15 @@ use Rattle.lane_clock.specs.ClockWord.{found_of}
 use Rattle.lane_clock.specs.History.{ClockEvent, Fits, IsSoundHistory, steps_under, word_after}
 use Rattle.lane_clock.specs.Steps.{draw_count, step_count}
 use Rattle.lane_clock.proofs.MomentLemmas.{Tail, sound_tail, tail_more, tail_refl}
-use Rattle.lane_turns.specs.Labels.{Labelled, allots, shows, silent, step_of, steps_in}
-use Rattle.lane_turns.specs.Logs.{AreLogs, LogsView, session_layout}
-use Rattle.lane_turns.specs.Names.{SessionNames}
-use Rattle.lane_turns.specs.OpenerLog.{ClosedPart, IsClosedPart, IsRestartedPart, MayFollowOpened, OpenerPart, closed, opened, opener_labels, resting, restarted, stand_after}
-use Rattle.lane_turns.specs.SeatNumbers.{opener_seat}
-use Rattle.lane_turns.specs.Stand.{Stand, after_draw, draws_of_call, first_stand, is_round_open, round_at, stand_from, wants_restart}
-use Rattle.lane_turns.proofs.StandLemmas.{IsOpenStand, open_stand, stand_closed, stand_restarted}
-use Rattle.book_context.proofs.CountLemmas.{one_more-is}
-use Rattle.book_context.proofs.RecordRoomLemmas.{rounds-below}
+use Rattle.lane_logs.specs.Labels.{Labelled, allots, shows, silent, step_of, steps_in}
+use Rattle.lane_logs.specs.Logs.{AreLogs, LogsView, session_layout}
+use Rattle.lane_logs.specs.Names.{SessionNames}
+use Rattle.lane_logs.specs.OpenerLog.{ClosedPart, IsClosedPart, IsRestartedPart, MayFollowOpened, OpenerPart, closed, opened, opener_labels, resting, restarted, stand_after}
+use Rattle.lane_logs.specs.SeatNumbers.{opener_seat}
+use Rattle.lane_logs.specs.Stand.{Stand, after_draw, draws_of_call, first_stand, is_round_open, round_at, stand_from, wants_restart}
+use Rattle.lane_logs.proofs.StandLemmas.{IsOpenStand, open_stand, stand_closed, stand_restarted}
+use Rattle.execution_laws.proofs.CountLemmas.{one_more-is}
+use Rattle.execution_laws.proofs.RecordRoomLemmas.{rounds-below}
 use Rattle.history_merge.proofs.DrawRoundLemmas.{every_here, nothing_in}
 use Rattle.history_merge.proofs.EachLabelLemmas.{calls_each, is_of_execution}
 use Rattle.history_merge.proofs.FrameLemmas.{IsWithinRound, opening-after, part-after, round_part}

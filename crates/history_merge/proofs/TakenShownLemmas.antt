@@ -17,10 +17,10 @@ use Rattle.lane_clock.specs.History.{ClockEvent}
 use Rattle.lane_clock.specs.declared.found.Change.{Change}
 use Rattle.lane_clock.specs.declared.found.Found.{Found}
 use Rattle.lane_clock.proofs.MomentLemmas.{Tail, tail_more}
-use Rattle.lane_turns.specs.Labels.{Labelled, allots, shows, silent}
-use Rattle.lane_turns.specs.Logs.{AreLogs, LogsView}
-use Rattle.lane_turns.specs.Names.{SessionNames}
-use Rattle.book_context.proofs.RestLemmas.{is_within}
+use Rattle.lane_logs.specs.Labels.{Labelled, allots, shows, silent}
+use Rattle.lane_logs.specs.Logs.{AreLogs, LogsView}
+use Rattle.lane_logs.specs.Names.{SessionNames}
+use Rattle.execution_laws.proofs.RestLemmas.{is_within}
 use Rattle.reactor_turns.proofs.TakenLemmas.{done-taken, last-taken, take-taken, tick-taken}
 use Rattle.history_merge.proofs.AllowanceLemmas.{shown_may}
 use Rattle.history_merge.proofs.BetweenLemmas.{kept_from}

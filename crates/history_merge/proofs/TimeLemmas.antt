@@ -12,7 +12,7 @@ use Rattle.lane_clock.specs.declared.step.ClockStep.TheVariants.{Draw, Load, Pla
 use Rattle.lane_clock.specs.History.{ClockEvent, Fits, IsSoundHistory, places_after, places_with, steps_under}
 use Rattle.lane_clock.proofs.KnownLemmas.{event, under_same}
 use Rattle.lane_clock.proofs.MomentLemmas.{Tail, moment_of, sound_tail, tail_length, tail_more, tail_same, tails_order, under_length}
-use Rattle.lane_turns.specs.Labels.{Labelled, allots, shows, silent, step_of}
+use Rattle.lane_logs.specs.Labels.{Labelled, allots, shows, silent, step_of}
 use Rattle.history_merge.proofs.CountedLemmas.{counted_in, is_counted}
 use Rattle.history_merge.proofs.DatesLemmas.{IsShownAt, shown_among, shown_now}
 use Rattle.history_merge.proofs.HistoryLemmas.{AreLabelled, label_of, shown_by, shown_in}

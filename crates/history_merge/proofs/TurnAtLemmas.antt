@@ -20,14 +20,14 @@ use Rattle.lane_clock.specs.History.{ClockEvent, steps_under}
 use Rattle.lane_clock.proofs.KnownLemmas.{at_within, event as made_event}
 use Rattle.lane_clock.proofs.MomentLemmas.{Tail, tail_more, tail_refl, under_length}
 use Rattle.lane_map.specs.LaneNumbers.{home_lane}
-use Rattle.lane_turns.specs.Half.{half_from}
-use Rattle.lane_turns.specs.Labels.{Labelled, allots, entries_in, shows, silent}
-use Rattle.lane_turns.specs.LaneLog.{IsTurnPart, MayFollow, half_after}
-use Rattle.lane_turns.specs.Logs.{AreLogs, LogsView}
-use Rattle.lane_turns.specs.Names.{SessionNames}
-use Rattle.lane_turns.specs.Parts.{Part, TurnPart, TurnStart, labels_in, looks_empty, passes, start_labels, takes, turned}
-use Rattle.lane_turns.specs.ReactorTurns.{AreTold, MayStartTurn, point_event, start_event}
-use Rattle.lane_turns.specs.SeatNumbers.{lane_count, opener_seat}
+use Rattle.lane_logs.specs.Half.{half_from}
+use Rattle.lane_logs.specs.Labels.{Labelled, allots, entries_in, shows, silent}
+use Rattle.lane_logs.specs.LaneLog.{IsTurnPart, MayFollow, half_after}
+use Rattle.lane_logs.specs.Logs.{AreLogs, LogsView}
+use Rattle.lane_logs.specs.Names.{SessionNames}
+use Rattle.lane_logs.specs.Parts.{Part, TurnPart, TurnStart, labels_in, looks_empty, passes, start_labels, takes, turned}
+use Rattle.lane_logs.specs.ReactorTurns.{AreTold, MayStartTurn, point_event, start_event}
+use Rattle.lane_logs.specs.SeatNumbers.{lane_count, opener_seat}
 use Rattle.history_merge.proofs.BetweenLemmas.{IsOwnMoment, own_moment, take_whole}
 use Rattle.history_merge.proofs.EachLabelLemmas.{HoldsOf, empty_each, told_each}
 use Rattle.history_merge.proofs.FrameLemmas.{RoundPart, part-after, round_after, round_part}

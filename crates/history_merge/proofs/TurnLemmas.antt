@@ -29,16 +29,16 @@ use Rattle.lane_clock.specs.History.{ClockEvent, steps_under}
 use Rattle.lane_clock.proofs.MomentLemmas.{Tail, tail_more, tail_refl}
 use Rattle.lane_map.specs.LaneNumbers.{act_passes, asks_reactor, cells_of, home_lane, reactor_lane}
 use Rattle.lane_map.proofs.NumberLemmas.{lane_count as lanes_counted}
-use Rattle.lane_turns.specs.Half.{half_from}
-use Rattle.lane_turns.specs.Labels.{Labelled, allots, entries_in, shows, silent}
-use Rattle.lane_turns.specs.LaneLog.{FoundGoing, MayFollow, half_after, opener_after}
-use Rattle.lane_turns.specs.Logs.{AreLogs, LogsView}
-use Rattle.lane_turns.specs.Names.{SessionNames}
-use Rattle.lane_turns.specs.Parts.{FailedPart, Part, TurnPart, TurnStart, executed, failed, fault_label, idle, labels_in, looks_empty, missing, passes, start_labels, takes, turned}
-use Rattle.lane_turns.specs.ReactorTurns.{MayStartTurn, MayTakeNoted, point_event, start_event, take_change}
-use Rattle.lane_turns.specs.SeatNumbers.{lane_count, opener_seat}
-use Rattle.lane_turns.specs.Stand.{is_round_open, is_running_round, stand_of}
-use Rattle.lane_turns.proofs.PenLemmas.{entries-append}
+use Rattle.lane_logs.specs.Half.{half_from}
+use Rattle.lane_logs.specs.Labels.{Labelled, allots, entries_in, shows, silent}
+use Rattle.lane_logs.specs.LaneLog.{FoundGoing, MayFollow, half_after, opener_after}
+use Rattle.lane_logs.specs.Logs.{AreLogs, LogsView}
+use Rattle.lane_logs.specs.Names.{SessionNames}
+use Rattle.lane_logs.specs.Parts.{FailedPart, Part, TurnPart, TurnStart, executed, failed, fault_label, idle, labels_in, looks_empty, missing, passes, start_labels, takes, turned}
+use Rattle.lane_logs.specs.ReactorTurns.{MayStartTurn, MayTakeNoted, point_event, start_event, take_change}
+use Rattle.lane_logs.specs.SeatNumbers.{lane_count, opener_seat}
+use Rattle.lane_logs.specs.Stand.{is_round_open, is_running_round, stand_of}
+use Rattle.lane_logs.proofs.LabelLemmas.{entries-append}
 use Rattle.history_merge.proofs.AllowanceLemmas.{may_turn}
 use Rattle.history_merge.proofs.BetweenLemmas.{stand_since}
 use Rattle.history_merge.proofs.DrawRoundLemmas.{lane_at}

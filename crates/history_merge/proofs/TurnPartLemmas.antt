@@ -13,10 +13,10 @@ use Rattle.lane_clock.specs.declared.found.Found.{Found}
 use Rattle.lane_clock.specs.declared.note.Note.{Note}
 use Rattle.lane_clock.specs.declared.step.ClockStep.TheVariants.{Load, Look, Put}
 use Rattle.lane_map.specs.LaneNumbers.{cells_of, home_lane}
-use Rattle.lane_turns.specs.Half.{half_from}
-use Rattle.lane_turns.specs.Labels.{Labelled, allots, entries_in, shows, silent}
-use Rattle.lane_turns.specs.Parts.{TurnEnd, TurnStart, end_labels, fails, looks_empty, looks_full, passes, start_labels, takes, tells}
-use Rattle.lane_turns.specs.ReactorTurns.{AreTold, EndsTurn, done_labels, done_note, none_told, one_told, start_event}
+use Rattle.lane_logs.specs.Half.{half_from}
+use Rattle.lane_logs.specs.Labels.{Labelled, allots, entries_in, shows, silent}
+use Rattle.lane_logs.specs.Parts.{TurnEnd, TurnStart, end_labels, fails, looks_empty, looks_full, passes, start_labels, takes, tells}
+use Rattle.lane_logs.specs.ReactorTurns.{AreTold, EndsTurn, done_labels, done_note, none_told, one_told, start_event}
 
 -- what holds of each label behind those before it
 abbrev pub EachBehind : (List Labelled → Labelled → Type 0) → List Labelled → List Labelled → Type 0

@@ -12,9 +12,9 @@ use Rattle.lane_clock.specs.declared.found.Found.{Found}
 use Rattle.lane_clock.specs.declared.note.Note.{Note}
 use Rattle.lane_clock.specs.declared.step.ClockStep.TheVariants.{Look, Put}
 use Rattle.lane_map.specs.LaneNumbers.{cells_of, home_lane}
-use Rattle.lane_turns.specs.Labels.{Labelled, allots, shows, silent}
-use Rattle.lane_turns.specs.Parts.{TurnEnd, TurnStart, end_labels, fails, looks_empty, passes, start_labels, takes, tells}
-use Rattle.lane_turns.specs.ReactorTurns.{AreTold, EndsTurn, MayStartTurn, done_labels, done_note, none_told, one_told, point_event, take_change}
+use Rattle.lane_logs.specs.Labels.{Labelled, allots, shows, silent}
+use Rattle.lane_logs.specs.Parts.{TurnEnd, TurnStart, end_labels, fails, looks_empty, passes, start_labels, takes, tells}
+use Rattle.lane_logs.specs.ReactorTurns.{AreTold, EndsTurn, MayStartTurn, done_labels, done_note, none_told, one_told, point_event, take_change}
 use Rattle.history_merge.proofs.IdleLemmas.{IsSilent}
 use Rattle.history_merge.proofs.PartLemmas.{Every}
 use Rattle.history_merge.proofs.TurnPartLemmas.{EachBehind, each-append}

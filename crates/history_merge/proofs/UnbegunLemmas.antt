@@ -16,11 +16,11 @@ use Rattle.lane_clock.specs.declared.note.Note.{Note}
 use Rattle.lane_clock.specs.History.{ClockEvent, steps_under}
 use Rattle.lane_clock.proofs.MomentLemmas.{Tail, tail_more, tail_refl, tail_trans}
 use Rattle.lane_map.specs.LaneNumbers.{home_lane, reactor_lane}
-use Rattle.lane_turns.specs.Labels.{Labelled, allots, shows}
-use Rattle.lane_turns.specs.Logs.{AreLogs, LogsView}
-use Rattle.lane_turns.specs.Names.{SessionNames}
-use Rattle.lane_turns.specs.Parts.{Part, labels_in, next_place, places_used}
-use Rattle.lane_turns.specs.SeatNumbers.{lane_count}
+use Rattle.lane_logs.specs.Labels.{Labelled, allots, shows}
+use Rattle.lane_logs.specs.Logs.{AreLogs, LogsView}
+use Rattle.lane_logs.specs.Names.{SessionNames}
+use Rattle.lane_logs.specs.Parts.{Part, labels_in, next_place, places_used}
+use Rattle.lane_logs.specs.SeatNumbers.{lane_count}
 use Rattle.history_merge.proofs.AlikeLemmas.{never}
 use Rattle.history_merge.proofs.BackLemmas.{allots_for}
 use Rattle.history_merge.proofs.BeginPartLemmas.{BeginsPart, begins_part, next_beyond, two_cuts}

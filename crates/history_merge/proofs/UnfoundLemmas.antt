@@ -23,14 +23,14 @@ use Rattle.lane_clock.proofs.KnownLemmas.{at_within, event as step_event, under_
 use Rattle.lane_clock.proofs.MomentLemmas.{Moment, Tail, at_later, moment_of, sound_tail, tail_more, tail_refl, tail_trans}
 use Rattle.lane_map.specs.LaneNumbers.{has_cell, home_lane, reactor_lane}
 use Rattle.lane_map.proofs.NumberLemmas.{cell_count}
-use Rattle.lane_turns.specs.AtRest.{FoundNoneFrom, IsAtRest, LooksElse}
-use Rattle.lane_turns.specs.Knowing.{joined_count}
-use Rattle.lane_turns.specs.Labels.{Labelled, allots, shows}
-use Rattle.lane_turns.specs.Logs.{AreLogs, LogsView}
-use Rattle.lane_turns.specs.Names.{SessionNames}
-use Rattle.lane_turns.specs.OpenerLog.{IsRestingStep}
-use Rattle.lane_turns.specs.Receipts.{holds_op}
-use Rattle.lane_turns.specs.SeatNumbers.{lane_count, opener_seat}
+use Rattle.lane_logs.specs.AtRest.{FoundNoneFrom, IsAtRest, LooksElse}
+use Rattle.lane_logs.specs.Knowing.{joined_count}
+use Rattle.lane_logs.specs.Labels.{Labelled, allots, shows}
+use Rattle.lane_logs.specs.Logs.{AreLogs, LogsView}
+use Rattle.lane_logs.specs.Names.{SessionNames}
+use Rattle.lane_logs.specs.OpenerLog.{IsRestingStep}
+use Rattle.lane_logs.specs.Receipts.{holds_op}
+use Rattle.lane_logs.specs.SeatNumbers.{lane_count, opener_seat}
 use Rattle.history_merge.specs.Merging.{IsMerging}
 use Rattle.history_merge.specs.Receipts.{IsAbsent}
 use Rattle.history_merge.proofs.AbsenceLemmas.{absent, before_steps}

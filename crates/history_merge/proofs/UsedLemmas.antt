@@ -33,15 +33,15 @@ use Rattle.lane_clock.specs.History.{ClockEvent}
 use Rattle.lane_clock.proofs.KnownLemmas.{at_within}
 use Rattle.lane_clock.proofs.MomentLemmas.{Tail}
 use Rattle.lane_map.specs.LaneNumbers.{cells_of, home_lane, reactor_lane}
-use Rattle.lane_turns.specs.declared.log.LogEntry.{LogEntry}
-use Rattle.lane_turns.specs.Half.{half_from}
-use Rattle.lane_turns.specs.Labels.{Labelled, entries_in, events_in, silent}
-use Rattle.lane_turns.specs.LaneLog.{AreParts, MayFollow, entries_after, half_after, has_begun, is_begin_of, opener_after}
-use Rattle.lane_turns.specs.Names.{IsNamedMark, SessionNames}
-use Rattle.lane_turns.specs.Parts.{ExecutedPart, Part, TurnEnd, TurnPart, TurnStart, end_labels, executed, failed, fails, fault_label, idle, labels_in, labels_of, missing, next_place, passes, places_used, takes, tells, turned}
-use Rattle.lane_turns.specs.ReactorTurns.{AreTold, EndsTurn, MayStartTurn, done_labels, done_note, none_told, one_told, point_event, start_event}
-use Rattle.lane_turns.specs.Stand.{is_running_round}
-use Rattle.lane_turns.proofs.PenLemmas.{entries-append}
+use Rattle.lane_logs.specs.declared.log.LogEntry.{LogEntry}
+use Rattle.lane_logs.specs.Half.{half_from}
+use Rattle.lane_logs.specs.Labels.{Labelled, entries_in, events_in, silent}
+use Rattle.lane_logs.specs.LaneLog.{AreParts, MayFollow, entries_after, half_after, has_begun, is_begin_of, opener_after}
+use Rattle.lane_logs.specs.Names.{IsNamedMark, SessionNames}
+use Rattle.lane_logs.specs.Parts.{ExecutedPart, Part, TurnEnd, TurnPart, TurnStart, end_labels, executed, failed, fails, fault_label, idle, labels_in, labels_of, missing, next_place, passes, places_used, takes, tells, turned}
+use Rattle.lane_logs.specs.ReactorTurns.{AreTold, EndsTurn, MayStartTurn, done_labels, done_note, none_told, one_told, point_event, start_event}
+use Rattle.lane_logs.specs.Stand.{is_running_round}
+use Rattle.lane_logs.proofs.LabelLemmas.{entries-append}
 use Rattle.history_merge.proofs.AlikeLemmas.{is_not, never}
 use Rattle.history_merge.proofs.BodyLaneLemmas.{AreOwn, execution_is_own}
 use Rattle.history_merge.proofs.DrawnLemmas.{drawn_shown}

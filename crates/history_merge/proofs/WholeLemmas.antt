@@ -9,14 +9,14 @@ use Rattle.lane_clock.specs.declared.note.Note.{Note}
 use Rattle.lane_clock.specs.History.{ClockEvent, cell_after, steps_under}
 use Rattle.lane_clock.proofs.MomentLemmas.{tail_refl}
 use Rattle.lane_map.specs.LaneNumbers.{cells_of}
-use Rattle.lane_turns.specs.Labels.{Labelled, allots, steps_in}
-use Rattle.lane_turns.specs.LaneLog.{MayFollow}
-use Rattle.lane_turns.specs.Logs.{AreLogs, LogsView, session_layout}
-use Rattle.lane_turns.specs.Names.{SessionNames}
-use Rattle.lane_turns.specs.OpenerLog.{MayFollowOpened, OpenerPart, opener_labels}
-use Rattle.lane_turns.specs.Parts.{Part, labels_in}
-use Rattle.lane_turns.specs.SeatNumbers.{lane_count, opener_seat}
-use Rattle.lane_turns.specs.WorkerLog.{MayFollowStopped, WorkerPart}
+use Rattle.lane_logs.specs.Labels.{Labelled, allots, steps_in}
+use Rattle.lane_logs.specs.LaneLog.{MayFollow}
+use Rattle.lane_logs.specs.Logs.{AreLogs, LogsView, session_layout}
+use Rattle.lane_logs.specs.Names.{SessionNames}
+use Rattle.lane_logs.specs.OpenerLog.{MayFollowOpened, OpenerPart, opener_labels}
+use Rattle.lane_logs.specs.Parts.{Part, labels_in}
+use Rattle.lane_logs.specs.SeatNumbers.{lane_count, opener_seat}
+use Rattle.lane_logs.specs.WorkerLog.{MayFollowStopped, WorkerPart}
 use Rattle.history_merge.proofs.LabellingLemmas.{AreLabels}
 use Rattle.history_merge.proofs.PartLemmas.{Every, every_made, labels_worker}
 use Rattle.history_merge.proofs.PolledLemmas.{GetsNone, none_soon, worker_none}

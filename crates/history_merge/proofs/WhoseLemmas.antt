@@ -5,14 +5,14 @@ use lib.ListN.{get_elem?}
 use Rattle.asio_types.specs.declared.event.Event.{Event}
 use Rattle.history_rules.specs.FromOutside.{is_outside_stop}
 use Rattle.lane_map.specs.LaneNumbers.{reactor_lane}
-use Rattle.lane_turns.specs.Labels.{Labelled, allots, shows, silent}
-use Rattle.lane_turns.specs.LaneLog.{MayFollow}
-use Rattle.lane_turns.specs.Logs.{LogsView}
-use Rattle.lane_turns.specs.Names.{SessionNames}
-use Rattle.lane_turns.specs.OpenerLog.{opener_labels}
-use Rattle.lane_turns.specs.Parts.{Part, executed, failed, idle, labels_in, missing, turned}
-use Rattle.lane_turns.specs.SeatNumbers.{opener_seat}
-use Rattle.lane_turns.specs.WorkerLog.{MayFollowStopped, WorkerPart, stopped, waiting}
+use Rattle.lane_logs.specs.Labels.{Labelled, allots, shows, silent}
+use Rattle.lane_logs.specs.LaneLog.{MayFollow}
+use Rattle.lane_logs.specs.Logs.{LogsView}
+use Rattle.lane_logs.specs.Names.{SessionNames}
+use Rattle.lane_logs.specs.OpenerLog.{opener_labels}
+use Rattle.lane_logs.specs.Parts.{Part, executed, failed, idle, labels_in, missing, turned}
+use Rattle.lane_logs.specs.SeatNumbers.{opener_seat}
+use Rattle.lane_logs.specs.WorkerLog.{MayFollowStopped, WorkerPart, stopped, waiting}
 use Rattle.history_merge.proofs.EachLabelLemmas.{HoldsOf, calls_each, is_of_execution}
 use Rattle.history_merge.proofs.LabellingLemmas.{AreLabels, each_label}
 use Rattle.history_merge.proofs.PartLemmas.{Every, every_all, every_so, labels_worker}

@@ -20,8 +20,8 @@ use Rattle.lane_clock.specs.History.{ClockEvent, IsSoundHistory, word_after, wor
 use Rattle.lane_clock.specs.Steps.{draw_count}
 use Rattle.lane_clock.proofs.CountLemmas.{few_drawn}
 use Rattle.lane_clock.proofs.HistoryLemmas.{draws_change_parts}
-use Rattle.lane_turns.specs.Labels.{Labelled, allots, shows, silent, step_of}
-use Rattle.book_context.proofs.CountingLemmas.{counted, counted-never, counted-range}
+use Rattle.lane_logs.specs.Labels.{Labelled, allots, shows, silent, step_of}
+use Rattle.execution_laws.proofs.CountingLemmas.{counted, counted-never, counted-range}
 use Rattle.history_merge.proofs.AlikeLemmas.{never}
 use Rattle.history_merge.proofs.HistoryLemmas.{AreLabelled, IsLabelled, IsPlain, label_of, shown_by, shown_count, shown_in}
 use Rattle.history_merge.proofs.SoFarLemmas.{state_at, state_next, state_with}

@@ -27,10 +27,10 @@ use Rattle.history_rules.specs.declared.phase.Cause.TheVariants as cause
 use Rattle.history_rules.specs.declared.phase.Step.{Step}
 use Rattle.lane_clock.specs.declared.found.Change.{Change}
 use Rattle.lane_clock.specs.declared.found.Change.TheVariants as change
-use Rattle.lane_turns.specs.Half.{held_guards}
-use Rattle.lane_turns.specs.ReactorTurns.{lets_go, take_change}
-use Rattle.book_context.proofs.CountingLemmas.{counted, counted-range, counted-same}
-use Rattle.book_context.proofs.ScriptLemmas.{accepted-inline, inline_no_stop}
+use Rattle.lane_logs.specs.Half.{held_guards}
+use Rattle.lane_logs.specs.ReactorTurns.{lets_go, take_change}
+use Rattle.execution_laws.proofs.CountingLemmas.{counted, counted-range, counted-same}
+use Rattle.execution_laws.proofs.ScriptLemmas.{accepted-inline, inline_no_stop}
 use Rattle.reactor_turns.proofs.SummingLemmas.{one_if}
 use Rattle.reactor_turns.proofs.TakenLemmas.{done-taken}
 use Rattle.history_merge.proofs.EachActLemmas.{Each}

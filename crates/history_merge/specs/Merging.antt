@@ -12,11 +12,11 @@ use Rattle.history_rules.specs.Time.{IsIdle}
 use Rattle.lane_clock.specs.declared.step.ClockStep.TheVariants.{Place}
 use Rattle.lane_clock.specs.Rule.{StepAt}
 use Rattle.lane_map.specs.LaneNumbers.{cells_of, reactor_lane}
-use Rattle.lane_turns.specs.declared.log.LogEntry.{LogEntry}
-use Rattle.lane_turns.specs.Half.{half_of}
-use Rattle.lane_turns.specs.Logs.{AreLogs, LogsView, entries_of, missed_by}
-use Rattle.lane_turns.specs.Names.{SessionNames}
-use Rattle.lane_turns.specs.SeatNumbers.{IsWorkerSeat, lane_count}
+use Rattle.lane_logs.specs.declared.log.LogEntry.{LogEntry}
+use Rattle.lane_logs.specs.Half.{half_of}
+use Rattle.lane_logs.specs.Logs.{AreLogs, LogsView, entries_of, missed_by}
+use Rattle.lane_logs.specs.Names.{SessionNames}
+use Rattle.lane_logs.specs.SeatNumbers.{IsWorkerSeat, lane_count}
 use Rattle.history_merge.specs.Ordering.{IsInOrder}
 
 -- the entries of logs in the order of their positions, which are the numbers below a count, and behind

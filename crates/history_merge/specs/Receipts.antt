@@ -18,14 +18,14 @@ use Rattle.lane_clock.specs.declared.step.ClockStep.{ClockStep}
 use Rattle.lane_clock.specs.declared.step.ClockStep.TheVariants.{Draw, Look, Join}
 use Rattle.lane_clock.specs.Rule.{StepAt}
 use Rattle.lane_map.specs.LaneNumbers.{cells_of, has_cell, home_lane}
-use Rattle.lane_turns.specs.declared.receipt.Receipt.{Receipt}
-use Rattle.lane_turns.specs.AtRest.{FoundNoneFrom, IsAtRest}
-use Rattle.lane_turns.specs.Drops.{has_call}
-use Rattle.lane_turns.specs.Logs.{AreLogs, LogsView}
-use Rattle.lane_turns.specs.Names.{SessionNames}
-use Rattle.lane_turns.specs.Receipts.{IsReceiptOf, holds_op}
-use Rattle.lane_turns.specs.SeatNumbers.{opener_seat}
-use Rattle.lane_turns.specs.Stand.{Stand, is_round_open, stand_of}
+use Rattle.lane_logs.specs.declared.receipt.Receipt.{Receipt}
+use Rattle.lane_logs.specs.AtRest.{FoundNoneFrom, IsAtRest}
+use Rattle.lane_logs.specs.Drops.{has_call}
+use Rattle.lane_logs.specs.Logs.{AreLogs, LogsView}
+use Rattle.lane_logs.specs.Names.{SessionNames}
+use Rattle.lane_logs.specs.Receipts.{IsReceiptOf, holds_op}
+use Rattle.lane_logs.specs.SeatNumbers.{opener_seat}
+use Rattle.lane_logs.specs.Stand.{Stand, is_round_open, stand_of}
 use Rattle.history_merge.specs.Merging.{IsMerging}
 
 -- the completion of which a receipt tells

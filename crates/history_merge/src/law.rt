@@ -1,6 +1,6 @@
 //! What holds of the logs of a session and of what is made of them. These functions run nothing.
-ghost use Rattle.lane_turns.specs.Logs.{AreLogs, LogsView};
-ghost use Rattle.lane_turns.specs.Names.{SessionNames};
+ghost use Rattle.lane_logs.specs.Logs.{AreLogs, LogsView};
+ghost use Rattle.lane_logs.specs.Names.{SessionNames};
 ghost use Rattle.history_merge.specs.Among.{ExecutionsStayLegal};
 ghost use Rattle.history_merge.specs.Merging.{MergedIsLegal};
 ghost use Rattle.history_merge.specs.Ordering.{ArePositioned};

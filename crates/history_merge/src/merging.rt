@@ -1,6 +1,6 @@
 ghost use Rattle.std.specs.Prelude.{◌≡◌, ◌+◌, ◌≤◌, ◌++◌, length, map};
-ghost use Rattle.lane_turns.specs.Finishing.{logs_in};
-ghost use Rattle.lane_turns.specs.Logs.{AreLogs};
+ghost use Rattle.lane_logs.specs.KeptLogs.{logs_in};
+ghost use Rattle.lane_logs.specs.Logs.{AreLogs};
 ghost use Rattle.history_merge.specs.Merging.{IsLegalMerging, IsMerging, IsPutTogether};
 ghost use Rattle.history_merge.specs.Ordering.{ArePositioned};
 ghost use Rattle.history_merge.specs.Room.{most_merged};
@@ -10,7 +10,7 @@ use crate::ordering::in_order;
 use crate::room::HistoryRoom;
 use asio_types::Event;
 use history_book::History;
-use lane_turns::{LaneSession, LogEntry, Logs};
+use lane_logs::{LaneSession, LogEntry, Logs};
 use session_script::{Script, scripts_are_well_formed};
 
 /// Appends events to a history in the room that it has.

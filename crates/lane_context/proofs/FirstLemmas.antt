@@ -18,17 +18,17 @@ use Rattle.lane_clock.specs.Knowledge.{owns_only, steps_at, unknown}
 use Rattle.lane_clock.specs.Seats.{ClockId, Owns, SeatView, own}
 use Rattle.lane_clock.specs.Steps.{draw_count, most_draws, place_count, step_count}
 use Rattle.lane_map.specs.LaneNumbers.{is_op_on, reactor_lane}
+use Rattle.lane_logs.specs.Knowing.{joined_count}
+use Rattle.lane_logs.specs.Names.{SessionNames}
+use Rattle.lane_logs.specs.SeatNumbers.{IsWorkerSeat, opener_seat}
+use Rattle.lane_logs.specs.SeatNumbers as numbers
+use Rattle.lane_logs.specs.Stand.{first_stand}
 use Rattle.lane_turns.specs.Batons.{HaveHands, IsHandlerBaton, IsLane, opener_known, room_held}
 use Rattle.lane_turns.specs.Firsts.{IsStarted, first_lane, first_opener, first_worker}
-use Rattle.lane_turns.specs.Knowing.{joined_count}
-use Rattle.lane_turns.specs.Names.{SessionNames}
 use Rattle.lane_turns.specs.Openers.{IsOpener}
 use Rattle.lane_turns.specs.Pens.{MayGo, PenView}
 use Rattle.lane_turns.specs.Rooms.{IsNewPen, lane_room, opener_room, worker_room}
-use Rattle.lane_turns.specs.SeatNumbers.{IsWorkerSeat, opener_seat}
-use Rattle.lane_turns.specs.SeatNumbers as numbers
 use Rattle.lane_context.specs.Setup.{HasTaken, HoldsNamed}
-use Rattle.lane_turns.specs.Stand.{first_stand}
 use Rattle.lane_turns.specs.Turning.{IsReactorBaton}
 use Rattle.lane_turns.specs.Workers.{IsWorker}
 

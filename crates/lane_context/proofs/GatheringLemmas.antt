@@ -8,12 +8,12 @@ use Rattle.turn_table.specs.Numbers.{Has, greatest, has, run_from, without_numbe
 use Rattle.turn_table.specs.Seated.{HasTurn, IsSeatOf, Lanes, Seated, StandsForAll, StandsForTwo, greatest_alone, with_turn, without_greatest, without_turn}
 use Rattle.turn_table.proofs.NumberLemmas.{has-cons_other, has_head, has_run, run-greatest, run-without_greatest, without_cons}
 use Rattle.lane_clock.specs.Seats.{SeatView}
+use Rattle.lane_logs.specs.SeatNumbers.{lane_count}
 use Rattle.lane_turns.specs.Attempts.{IsSeated, WorkerState}
 use Rattle.lane_turns.specs.Benches.{IsRow}
 use Rattle.lane_turns.specs.Gathering.{HasSatDown, HaveSatDown, IsSeatedAs, StandsForFirst, gathered, turns_below, with_turns_below, without_turns}
 use Rattle.lane_turns.specs.LaneOf.{seat_of}
 use Rattle.lane_turns.specs.LaneValues.{IsBaton, LaneValue, Terms, handlers, home_of, reactor}
-use Rattle.lane_turns.specs.SeatNumbers.{lane_count}
 use Rattle.lane_turns.proofs.AttendingLemmas.{get_set_other, get_set_same}
 
 module _ {H X : Type 0} (t : Terms H X) where

@@ -19,20 +19,20 @@ use Rattle.lane_clock.specs.Seats.{ClockId, Remembers, SeatView, own}
 use Rattle.lane_clock.specs.Steps.{draw_count, step_count}
 use Rattle.lane_clock.proofs.KeepLemmas.{start_same, start_trans}
 use Rattle.lane_map.specs.LaneNumbers.{cells_of, home_lane}
-use Rattle.lane_turns.specs.declared.receipt.Receipt.{Receipt}
-use Rattle.lane_turns.specs.AtRest.{FoundNoneFrom, HasHeardPens, HasOnlyLooked, IsAtRest, IsLook, LooksElse, RestView, RestsFrom, rest_lists}
+use Rattle.lane_logs.specs.declared.receipt.Receipt.{Receipt}
+use Rattle.lane_logs.specs.AtRest.{FoundNoneFrom, IsAtRest, LooksElse, RestsFrom}
+use Rattle.lane_logs.specs.Knowing.{joined_count, lists_of}
+use Rattle.lane_logs.specs.Labels.{Labelled, steps_in}
+use Rattle.lane_logs.specs.OpenerLog.{IsRestingStep}
+use Rattle.lane_logs.specs.SeatNumbers.{opener_seat}
+use Rattle.lane_turns.specs.AtRest.{HasHeardPens, HasOnlyLooked, IsLook, RestView, rest_lists}
 use Rattle.lane_turns.specs.Attending.{AreHeard, HasGoneOn, IsHeard}
 use Rattle.lane_turns.specs.Batons.{BatonView, LaneView}
 use Rattle.lane_turns.specs.Finishing.{IsOver, lanes_in, pens_of}
-use Rattle.lane_turns.specs.Knowing.{joined_count}
 use Rattle.lane_turns.specs.KnownFaults.{KnowsFault}
-use Rattle.lane_turns.specs.Labels.{Labelled, steps_in}
-use Rattle.lane_turns.specs.Meeting.{lists_of}
-use Rattle.lane_turns.specs.OpenerLog.{IsRestingStep}
 use Rattle.lane_turns.specs.Openers.{HasTakenIn, IsOpener, OpenerView}
 use Rattle.lane_turns.specs.Pens.{HasGone, PenView}
 use Rattle.lane_turns.specs.Receipts.{FindsIn, looks_from}
-use Rattle.lane_turns.specs.SeatNumbers.{opener_seat}
 use Rattle.lane_turns.specs.Workers.{WorkerView}
 use Rattle.lane_turns.proofs.AttendingLemmas.{heard_now, heard_on, on_and_on, on_heard}
 use Rattle.lane_turns.proofs.CutLemmas.{at_start}

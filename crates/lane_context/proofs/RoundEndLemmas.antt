@@ -10,6 +10,9 @@ use Rattle.lane_clock.specs.Knowledge.{StartOf}
 use Rattle.lane_clock.specs.Seats.{Remembers, SeatView, own}
 use Rattle.lane_clock.specs.Steps.{draw_count, step_count}
 use Rattle.lane_clock.proofs.KeepLemmas.{start_same}
+use Rattle.lane_logs.specs.Labels.{Labelled, entries_in, steps_in}
+use Rattle.lane_logs.specs.Knowing.{lists_of}
+use Rattle.lane_logs.specs.OpenerLog.{look_label}
 use Rattle.lane_turns.specs.declared.closing.Closing.{Closing}
 use Rattle.lane_turns.specs.declared.closing.Closing.TheVariants as closing
 use Rattle.lane_turns.specs.declared.closing_try.ClosingTry.{ClosingTry}
@@ -26,11 +29,8 @@ use Rattle.lane_turns.specs.Besides.{besides_of, rests_of}
 use Rattle.lane_turns.specs.ClosingTries.{HasClosedRound, TriedToClose}
 use Rattle.lane_turns.specs.Gathering.{NoneKeeps, unseated}
 use Rattle.lane_turns.specs.KeptSteps.{AllRemember}
-use Rattle.lane_turns.specs.Labels.{Labelled, entries_in, steps_in}
 use Rattle.lane_turns.specs.LaneValues.{Tries}
-use Rattle.lane_turns.specs.Meeting.{lists_of}
 use Rattle.lane_turns.specs.OpenerEvents.{HasWaited, weighing_labels}
-use Rattle.lane_turns.specs.OpenerLog.{look_label}
 use Rattle.lane_turns.specs.Openers.{OpenerView}
 use Rattle.lane_turns.specs.OwnRuns.{HasRunInVain, LastHasRun}
 use Rattle.lane_turns.specs.Pens.{HasGone, PenView}

@@ -12,6 +12,7 @@ use Rattle.strand_core.specs.Hands.{Held}
 use Rattle.lane_clock.specs.Seats.{ClockId, SeatView}
 use Rattle.lane_map.specs.LaneNumbers.{reactor_lane}
 use Rattle.lane_map.proofs.NumberLemmas.{lane_count as lanes_listed}
+use Rattle.lane_logs.specs.SeatNumbers.{lane_count, worker_count}
 use Rattle.lane_turns.specs.AllWorkers.{AreReady, HasAllTurns, clock_seat, last_of}
 use Rattle.lane_turns.specs.Attempts.{WorkerState}
 use Rattle.lane_turns.specs.Batons.{BatonView}
@@ -22,7 +23,6 @@ use Rattle.lane_turns.specs.LaneOf.{seat_of}
 use Rattle.lane_turns.specs.LaneValues.{LaneValue, handlers, reactor}
 use Rattle.lane_turns.specs.Openers.{OpenerView}
 use Rattle.lane_turns.specs.Rooms.{EachAt, lane_room, worker_room}
-use Rattle.lane_turns.specs.SeatNumbers.{lane_count, worker_count}
 use Rattle.lane_context.specs.SessionRooms.{AreFresh, standing_by}
 use Rattle.lane_turns.specs.Turning.{ReactorView}
 use Rattle.lane_turns.specs.Workers.{WorkerView}

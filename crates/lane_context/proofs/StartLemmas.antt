@@ -8,11 +8,11 @@ use Rattle.strand_core.specs.Hands.{Held}
 use Rattle.lane_clock.specs.Seats.{ClockId, SeatView, SeatsLeft, all_left, new_clock_seat, one_given}
 use Rattle.lane_map.specs.LaneNumbers.{reactor_lane}
 use Rattle.lane_map.proofs.NumberLemmas.{lane_count as lanes_listed}
+use Rattle.lane_logs.specs.SeatNumbers.{IsWorkerSeat, lane_count, opener_seat, worker_count}
 use Rattle.lane_turns.specs.Batons.{BatonView, LaneView}
 use Rattle.lane_turns.specs.Firsts.{IsFirstBaton, IsFirstWorker, first_lane, first_worker}
 use Rattle.lane_turns.specs.Pens.{PenView}
 use Rattle.lane_turns.specs.Rooms.{AreNewPens, EachAt, IsNewPen, lane_room, lane_rooms, seats_on, worker_room}
-use Rattle.lane_turns.specs.SeatNumbers.{IsWorkerSeat, lane_count, opener_seat, worker_count}
 use Rattle.lane_turns.specs.Workers.{WorkerView}
 use Rattle.lane_context.proofs.FirstLemmas.{new_number}
 use Rattle.lane_turns.proofs.NewPenLemmas.{reached, same_pen}

@@ -6,11 +6,11 @@ use Rattle.reactor_turns.specs.Ahead.{most_turn_events}
 use Rattle.strand_core.specs.Hands.{Held}
 use Rattle.lane_clock.specs.Seats.{ClockId}
 use Rattle.lane_map.specs.LaneNumbers.{reactor_lane}
+use Rattle.lane_logs.specs.SeatNumbers.{lane_count, opener_seat, worker_count}
 use Rattle.lane_turns.specs.Batons.{BatonView}
 use Rattle.lane_turns.specs.Firsts.{IsFirstBaton, IsFirstWorker, first_lane, first_opener}
 use Rattle.lane_turns.specs.Openers.{OpenerView}
 use Rattle.lane_turns.specs.Rooms.{EachAt, IsNewPen, opener_room}
-use Rattle.lane_turns.specs.SeatNumbers.{lane_count, opener_seat, worker_count}
 use Rattle.lane_context.specs.Setup.{HasTaken}
 use Rattle.lane_turns.specs.Turning.{ReactorView}
 use Rattle.lane_turns.specs.Workers.{WorkerView}

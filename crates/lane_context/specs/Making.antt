@@ -3,8 +3,8 @@ use Rattle.std.specs.Prelude.{◌≡◌, ◌≤◌, ℕ, List, [], replicate, ve
 use Rattle.session_script.specs.Script.{ScriptModel}
 use Rattle.reactor_turns.specs.Ahead.{most_turn_events}
 use Rattle.lane_context.specs.declared.making.LogRoom.{LogRoom}
+use Rattle.lane_logs.specs.SeatNumbers.{worker_count}
 use Rattle.lane_turns.specs.Rooms.{AreNewLogs, lane_rooms, opener_room, worker_room}
-use Rattle.lane_turns.specs.SeatNumbers.{worker_count}
 use Rattle.lane_map.specs.LaneNumbers.{reactor_lane}
 
 -- the rooms of the workers' logs

@@ -12,7 +12,7 @@ use Rattle.reactor_trait.specs.Reactor.{Outside, ReactorState}
 use Rattle.proactor_core.specs.Proactor.{CountsRefusal, tells}
 use Rattle.strand_core.specs.Hands.{Held, held_at, left_at, taken_at}
 use Rattle.lane_map.specs.LaneNumbers.{is_op_on}
-use Rattle.lane_turns.specs.Names.{SessionNames}
+use Rattle.lane_logs.specs.Names.{SessionNames}
 
 -- the rack holds a handler for each operation of the script, with the marks that are named
 abbrev pub HoldsNamed : {H : Type 0} → SessionNames → (H → Marks) → Rack H → Type 0

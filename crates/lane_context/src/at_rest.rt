@@ -2,25 +2,25 @@
 ghost use Rattle.std.specs.Prelude.{◌≡◌, ◌+◌, [], ℕ, IfNone, IfSome, length, slice_get, slice_index_or, true};
 ghost use Rattle.lane_clock.specs.Seats.{Remembers, copy_seat};
 ghost use Rattle.lane_map.specs.LaneNumbers.{has_cell, reactor_lane};
-ghost use Rattle.lane_turns.specs.AtRest.{FoundNoneFrom, HasOnlyLooked, IsAtRest, rest_lists};
+ghost use Rattle.lane_logs.specs.AtRest.{FoundNoneFrom, IsAtRest};
+ghost use Rattle.lane_logs.specs.Cuts.{EventsAreCuts};
+ghost use Rattle.lane_logs.specs.KeptLogs.{logs_in};
+ghost use Rattle.lane_logs.specs.Logs.{AreLogs, session_layout};
+ghost use Rattle.lane_logs.specs.Knowing.{lists_of};
+ghost use Rattle.lane_logs.specs.Receipts.{IsReceiptOf};
+ghost use Rattle.lane_logs.specs.SeatNumbers.{lane_count, opener_seat, worker_count};
+ghost use Rattle.lane_turns.specs.AtRest.{HasOnlyLooked, rest_lists};
 ghost use Rattle.lane_turns.specs.Attending.{AreHeard, HasGoneOn};
-ghost use Rattle.lane_turns.specs.Cuts.{EventsAreCuts};
 ghost use Rattle.lane_turns.specs.EndingRooms.{HasLeavingRoom};
-ghost use Rattle.lane_turns.specs.Finishing.{IsGivenBack, IsOver, KeepLogsOf, logs_in};
+ghost use Rattle.lane_turns.specs.Finishing.{IsGivenBack, IsOver, KeepLogsOf};
 ghost use Rattle.lane_turns.specs.KeptSteps.{KeepStepsOf};
-ghost use Rattle.lane_turns.specs.Logs.{AreLogs, session_layout};
-ghost use Rattle.lane_turns.specs.Meeting.{lists_of};
-ghost use Rattle.lane_turns.specs.Receipts.{IsReceiptOf};
-ghost use Rattle.lane_turns.specs.SeatNumbers.{lane_count, opener_seat, worker_count};
 ghost use Rattle.lane_turns.specs.Turning.{log_half};
 
 use asio_types::OpNo;
 use lane_clock::{LaneClock, LaneCopy};
+use lane_logs::{LaneSession, Logs, Receipt};
 use lane_map::{LaneMap, lanes_have_cells};
-use lane_turns::{
-    Attendee, Ending, LaneSession, LeavingRoom, Logs, Opener, Receipt, finish, hear_all,
-    operations_have_lanes,
-};
+use lane_turns::{Attendee, Ending, LeavingRoom, Opener, finish, hear_all, operations_have_lanes};
 use op_handlers::CompletionHandler;
 use reactor_trait::Reactor;
 use session_script::Script;
@@ -42,13 +42,14 @@ impl<'a, X: Reactor, H: CompletionHandler, N: LaneSession> Model for AtRest<'a, 
     ghost use Rattle.std.specs.Prelude.{◌≡◌, ◌+◌, ◌≤◌, ℕ, IfSome, length, slice_get};
     ghost use Rattle.lane_clock.specs.Seats.{own};
     ghost use Rattle.lane_map.specs.LaneNumbers.{reactor_lane};
-    ghost use Rattle.lane_turns.specs.AtRest.{HasHeardPens, IsAtRest, RestView};
-    ghost use Rattle.lane_turns.specs.Cuts.{EventsAreCuts};
+    ghost use Rattle.lane_logs.specs.AtRest.{IsAtRest};
+    ghost use Rattle.lane_turns.specs.AtRest.{HasHeardPens, RestView};
+    ghost use Rattle.lane_logs.specs.Cuts.{EventsAreCuts};
     ghost use Rattle.lane_turns.specs.EndingRooms.{HasLeavingRoom};
     ghost use Rattle.lane_turns.specs.Finishing.{IsOver, lanes_in, pens_of};
-    ghost use Rattle.lane_turns.specs.Logs.{session_layout};
-    ghost use Rattle.lane_turns.specs.Meeting.{lists_of};
-    ghost use Rattle.lane_turns.specs.SeatNumbers.{lane_count, opener_seat, worker_count};
+    ghost use Rattle.lane_logs.specs.Logs.{session_layout};
+    ghost use Rattle.lane_logs.specs.Knowing.{lists_of};
+    ghost use Rattle.lane_logs.specs.SeatNumbers.{lane_count, opener_seat, worker_count};
 
     ghost Value = { RestView };
 

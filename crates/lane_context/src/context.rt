@@ -8,8 +8,9 @@ ghost use Rattle.lane_turns.specs.Scanning.{GoesOn, HasLookedRound, HasScanned};
 
 use crate::worker::Worker;
 use lane_clock::LaneClock;
+use lane_logs::LaneSession;
 use lane_map::{LaneMap, lanes_have_cells};
-use lane_turns::{Baton, BatonCame, LaneSession, Lookout, One, RunEnd, WorkerSeat};
+use lane_turns::{Baton, BatonCame, Lookout, One, RunEnd, WorkerSeat};
 use op_handlers::CompletionHandler;
 use reactor_trait::Reactor;
 use session_script::Script;
@@ -31,8 +32,8 @@ impl<'a, X: Reactor, H: CompletionHandler, N: LaneSession> Model for Context<'a,
     ghost use Rattle.turn_table.specs.Seated.{Lanes};
     ghost use Rattle.std.specs.Prelude.{◌≡◌};
     ghost use Rattle.lane_map.specs.LaneNumbers.{cells_of};
-    ghost use Rattle.lane_turns.specs.Logs.{session_layout};
-    ghost use Rattle.lane_turns.specs.SeatNumbers.{lane_count};
+    ghost use Rattle.lane_logs.specs.Logs.{session_layout};
+    ghost use Rattle.lane_logs.specs.SeatNumbers.{lane_count};
 
     ghost Value = { Lanes };
 

@@ -2,12 +2,12 @@
 ghost use Rattle.std.specs.Prelude.{◌≡◌, [], IfErr, IfOk, OnErr, OnOk, length};
 ghost use Rattle.op_handlers.specs.Rack.{handlers_in};
 ghost use Rattle.proactor_core.specs.Proactor.{tells};
+ghost use Rattle.lane_logs.specs.Logs.{session_layout};
+ghost use Rattle.lane_logs.specs.SeatNumbers.{worker_count};
+ghost use Rattle.lane_logs.specs.Stand.{first_stand};
 ghost use Rattle.lane_turns.specs.AllWorkers.{AreReady};
-ghost use Rattle.lane_turns.specs.Logs.{session_layout};
-ghost use Rattle.lane_turns.specs.SeatNumbers.{worker_count};
 ghost use Rattle.lane_context.specs.SessionRooms.{AreFresh};
 ghost use Rattle.lane_context.specs.Setup.{HoldsNamed, IsRefused, TakesHandlers};
-ghost use Rattle.lane_turns.specs.Stand.{first_stand};
 
 use crate::beginning::make_session;
 use crate::context::Context;
@@ -15,8 +15,8 @@ use crate::parts::Parts;
 use crate::session_room::SessionRoom;
 use crate::workers::Workers;
 use asio_types::SetupFault;
+use lane_logs::LaneSession;
 use lane_map::LaneMap;
-use lane_turns::LaneSession;
 use op_handlers::{CompletionHandler, Rack};
 use reactor_trait::Reactor;
 use session_script::Script;

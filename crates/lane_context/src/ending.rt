@@ -2,23 +2,23 @@
 ghost use Rattle.std.specs.Prelude.{◌≡◌, ◌<◌, ◌≤◌, [], ℕ, IfSome, None, length, map, slice_get, slice_index_or, vec_capacity};
 ghost use Rattle.lane_clock.specs.Seats.{Remembers};
 ghost use Rattle.lane_map.specs.LaneNumbers.{reactor_lane};
+ghost use Rattle.lane_logs.specs.KeptLogs.{logs_in};
+ghost use Rattle.lane_logs.specs.Logs.{AreLogs};
+ghost use Rattle.lane_logs.specs.SeatNumbers.{opener_seat};
 ghost use Rattle.lane_turns.specs.AllWorkers.{AreCuts, AreReady, clock_seat, log_of};
 ghost use Rattle.lane_turns.specs.AtRest.{rest_lists};
 ghost use Rattle.lane_turns.specs.Benches.{AreWorkers};
-ghost use Rattle.lane_turns.specs.Finishing.{IsGivenBack, IsOver, KeepLogsOf, logs_in};
+ghost use Rattle.lane_turns.specs.Finishing.{IsGivenBack, IsOver, KeepLogsOf};
 ghost use Rattle.lane_turns.specs.Gathering.{AreSeated, StandsForFirst, unseated};
 ghost use Rattle.lane_turns.specs.KeptSteps.{KeepStepsOf};
-ghost use Rattle.lane_turns.specs.Logs.{AreLogs};
-ghost use Rattle.lane_turns.specs.SeatNumbers.{opener_seat};
 ghost use Rattle.lane_turns.specs.Turning.{log_half};
 
 use crate::at_rest::{AtRest, bring_to_rest};
 use crate::context::Context;
 use crate::worker::Worker;
 use crate::workers::Workers;
-use lane_turns::{
-    Ending, EndingRoom, LaneBatons, LaneSession, Logs, Opener, WorkerSeat, part_values,
-};
+use lane_logs::{LaneSession, Logs};
+use lane_turns::{Ending, EndingRoom, LaneBatons, Opener, WorkerSeat, part_values};
 use op_handlers::CompletionHandler;
 use reactor_trait::Reactor;
 use turn_table::TurnSeat;

@@ -1,15 +1,16 @@
 //! All lanes on which handlers execute, and all workers, before the first event of a session.
 ghost use Rattle.std.specs.Prelude.{◌≡◌, ◌+◌, ◌<◌, ◌≤◌, [], length, replicate, vec_capacity};
 ghost use Rattle.lane_map.specs.LaneNumbers.{reactor_lane};
+ghost use Rattle.lane_logs.specs.SeatNumbers.{lane_count, worker_count};
+ghost use Rattle.lane_logs.specs.Stand.{first_stand};
 ghost use Rattle.lane_turns.specs.Batons.{HaveHands};
 ghost use Rattle.lane_turns.specs.Firsts.{IsFirstBaton, IsFirstWorker};
 ghost use Rattle.lane_turns.specs.Openers.{round_of};
 ghost use Rattle.lane_turns.specs.Rooms.{AreNewPens, EachAt, lane_rooms, worker_room};
-ghost use Rattle.lane_turns.specs.SeatNumbers.{lane_count, worker_count};
-ghost use Rattle.lane_turns.specs.Stand.{first_stand};
 
 use crate::first_seats::{first_baton, first_state, first_worker};
-use lane_turns::{HandlerBaton, LaneSession, Pen, RoundNow, WorkerSeat};
+use lane_logs::LaneSession;
+use lane_turns::{HandlerBaton, Pen, RoundNow, WorkerSeat};
 use op_handlers::CompletionHandler;
 use session_script::{Script, scripts_are_well_formed};
 use strand_core::Hands;

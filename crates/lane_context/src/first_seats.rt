@@ -2,18 +2,19 @@
 ghost use Rattle.std.specs.Prelude.{◌≡◌, ◌<◌, ◌≤◌};
 ghost use Rattle.lane_clock.specs.Steps.{most_draws};
 ghost use Rattle.lane_map.specs.LaneNumbers.{reactor_lane};
+ghost use Rattle.lane_logs.specs.SeatNumbers.{IsWorkerSeat, opener_seat};
+ghost use Rattle.lane_logs.specs.Stand.{first_stand};
 ghost use Rattle.lane_turns.specs.Batons.{HaveHands};
 ghost use Rattle.reactor_turns.specs.Ahead.{most_turn_events};
 ghost use Rattle.lane_turns.specs.Firsts.{IsStarted, first_lane, first_opener, first_worker};
 ghost use Rattle.lane_turns.specs.Openers.{round_of, stand_at};
 ghost use Rattle.lane_turns.specs.Rooms.{IsNewPen, lane_room, opener_room, worker_room};
-ghost use Rattle.lane_turns.specs.SeatNumbers.{IsWorkerSeat, opener_seat};
-ghost use Rattle.lane_turns.specs.Stand.{first_stand};
 
+use lane_logs::LaneSession;
 use lane_map::lanes_have_cells;
 use lane_turns::{
-    HandlerBaton, LaneSession, LaneStanding, LaneState, Opener, Pen, ReactorBaton, RoundNow,
-    RoundStanding, WorkerSeat, opening_draws, rooms_fit,
+    HandlerBaton, LaneStanding, LaneState, Opener, Pen, ReactorBaton, RoundNow, RoundStanding,
+    WorkerSeat, opening_draws, rooms_fit,
 };
 use op_handlers::CompletionHandler;
 use proactor_core::Proactor;

@@ -2,16 +2,17 @@
 ghost use Rattle.std.specs.Prelude.{◌≡◌, ◌<◌, ◌≤◌, [], ℕ, IfSome, None, Some, length, map, slice_get, vec_capacity};
 ghost use Rattle.std.specs.Option.{option_map};
 ghost use Rattle.turn_table.specs.Seated.{HasTurn, IsSeatOf, StandsForAll, StandsForTwo, greatest_alone, with_turn, without_greatest, without_turn};
+ghost use Rattle.lane_logs.specs.SeatNumbers.{lane_count};
 ghost use Rattle.lane_turns.specs.Attempts.{IsSeated};
 ghost use Rattle.lane_turns.specs.Benches.{AreLanes};
 ghost use Rattle.lane_turns.specs.Gathering.{AreSeated, HaveSatDown, StandsForFirst, gathered, gives_kept, turns_below, unseated, with_turns_below, without_turns};
 ghost use Rattle.lane_turns.specs.LaneOf.{seat_of};
-ghost use Rattle.lane_turns.specs.SeatNumbers.{lane_count};
 
 use crate::context::Context;
 use crate::worker::Worker;
+use lane_logs::LaneSession;
 use lane_map::lanes_have_cells;
-use lane_turns::{Baton, LaneSession};
+use lane_turns::Baton;
 use op_handlers::CompletionHandler;
 use reactor_trait::Reactor;
 use turn_table::{Home, TurnSeat};

@@ -4,16 +4,15 @@ ghost use Rattle.reactor_turns.specs.Ahead.{most_turn_events};
 ghost use Rattle.lane_clock.specs.Seats.{all_left};
 ghost use Rattle.lane_map.specs.LaneNumbers.{reactor_lane};
 ghost use Rattle.lane_context.specs.Making.{HasLogRoom, worker_rooms};
+ghost use Rattle.lane_logs.specs.SeatNumbers.{lane_count, opener_seat, seat_count};
 ghost use Rattle.lane_turns.specs.Rooms.{AreNewPens, IsNewPen, lane_rooms, opener_room};
-ghost use Rattle.lane_turns.specs.SeatNumbers.{lane_count, opener_seat, seat_count};
 
 use crate::new_pens::{new_logs, new_pen, new_pens};
 use asio_types::NoMemory;
 use lane_clock::SeatList;
+use lane_logs::LogEntry;
 use lane_map::{LaneMap, lanes_have_cells};
-use lane_turns::{
-    LogEntry, Pen, lane_rooms, opener_room, reactor_room, rounds_are_few, worker_count,
-};
+use lane_turns::{Pen, lane_rooms, opener_room, reactor_room, rounds_are_few, worker_count};
 use session_script::Script;
 use std::alloc::Global;
 

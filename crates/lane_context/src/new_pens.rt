@@ -5,7 +5,8 @@ ghost use Rattle.lane_turns.specs.Rooms.{AreNewLogs, AreNewPens, EachAt, IsNewPe
 
 use asio_types::NoMemory;
 use lane_clock::{LaneSeat, SeatList};
-use lane_turns::{LogEntry, Pen};
+use lane_logs::LogEntry;
+use lane_turns::Pen;
 use std::alloc::Global;
 
 /// Logs with nothing in them, each with room for so many entries. Takes memory for these.

@@ -1,5 +1,7 @@
 //! The opener's calls: at each, all turns are in its hands, and every lane and worker takes part.
 ghost use Rattle.std.specs.Prelude.{◌≡◌, ◌<◌, ◌≤◌, [], ℕ, IfSome, IsFalse, IsTrue, None, length, map, slice_get, true, vec_capacity};
+ghost use Rattle.lane_logs.specs.SeatNumbers.{lane_count};
+ghost use Rattle.lane_logs.specs.Stand.{first_stand, wants_restart};
 ghost use Rattle.lane_turns.specs.AllWorkers.{AreCuts, AreReady, HadFailed, HasAllTurns, KnowTheRound, NoneFaulted, clock_seat, last_of, log_of};
 ghost use Rattle.lane_turns.specs.Benches.{AreLanes, AreWorkers, HasHeld, ReactorGoesOn};
 ghost use Rattle.lane_turns.specs.Besides.{besides_of, rests_of};
@@ -9,14 +11,13 @@ ghost use Rattle.lane_turns.specs.KnownFaults.{ReactorFailed};
 ghost use Rattle.lane_turns.specs.LaneOf.{seat_of};
 ghost use Rattle.lane_turns.specs.LaneValues.{terms};
 ghost use Rattle.lane_turns.specs.OpenerEvents.{HasOpened, HasRestarted};
-ghost use Rattle.lane_turns.specs.SeatNumbers.{lane_count};
-ghost use Rattle.lane_turns.specs.Stand.{first_stand, wants_restart};
 
 use crate::context::Context;
 use crate::worker::Worker;
 use crate::workers::Workers;
 use lane_clock::LaneClock;
-use lane_turns::{Baton, LaneSession, Opener, hear_all, open_all, restart_all};
+use lane_logs::LaneSession;
+use lane_turns::{Baton, Opener, hear_all, open_all, restart_all};
 use op_handlers::CompletionHandler;
 use reactor_trait::Reactor;
 use turn_table::TurnSeat;

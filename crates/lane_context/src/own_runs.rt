@@ -8,7 +8,8 @@ ghost use Rattle.lane_context.specs.RoundEnds.{OneFaulted, OneKnowsFault, closin
 
 use crate::context::Context;
 use crate::worker::Worker;
-use lane_turns::{Closing, LaneSession, RunEnd};
+use lane_logs::LaneSession;
+use lane_turns::{Closing, RunEnd};
 use op_handlers::CompletionHandler;
 use reactor_trait::Reactor;
 use std::sync::Wait;

@@ -1,6 +1,6 @@
 ghost use Rattle.std.specs.Prelude.{◌≡◌, IfOk};
 ghost use Rattle.lane_clock.specs.Seats.{all_left};
-ghost use Rattle.lane_turns.specs.Logs.{session_layout};
+ghost use Rattle.lane_logs.specs.Logs.{session_layout};
 
 use asio_types::NoMemory;
 use lane_clock::{LaneClock, SeatList};

@@ -7,7 +7,8 @@ ghost use Rattle.lane_turns.specs.Scanning.{GoesOn};
 
 use crate::context::Context;
 use crate::worker::Worker;
-use lane_turns::{LaneSession, One};
+use lane_logs::LaneSession;
+use lane_turns::One;
 use op_handlers::CompletionHandler;
 use reactor_trait::Reactor;
 

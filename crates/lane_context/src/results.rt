@@ -2,14 +2,16 @@
 ghost use Rattle.std.specs.Prelude.{◌≡◌, IfSome, true};
 ghost use Rattle.lane_clock.specs.Seats.{own};
 ghost use Rattle.lane_map.specs.LaneNumbers.{has_cell};
-ghost use Rattle.lane_turns.specs.Receipts.{Finds, IsReceiptOf};
+ghost use Rattle.lane_logs.specs.Receipts.{IsReceiptOf};
+ghost use Rattle.lane_turns.specs.Receipts.{Finds};
 ghost use Rattle.lane_turns.specs.Scanning.{GoesOn};
 
 use crate::context::Context;
 use crate::worker::Worker;
 use asio_types::OpNo;
+use lane_logs::{LaneSession, Receipt};
 use lane_map::lanes_have_cells;
-use lane_turns::{LaneSession, Receipt, operations_have_lanes};
+use lane_turns::operations_have_lanes;
 use op_handlers::CompletionHandler;
 use reactor_trait::Reactor;
 use session_script::Script;

@@ -1,5 +1,7 @@
 //! Closing a round, with all turns in one hand.
 ghost use Rattle.std.specs.Prelude.{◌≡◌, ◌≢◌, ◌<◌, ◌≤◌, [], IfNone, IfSome, length, map, true, vec_capacity};
+ghost use Rattle.lane_logs.specs.SeatNumbers.{lane_count};
+ghost use Rattle.lane_logs.specs.Stand.{is_round_open};
 ghost use Rattle.lane_turns.specs.declared.closing_try.ClosingTry.TheVariants.{Refuted};
 ghost use Rattle.lane_context.specs.declared.round_end.RoundEnd.TheVariants.{Fault};
 ghost use Rattle.lane_turns.specs.AllWorkers.{AreCuts, AreReady, KnowTheRound, NoneFaulted, clock_seat, log_of};
@@ -14,8 +16,6 @@ ghost use Rattle.lane_turns.specs.LaneOf.{seat_of};
 ghost use Rattle.lane_turns.specs.LaneValues.{terms, tries};
 ghost use Rattle.lane_turns.specs.OwnRuns.{HasRunInVain};
 ghost use Rattle.lane_context.specs.RoundEnds.{EndsRound, FaultCame, HasEndedRound, OtherLastsStay, OwnRanLast, end_after, end_by, run_end_of};
-ghost use Rattle.lane_turns.specs.SeatNumbers.{lane_count};
-ghost use Rattle.lane_turns.specs.Stand.{is_round_open};
 
 use crate::context::Context;
 use crate::opener_calls::hear_failure;
@@ -23,7 +23,8 @@ use crate::own_runs::{OwnRun, closing_after, has_one_faulted};
 use crate::round_end::RoundEnd;
 use crate::worker::Worker;
 use crate::workers::Workers;
-use lane_turns::{Baton, Closing, ClosingTry, LaneSession, Opener, close_all, meet_all};
+use lane_logs::LaneSession;
+use lane_turns::{Baton, Closing, ClosingTry, Opener, close_all, meet_all};
 use op_handlers::CompletionHandler;
 use reactor_trait::Reactor;
 use std::sync::Wait;

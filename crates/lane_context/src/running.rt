@@ -1,5 +1,5 @@
 //! Executing handlers until there is nothing left to do.
-ghost use Rattle.std.specs.Prelude.{◌≡◌, IfNone, IfSome, None};
+ghost use Rattle.std.specs.Prelude.{◌≡◌, IfErr, IfSome, None, OnOk};
 ghost use Rattle.lane_turns.specs.Attempts.{IsSeated};
 ghost use Rattle.lane_turns.specs.LaneValues.{terms, tries};
 ghost use Rattle.lane_turns.specs.Runs.{EndsAtOnce, EndsFor, HasRun, HasSettled};
@@ -7,32 +7,32 @@ ghost use Rattle.lane_turns.specs.Scanning.{GoesOn};
 
 use crate::context::Context;
 use crate::worker::Worker;
-use lane_turns::{LaneSession, One, RunEnd};
+use lane_logs::LaneSession;
+use lane_turns::{One, RunEnd};
 use op_handlers::CompletionHandler;
 use reactor_trait::Reactor;
 use std::sync::Wait;
-use std::thread::yield_now;
 
 // how many times a lane is polled at most while its turn is held
 const MOST_KEPT: u32 = 16;
 
 impl<'a, X: Reactor, H: CompletionHandler, N: LaneSession> Context<'a, X, H, N> {
-    /// Reads, before lanes are looked at; answers how the call ends, if that ends it.
-    fn read_first(&self, worker: &mut Worker<'a, X, H, N>) -> Option<RunEnd>
+    /// Reads, before lanes are looked at; answers how the call ends, if that ends it, and else the clock.
+    fn read_first(&self, worker: &mut Worker<'a, X, H, N>) -> Result<u64, RunEnd>
         requires turns { IsSeated self.now worker.old }
-        ensures ended { IfSome result (λ now. EndsAtOnce now worker.old worker.new) }
-        ensures free { IfNone result (worker.new.kept ≡ None) }
+        ensures ended { IfErr result (λ now. EndsAtOnce now worker.old worker.new) }
+        ensures free { OnOk result (worker.new.kept ≡ None) }
         ensures turns { IsSeated self.now worker.new }
         ensures on { GoesOn worker.old worker.new }
     {
         let found = worker.read(&self.clock);
         if worker.is_barred(found) {
-            return Some(RunEnd::Stopped);
+            return Err(RunEnd::Stopped);
         }
         if found.work == 0 {
-            return Some(RunEnd::Ended);
+            return Err(RunEnd::Ended);
         }
-        None
+        Ok(found.clock)
     }
 
     /// Where nothing was found to do: in a round in which time passes, other threads go first; in
@@ -44,7 +44,7 @@ impl<'a, X: Reactor, H: CompletionHandler, N: LaneSession> Context<'a, X, H, N> 
         ensures on { GoesOn worker.old worker.new }
     {
         if worker.is_running() {
-            yield_now();
+            worker.stand_back();
             return None;
         }
         let found = worker.read(&self.clock);
@@ -72,8 +72,9 @@ impl<'a, X: Reactor, H: CompletionHandler, N: LaneSession> Context<'a, X, H, N> 
         }
     }
 
-    /// Reads, and where that doesn't end the call, looks at all lanes once, from where a note was put
-    /// last, or else from where a hint is; answers how the call ends, if it ends.
+    /// Reads, and where that doesn't end the call, and others aren't quick without it, looks at all lanes
+    /// once, from where a note was put last, or else from where a hint is; answers how the call ends, if it
+    /// ends.
     fn run_round<Rt: Wait>(&self, rt: &Rt, worker: &mut Worker<'a, X, H, N>) -> Option<RunEnd>
         requires turns { IsSeated self.now worker.old }
         ensures ended { IfSome result (λ now. EndsFor
@@ -82,11 +83,16 @@ impl<'a, X: Reactor, H: CompletionHandler, N: LaneSession> Context<'a, X, H, N> 
         ensures turns { IsSeated self.now worker.new }
         ensures on { GoesOn worker.old worker.new }
     {
-        if let Some(end) = self.read_first(worker) {
-            return Some(end);
+        match self.read_first(worker) {
+            Err(end) => Some(end),
+            Ok(clock) => {
+                if !worker.takes_part(clock) {
+                    return None;
+                }
+                worker.share_hints(rt);
+                self.look_once(worker)
+            }
         }
-        worker.share_hints(rt);
-        self.look_once(worker)
     }
 
     /// Executes handlers until no work is left, the context is stopped, the reactor failed, or, in a
@@ -95,8 +101,8 @@ impl<'a, X: Reactor, H: CompletionHandler, N: LaneSession> Context<'a, X, H, N> 
     /// A lane's turn is kept while something is done there, for 16 executions or turns of the reactor at
     /// most. The first lane into which notes were put then is looked at next; at the others it hints, in
     /// the order of the puts, to whichever worker looks for one. A hint may take memory, and is dropped
-    /// where that is refused; it may wait for another worker's hint. Where nothing was found, other threads
-    /// go on first.
+    /// where that is refused; it may wait for another worker's hint. Where nothing was found, and where
+    /// others do the work faster than one more worker would, other threads go first.
     pub fn run<Rt: Wait>(&self, rt: &Rt, worker: &mut Worker<'a, X, H, N>) -> RunEnd
         requires turns { IsSeated self.now worker.old }
         ensures run { HasRun

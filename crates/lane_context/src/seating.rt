@@ -2,7 +2,7 @@
 ghost use Rattle.std.specs.Prelude.{◌≡◌, [], IsSome, None, Some};
 
 use crate::worker::Worker;
-use lane_turns::LaneSession;
+use lane_logs::LaneSession;
 use op_handlers::CompletionHandler;
 use reactor_trait::Reactor;
 use turn_table::TurnSeat;

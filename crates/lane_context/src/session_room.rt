@@ -4,10 +4,11 @@ ghost use Rattle.std.specs.Prelude.{◌≡◌};
 use crate::call_rooms::call_rooms;
 use crate::worker::Worker;
 use asio_types::NoMemory;
+use lane_logs::LaneSession;
 use lane_map::{LaneMap, lanes_have_cells};
 use lane_turns::{
-    Baton, EndingRoom, HandlerBaton, LaneSession, Lookout, ReactorBaton, Slot, empty_slots,
-    free_slots, lookouts, worker_count,
+    Baton, EndingRoom, HandlerBaton, Lookout, ReactorBaton, Slot, empty_slots, free_slots,
+    lookouts, worker_count,
 };
 use op_handlers::CompletionHandler;
 use reactor_trait::Reactor;
@@ -28,7 +29,7 @@ pub(crate) struct LaneRoom<'a, X: Reactor, H: CompletionHandler, N: LaneSession>
 impl<'a, X: Reactor, H: CompletionHandler, N: LaneSession> Model for LaneRoom<'a, X, H, N> {
     ghost use Rattle.std.specs.Prelude.{◌≡◌, ◌≤◌, [], None, replicate, vec_capacity};
     ghost use Rattle.lane_map.specs.LaneNumbers.{reactor_lane};
-    ghost use Rattle.lane_turns.specs.SeatNumbers.{lane_count, worker_count};
+    ghost use Rattle.lane_logs.specs.SeatNumbers.{lane_count, worker_count};
 
     ghost Value = { Unit {0} };
 
@@ -108,7 +109,7 @@ pub(crate) struct SessionRoom<'a, X: Reactor, H: CompletionHandler, N: LaneSessi
 impl<'a, X: Reactor, H: CompletionHandler, N: LaneSession> Model for SessionRoom<'a, X, H, N> {
     ghost use Rattle.std.specs.Prelude.{◌≡◌, length};
     ghost use Rattle.turn_table.specs.Seated.{seat_of_all};
-    ghost use Rattle.lane_turns.specs.SeatNumbers.{lane_count, worker_count};
+    ghost use Rattle.lane_logs.specs.SeatNumbers.{lane_count, worker_count};
     ghost use Rattle.lane_context.specs.SessionRooms.{AreCallRooms};
 
     ghost Value = { Unit {0} };

@@ -2,13 +2,13 @@
 ghost use Rattle.std.specs.Prelude.{◌≡◌, ◌≤◌, ◌++◌, ◌∷◌, [], None, Some, length, map, replicate, vec_capacity};
 ghost use Rattle.turn_table.specs.Seated.{seat_of_all};
 ghost use Rattle.lane_map.specs.LaneNumbers.{reactor_lane};
+ghost use Rattle.lane_logs.specs.Logs.{session_layout};
+ghost use Rattle.lane_logs.specs.SeatNumbers.{worker_count};
 ghost use Rattle.lane_turns.specs.AllWorkers.{AreReady, clock_seat};
 ghost use Rattle.lane_turns.specs.Benches.{AreLanes, AreWorkers, IsRow};
 ghost use Rattle.lane_turns.specs.LaneOf.{seat_of};
 ghost use Rattle.lane_turns.specs.LaneValues.{handlers, reactor};
-ghost use Rattle.lane_turns.specs.Logs.{session_layout};
 ghost use Rattle.lane_turns.specs.Rooms.{EachAt};
-ghost use Rattle.lane_turns.specs.SeatNumbers.{worker_count};
 ghost use Rattle.lane_context.specs.SessionRooms.{AreCallRooms, AreFresh, standing_by};
 
 use crate::beginning::Beginning;
@@ -17,8 +17,9 @@ use crate::session_room::{LaneRoom, SessionRoom};
 use crate::worker::Worker;
 use crate::workers::Workers;
 use lane_clock::LaneClock;
+use lane_logs::LaneSession;
 use lane_map::{LaneMap, lanes_have_cells};
-use lane_turns::{Baton, HandlerBaton, LaneSession, Lookout, ReactorBaton, Slot, WorkerSeat};
+use lane_turns::{Baton, HandlerBaton, Lookout, ReactorBaton, Slot, WorkerSeat};
 use op_handlers::CompletionHandler;
 use reactor_trait::Reactor;
 use session_script::Script;

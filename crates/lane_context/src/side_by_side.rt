@@ -7,7 +7,7 @@ ghost use Rattle.lane_context.specs.SideBySide.{FirstHaveRun, HaveRun};
 use crate::context::Context;
 use crate::worker::Worker;
 use crate::workers::Workers;
-use lane_turns::LaneSession;
+use lane_logs::LaneSession;
 use op_handlers::CompletionHandler;
 use reactor_trait::Reactor;
 use std::sync::Wait;

@@ -6,7 +6,7 @@ ghost use Rattle.lane_turns.specs.Workers.{Stops, is_set, may_draw_stop};
 
 use crate::context::Context;
 use crate::worker::Worker;
-use lane_turns::LaneSession;
+use lane_logs::LaneSession;
 use op_handlers::CompletionHandler;
 use reactor_trait::Reactor;
 

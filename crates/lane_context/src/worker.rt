@@ -6,7 +6,8 @@ ghost use Rattle.lane_turns.specs.Scanning.{GoesOn, HasLooked};
 ghost use Rattle.lane_turns.specs.Workers.{Stops, is_set, may_draw_stop};
 
 use lane_clock::{Found, LaneClock};
-use lane_turns::{Baton, LaneSession, Lookout, RunEnd, WorkerSeat};
+use lane_logs::LaneSession;
+use lane_turns::{Baton, Lookout, RunEnd, WorkerSeat};
 use op_handlers::CompletionHandler;
 use reactor_trait::Reactor;
 use std::marker::Model;
@@ -24,7 +25,7 @@ pub struct Worker<'a, X: Reactor, H: CompletionHandler, N: LaneSession> {
     pub(crate) kept: Option<Baton<'a, X, H, N>>,
     // how its last call ended
     pub(crate) last: Option<RunEnd>,
-    // the lane at which it looks first, and its place at the hints
+    // the lane at which it looks first, its place at the hints, and whether it takes part
     pub(crate) lookout: Lookout,
     // the room for the calls of an execution; out while one is made
     pub(crate) made: Option<Vec<Posted>>,
@@ -105,6 +106,25 @@ impl<'a, X: Reactor, H: CompletionHandler, N: LaneSession> Worker<'a, X, H, N> {
         ensures { self.new ≡ self.old }
     {
         self.lookout.share(rt);
+    }
+
+    /// Whether it looks at lanes now that it read this clock; if not, it lets other threads go first.
+    pub(crate) fn takes_part(&mut self, clock: u64) -> bool
+        ensures { self.new ≡ self.old }
+    {
+        if self.lookout.takes_part(clock) {
+            return true;
+        }
+        self.lookout.wait();
+        false
+    }
+
+    /// Found nothing to do, it lets other threads go first.
+    pub(crate) fn stand_back(&mut self)
+        ensures { self.new ≡ self.old }
+    {
+        self.lookout.found_nothing();
+        self.lookout.wait();
     }
 
     /// Keeps how a call ended; after a fault that stays. A fault it had met before.

@@ -1,7 +1,8 @@
 //! A worker at an event of the opener.
 use crate::worker::Worker;
 use lane_clock::LaneClock;
-use lane_turns::{Attendee, LaneSession, Opener};
+use lane_logs::LaneSession;
+use lane_turns::{Attendee, Opener};
 use op_handlers::CompletionHandler;
 use reactor_trait::Reactor;
 use session_script::Script;

@@ -3,7 +3,8 @@ ghost use Rattle.std.specs.Prelude.{◌≡◌};
 
 use crate::worker::Worker;
 use crate::workers_apart::{OpenerApart, WorkersApart};
-use lane_turns::{Baton, EndingRoom, LaneSession, Opener};
+use lane_logs::LaneSession;
+use lane_turns::{Baton, EndingRoom, Opener};
 use op_handlers::CompletionHandler;
 use reactor_trait::Reactor;
 use std::marker::Model;
@@ -23,7 +24,7 @@ pub struct Workers<'a, X: Reactor, H: CompletionHandler, N: LaneSession> {
 impl<'a, X: Reactor, H: CompletionHandler, N: LaneSession> Model for Workers<'a, X, H, N> {
     ghost use Rattle.std.specs.Prelude.{◌≡◌, ◌≤◌, [], vec_capacity};
     ghost use Rattle.lane_turns.specs.AllWorkers.{WorkersView};
-    ghost use Rattle.lane_turns.specs.SeatNumbers.{lane_count};
+    ghost use Rattle.lane_logs.specs.SeatNumbers.{lane_count};
 
     ghost Value = { WorkersView H X };
 

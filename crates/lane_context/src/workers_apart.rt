@@ -1,6 +1,7 @@
 //! All workers and the opener, apart: so that threads can have a worker each.
 use crate::worker::Worker;
-use lane_turns::{Baton, EndingRoom, LaneSession, Opener};
+use lane_logs::LaneSession;
+use lane_turns::{Baton, EndingRoom, Opener};
 use op_handlers::CompletionHandler;
 use reactor_trait::Reactor;
 use std::marker::Model;
@@ -23,7 +24,7 @@ pub struct OpenerApart<'a, X: Reactor, H: CompletionHandler, N: LaneSession> {
 impl<'a, X: Reactor, H: CompletionHandler, N: LaneSession> Model for OpenerApart<'a, X, H, N> {
     ghost use Rattle.std.specs.Prelude.{◌≡◌, ◌≤◌, [], vec_capacity};
     ghost use Rattle.lane_turns.specs.Openers.{OpenerView};
-    ghost use Rattle.lane_turns.specs.SeatNumbers.{lane_count};
+    ghost use Rattle.lane_logs.specs.SeatNumbers.{lane_count};
 
     ghost Value = { OpenerView };
 

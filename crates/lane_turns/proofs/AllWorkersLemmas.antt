@@ -6,6 +6,9 @@ use Rattle.session_script.specs.Script.{ScriptModel}
 use Rattle.turn_table.specs.Seated.{Lanes, Seated}
 use Rattle.lane_clock.specs.Seats.{SeatView, own}
 use Rattle.lane_map.specs.LaneNumbers.{reactor_lane}
+use Rattle.lane_logs.specs.Cuts.{NoneStops}
+use Rattle.lane_logs.specs.SeatNumbers.{lane_count, worker_count}
+use Rattle.lane_logs.specs.Stand.{Stand}
 use Rattle.lane_turns.specs.AllWorkers.{AreReady, KnowTheRound, base_kept, clock_seat, last_of, log_of, runs_kept}
 use Rattle.std.specs.Option.{option_map}
 use Rattle.lane_turns.specs.Attempts.{IsSeated, WorkerState}
@@ -13,12 +16,9 @@ use Rattle.lane_turns.specs.Benches.{AreInRound, AreWorkers, IsInRound, IsRow}
 use Rattle.lane_turns.specs.Besides.{Besides, besides_of, rests_of}
 use Rattle.lane_turns.specs.Gathering.{AreSeated, HaveSatDown, StandsForFirst, unseated, without_turns}
 use Rattle.lane_turns.specs.Scanning.{numbers_of}
-use Rattle.lane_turns.specs.Cuts.{NoneStops}
 use Rattle.lane_turns.specs.LaneOf.{has_failed, seat_of}
 use Rattle.lane_turns.specs.LaneValues.{IsBaton, LaneValue, Terms, handlers, reactor}
 use Rattle.lane_turns.proofs.ReactorStopLemmas.{reactor_goes_on}
-use Rattle.lane_turns.specs.SeatNumbers.{lane_count, worker_count}
-use Rattle.lane_turns.specs.Stand.{Stand}
 use Rattle.lane_turns.specs.Workers.{WorkerView}
 
 -- what an element of a list of images is the image of

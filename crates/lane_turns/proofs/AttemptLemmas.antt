@@ -7,6 +7,8 @@ use Rattle.proactor_core.specs.Proactor.{ProactorView}
 use Rattle.strand_core.specs.Hands.{Held}
 use Rattle.turn_table.specs.Numbers.{without_number}
 use Rattle.turn_table.specs.Seated.{IsSeatOf, Lanes, Seated, with_turn, without_turn}
+use Rattle.lane_logs.specs.Names.{SessionNames}
+use Rattle.lane_logs.specs.Parts.{takes_place}
 use Rattle.lane_turns.specs.declared.one.One.{One}
 use Rattle.lane_turns.specs.declared.one.One.TheVariants as one
 use Rattle.lane_turns.specs.declared.run_end.RunEnd.{RunEnd}
@@ -14,8 +16,6 @@ use Rattle.lane_turns.specs.declared.run_end.RunEnd.TheVariants as end
 use Rattle.lane_turns.specs.Answers.{is_done, is_fault, is_nothing}
 use Rattle.lane_turns.specs.Attempts.{Gives, HasTried, HoldsTurns, KeepsAfterFault, WorkerAt}
 use Rattle.lane_turns.specs.Batons.{LaneView}
-use Rattle.lane_turns.specs.Names.{SessionNames}
-use Rattle.lane_turns.specs.Parts.{takes_place}
 use Rattle.lane_turns.specs.Pens.{PenView}
 use Rattle.lane_turns.specs.Polling.{CameTo, place_on, with_pen}
 use Rattle.lane_turns.specs.ReactorPolling.{FailedNext, FoundNoRequest, FoundOtherWork, HadFailed, LeftRequest, LeftTime, TurnCameTo, TurnedNext}

@@ -8,8 +8,8 @@ use Rattle.lane_clock.specs.Knowledge.{StartOf, counts}
 use Rattle.lane_clock.specs.Seats.{Owns, SeatView, copy_seat, own}
 use Rattle.lane_clock.specs.Steps.{draw_count, step_count}
 use Rattle.lane_clock.proofs.KeepLemmas.{start_same, start_trans}
+use Rattle.lane_logs.specs.Knowing.{lists_of}
 use Rattle.lane_turns.specs.Attending.{AreHeard, HasAttended, HasGoneOn, HaveAttended, IsHeard}
-use Rattle.lane_turns.specs.Meeting.{lists_of}
 use Rattle.lane_turns.specs.Openers.{HasTakenIn, HaveMet, OpenerView}
 use Rattle.lane_turns.proofs.MeetingLemmas.{copied_steps, met_number}
 use Rattle.lane_turns.proofs.PenLemmas.{step_count-append}

@@ -17,16 +17,16 @@ use Rattle.lane_clock.specs.declared.step.ClockStep.{ClockStep}
 use Rattle.lane_clock.specs.declared.step.ClockStep.TheVariants.{Look}
 use Rattle.lane_clock.specs.Seats.{ClockId, own}
 use Rattle.lane_map.specs.LaneNumbers.{cells_of, home_lane, is_op_on, lane_list, reactor_lane}
-use Rattle.lane_turns.specs.declared.log.LogEntry.{LogEntry}
+use Rattle.lane_logs.specs.declared.log.LogEntry.{LogEntry}
+use Rattle.lane_logs.specs.Labels.{AreDrawn, silent, entries_in, events_in}
+use Rattle.lane_logs.specs.LaneLog.{AreParts, has_begun}
+use Rattle.lane_logs.specs.Names.{IsNamedMark, SessionNames}
+use Rattle.lane_logs.specs.Parts.{ExecutedPart, Part, executed, failed, idle, missing, turned, are_broken, labels_in}
+use Rattle.lane_logs.specs.SeatNumbers.{opener_seat}
 use Rattle.lane_turns.specs.declared.one.One.{One}
 use Rattle.lane_turns.specs.declared.one.One.TheVariants as one
 use Rattle.lane_turns.specs.Batons.{HasRoom, HaveHands, IsHandlerBaton, IsLane, LaneView, opener_known}
-use Rattle.lane_turns.specs.Labels.{AreDrawn, silent, entries_in, events_in}
-use Rattle.lane_turns.specs.LaneLog.{AreParts, has_begun}
-use Rattle.lane_turns.specs.Names.{IsNamedMark, SessionNames}
-use Rattle.lane_turns.specs.Parts.{ExecutedPart, Part, executed, failed, idle, missing, turned, are_broken, labels_in}
 use Rattle.lane_turns.specs.Polling.{CameTo, FoundNone, MissedNext, RanNext, StoppedNext, missed_too}
-use Rattle.lane_turns.specs.SeatNumbers.{opener_seat}
 use Rattle.lane_turns.proofs.DrawnLemmas.{begun-append, drawn_begun, drawn_quiet}
 use Rattle.lane_turns.proofs.LaneLogLemmas.{found_going, lane_goes_on, part_log}
 use Rattle.lane_turns.proofs.LaneStepLemmas.{lane_left, lane_looked, lane_missed, or_none}

@@ -8,13 +8,13 @@ use Rattle.proactor_core.specs.Proactor.{ProactorView}
 use Rattle.reactor_turns.specs.Ahead.{events_ahead}
 use Rattle.lane_clock.specs.Knowledge.{StartOf}
 use Rattle.lane_clock.specs.Seats.{ClockId, SeatView, copy_seat, own}
-use Rattle.lane_turns.specs.declared.log.LogEntry.{LogEntry}
+use Rattle.lane_logs.specs.declared.log.LogEntry.{LogEntry}
+use Rattle.lane_logs.specs.Names.{SessionNames}
+use Rattle.lane_logs.specs.SeatNumbers.{opener_seat}
 use Rattle.lane_turns.specs.Batons.{HaveHands, IsHandlerBaton, LaneView, opener_known, room_held}
 use Rattle.lane_turns.specs.Meeting.{PenHasMet}
-use Rattle.lane_turns.specs.Names.{SessionNames}
 use Rattle.lane_turns.specs.Openers.{in_round, round_after}
 use Rattle.lane_turns.specs.Pens.{MayGo, PenView}
-use Rattle.lane_turns.specs.SeatNumbers.{opener_seat}
 use Rattle.lane_turns.specs.Turning.{IsReactorBaton, KeepsTurns, log_half}
 use Rattle.lane_turns.proofs.LaneMeetingLemmas.{lane_meets}
 use Rattle.lane_turns.proofs.MeetingLemmas.{met_room}

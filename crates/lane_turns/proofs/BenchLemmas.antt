@@ -5,11 +5,11 @@ use Rattle.std.specs.Prelude.{slice_get, slice_index}
 use Rattle.std.proofs.lemmas.Option.{get_or_from_slice_get, slice_get-map}
 use Rattle.session_script.specs.Script.{ScriptModel}
 use Rattle.lane_clock.specs.Seats.{SeatView, own}
+use Rattle.lane_logs.specs.Cuts.{HaveStarted}
+use Rattle.lane_logs.specs.Stand.{Stand}
 use Rattle.lane_turns.specs.Attending.{AreHeard, HasGoneOn, HaveAttended, IsHeard}
 use Rattle.lane_turns.specs.Benches.{AreInRound, HaveAllStarted, IsInRound, places_of}
-use Rattle.lane_turns.specs.Cuts.{HaveStarted}
 use Rattle.lane_turns.specs.Openers.{OpenerView}
-use Rattle.lane_turns.specs.Stand.{Stand}
 use Rattle.lane_turns.proofs.AttendingLemmas.{at_or_before, get_set_other, get_set_same, heard_on}
 
 -- what one more element is

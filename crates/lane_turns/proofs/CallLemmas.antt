@@ -10,7 +10,7 @@ use Rattle.strand_core.specs.declared.posted.Posted.TheVariants as posted
 use Rattle.lane_clock.specs.declared.found.Change.TheVariants as change
 use Rattle.lane_clock.specs.declared.found.Found.{Found}
 use Rattle.lane_map.specs.LaneNumbers.{asked_lane}
-use Rattle.lane_turns.specs.Labels.{allots, begins, call_note, dispatches, ends, posts, put_within, returns, shows, stops_context}
+use Rattle.lane_logs.specs.Labels.{allots, begins, call_note, dispatches, ends, posts, put_within, returns, shows, stops_context}
 use Rattle.lane_turns.specs.Pens.{HasAllotted, HasDrawnCall, HasGone, PenView}
 use Rattle.lane_turns.proofs.PenLemmas.{gone_on}
 

@@ -9,7 +9,9 @@ use Rattle.session_script.specs.Script.{ScriptModel}
 use Rattle.turn_table.specs.Laid.{AreAtHome}
 use Rattle.lane_map.specs.LaneNumbers.{reactor_lane}
 use Rattle.lane_map.proofs.NumberLemmas as lane_numbers
-use Rattle.lane_turns.specs.declared.log.LogEntry.{LogEntry}
+use Rattle.lane_logs.specs.declared.log.LogEntry.{LogEntry}
+use Rattle.lane_logs.specs.Logs.{LogsView, entries_of}
+use Rattle.lane_logs.specs.SeatNumbers.{lane_count}
 use Rattle.lane_turns.specs.AllWorkers.{clock_seat}
 use Rattle.lane_turns.specs.Attempts.{WorkerState}
 use Rattle.lane_turns.specs.Batons.{BatonView}
@@ -17,8 +19,6 @@ use Rattle.lane_turns.specs.Benches.{AreWorkers}
 use Rattle.lane_turns.specs.Finishing.{KeepLogsOf}
 use Rattle.lane_turns.specs.Gathering.{unseated}
 use Rattle.lane_turns.specs.LaneValues.{LaneValue, handlers, home_of, reactor}
-use Rattle.lane_turns.specs.Logs.{LogsView, entries_of}
-use Rattle.lane_turns.specs.SeatNumbers.{lane_count}
 use Rattle.lane_turns.specs.Turning.{ReactorView}
 use Rattle.lane_turns.specs.Workers.{WorkerView}
 use Rattle.lane_turns.proofs.AllWorkersLemmas.{image_at}

@@ -10,12 +10,12 @@ use Rattle.lane_clock.specs.declared.step.ClockStep.TheVariants.{Draw, Join}
 use Rattle.lane_clock.specs.Knowledge.{StartOf, counts}
 use Rattle.lane_clock.specs.Seats.{Remembers, SeatView, copy_seat, own}
 use Rattle.lane_clock.proofs.KeepLemmas.{start_trans}
+use Rattle.lane_logs.specs.Cuts.{IsCut}
+use Rattle.lane_logs.specs.Knowing.{joined_count, lists_of}
+use Rattle.lane_logs.specs.SeatNumbers.{opener_seat}
 use Rattle.lane_turns.specs.Attending.{HasAttended, HasDrawnLast}
-use Rattle.lane_turns.specs.Cuts.{IsCut}
-use Rattle.lane_turns.specs.Knowing.{joined_count}
-use Rattle.lane_turns.specs.Meeting.{KnowsByJoins, lists_of}
+use Rattle.lane_turns.specs.Meeting.{KnowsByJoins}
 use Rattle.lane_turns.specs.Openers.{OpenerView}
-use Rattle.lane_turns.specs.SeatNumbers.{opener_seat}
 use Rattle.lane_turns.proofs.GrowingLemmas.{take_start}
 use Rattle.lane_turns.proofs.MeetingLemmas.{copied_steps, counted, start_length}
 use Rattle.lane_turns.proofs.SteppingLemmas.{joined_on}

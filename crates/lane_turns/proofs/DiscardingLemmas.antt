@@ -17,9 +17,9 @@ use Rattle.session_script.specs.WellFormed.{HasParent}
 use Rattle.lane_map.specs.LaneNumbers.{home_lane}
 use Rattle.strand_core.specs.Hands.{CallerIsGone, Held}
 use Rattle.strand_core.proofs.HandLemmas.{callee_later, in_list-get_or}
+use Rattle.lane_logs.specs.Drops.{dropped, is_left}
+use Rattle.lane_logs.specs.Names.{SessionNames}
 use Rattle.lane_turns.specs.Discarding.{IsDiscarding, held_in, held_on, without}
-use Rattle.lane_turns.specs.Drops.{dropped, is_left}
-use Rattle.lane_turns.specs.Names.{SessionNames}
 
 -- one number more
 range_more : (a n j : ℕ) → a + n ≡ j → range_with_len a (n + 1) ≡ range_with_len a n ++ j ∷ []

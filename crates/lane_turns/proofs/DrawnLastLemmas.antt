@@ -7,16 +7,16 @@ use Rattle.lane_clock.specs.declared.step.ClockStep.{ClockStep}
 use Rattle.lane_clock.specs.declared.step.Known.{Known}
 use Rattle.lane_clock.specs.Knowledge.{steps_at}
 use Rattle.lane_clock.specs.Seats.{SeatView, own}
+use Rattle.lane_logs.specs.Knowing.{joined_count}
+use Rattle.lane_logs.specs.Labels.{Labelled, shows, steps_in}
+use Rattle.lane_logs.specs.OpenerLog.{Looked, closing_change}
+use Rattle.lane_logs.proofs.LabelLemmas.{steps-append}
 use Rattle.lane_turns.specs.declared.closing.Closing.{Closing}
 use Rattle.lane_turns.specs.Attending.{HasDrawnLast}
 use Rattle.lane_turns.specs.Closing.{closing_event}
-use Rattle.lane_turns.specs.Knowing.{joined_count}
-use Rattle.lane_turns.specs.Labels.{Labelled, shows, steps_in}
 use Rattle.lane_turns.specs.OpenerEvents.{closing_labels, weighing_labels}
-use Rattle.lane_turns.specs.OpenerLog.{Looked, closing_change}
 use Rattle.lane_turns.specs.Pens.{HasGone, PenView}
 use Rattle.lane_turns.proofs.OpenerEventLemmas.{looks_quiet}
-use Rattle.lane_turns.proofs.PenLemmas.{steps-append}
 use Rattle.lane_turns.proofs.SteppingLemmas.{stepped_known, stepped_number}
 
 abbrev pub drawn_last : (labels : List Labelled) (shown : Event) (changes : Change) (found : Found) (old new : PenView) →

@@ -15,12 +15,14 @@ use Rattle.lane_clock.specs.declared.note.Note.{Note}
 use Rattle.lane_clock.specs.declared.step.ClockStep.TheVariants.{Put}
 use Rattle.lane_clock.specs.Steps.{draw_count, place_count, step_count}
 use Rattle.lane_map.specs.LaneNumbers.{asked_lane, cells_of}
-use Rattle.lane_turns.specs.declared.log.LogEntry.{LogEntry}
-use Rattle.lane_turns.specs.Knowing.{joined_count}
-use Rattle.lane_turns.specs.Labels.{AreDrawn, none_drawn, one_drawn, IsDrawn, begins, posts, dispatches, stops_context, returns, ends, Labelled, silent, call_note, entries_in, events_in, steps_in}
-use Rattle.lane_turns.specs.LaneLog.{has_begun, is_begin_of}
-use Rattle.lane_turns.proofs.PenLemmas.{entries-append, step_count-append, steps-append}
-use Rattle.lane_turns.proofs.PostingLemmas.{put_entries, shown_sum, sized}
+use Rattle.lane_logs.specs.declared.log.LogEntry.{LogEntry}
+use Rattle.lane_logs.specs.Knowing.{joined_count}
+use Rattle.lane_logs.specs.Labels.{AreDrawn, none_drawn, one_drawn, IsDrawn, begins, posts, dispatches, stops_context, returns, ends, Labelled, silent, call_note, entries_in, events_in, steps_in}
+use Rattle.lane_logs.specs.LaneLog.{has_begun, is_begin_of}
+use Rattle.lane_logs.proofs.LabelLemmas.{entries-append, steps-append}
+use Rattle.lane_logs.proofs.OpeningLemmas.{shown_sum}
+use Rattle.lane_turns.proofs.PenLemmas.{step_count-append}
+use Rattle.lane_turns.proofs.PostingLemmas.{put_entries, sized}
 use Rattle.lane_turns.proofs.SteppingLemmas.{joined_on}
 
 -- nothing is taken in

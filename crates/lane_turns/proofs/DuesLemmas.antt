@@ -15,15 +15,16 @@ use Rattle.reactor_turns.proofs.AheadLemmas.{done_leaves}
 use Rattle.reactor_turns.proofs.ClockLemmas.{time-done}
 use Rattle.reactor_turns.proofs.StandingLemmas.{stands-done}
 use Rattle.reactor_turns.proofs.SummingLemmas.{one_if}
-use Rattle.lane_turns.specs.Half.{half_from}
-use Rattle.lane_turns.specs.Labels.{Labelled, entries_in}
-use Rattle.lane_turns.specs.Names.{SessionNames}
+use Rattle.lane_logs.specs.Half.{half_from}
+use Rattle.lane_logs.specs.Labels.{Labelled, entries_in}
+use Rattle.lane_logs.specs.Names.{SessionNames}
+use Rattle.lane_logs.specs.ReactorTurns.{AreTold, none_told, one_told, done_labels, done_note}
+use Rattle.lane_logs.proofs.LabelLemmas.{entries-append}
 use Rattle.lane_turns.specs.Pens.{HasGone, MayGo, PenView}
-use Rattle.lane_turns.specs.ReactorTurns.{AreTold, none_told, one_told, done_labels, done_note}
 use Rattle.lane_turns.specs.Telling.{HasToldDone}
 use Rattle.lane_turns.specs.Turning.{HasTold, IsMidTurn, log_half}
 use Rattle.lane_turns.proofs.HalfLemmas.{done_draws, done_entries, done_half, done_places, half-append, log_on, room_on}
-use Rattle.lane_turns.proofs.PenLemmas.{entries-append, gone_nowhere, gone_on, may_go_less}
+use Rattle.lane_turns.proofs.PenLemmas.{gone_nowhere, gone_on, may_go_less}
 
 -- some completions, and then others
 told-append : (script : ScriptModel) (told : Bool) (from : ReactorHalf) (xs : List Labelled) {ys : List Labelled} →

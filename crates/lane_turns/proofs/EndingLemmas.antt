@@ -12,13 +12,13 @@ use Rattle.lane_clock.specs.declared.found.Found.{Found}
 use Rattle.lane_clock.specs.Seats.{ClockId, Owns, SeatView}
 use Rattle.lane_map.specs.LaneNumbers.{reactor_lane}
 use Rattle.lane_map.proofs.NumberLemmas as lane_numbers
-use Rattle.lane_turns.specs.declared.log.LogEntry.{LogEntry}
+use Rattle.lane_logs.specs.declared.log.LogEntry.{LogEntry}
+use Rattle.lane_logs.specs.Names.{SessionNames}
+use Rattle.lane_logs.specs.SeatNumbers.{lane_count, worker_count}
 use Rattle.lane_turns.specs.Batons.{BatonView, IsHandlerBaton, IsLane, LaneView}
 use Rattle.lane_turns.specs.Finishing.{AreClosed, lanes_in, pens_of}
-use Rattle.lane_turns.specs.Names.{SessionNames}
 use Rattle.lane_turns.specs.Openers.{OpenerView}
 use Rattle.lane_turns.specs.Pens.{PenView, no_pen}
-use Rattle.lane_turns.specs.SeatNumbers.{lane_count, worker_count}
 use Rattle.lane_turns.specs.Workers.{IsWorker, WorkerView}
 use Rattle.lane_turns.proofs.FinishLemmas.{HaveLeft, entry_is, lane_pen, none_lane, none_worker, pen_count, worker_pen}
 

@@ -8,12 +8,13 @@ use Rattle.lane_clock.specs.declared.step.ClockStep.TheVariants.{Draw}
 use Rattle.lane_clock.specs.Seats.{Remembers, SeatView, own}
 use Rattle.lane_clock.specs.Steps.{draw_count, step_count}
 use Rattle.lane_clock.proofs.KeepLemmas.{start_trans}
+use Rattle.lane_logs.specs.Cuts.{EventsAreCuts, IsCut, IsEventAt}
+use Rattle.lane_logs.specs.Knowing.{lists_of}
+use Rattle.lane_logs.specs.SeatNumbers.{lane_count, opener_seat, worker_count}
 use Rattle.lane_turns.specs.Attending.{AreHeard, HasAttended, HasDrawnLast, HasGoneOn, HaveAttended}
 use Rattle.lane_turns.specs.Benches.{AreLanes, AreWorkers, IsRow}
-use Rattle.lane_turns.specs.Cuts.{EventsAreCuts, IsCut, IsEventAt}
-use Rattle.lane_turns.specs.Meeting.{KnowsByJoins, lists_of}
+use Rattle.lane_turns.specs.Meeting.{KnowsByJoins}
 use Rattle.lane_turns.specs.Openers.{OpenerView}
-use Rattle.lane_turns.specs.SeatNumbers.{lane_count, opener_seat, worker_count}
 use Rattle.lane_turns.proofs.AttendingLemmas.{on_and_on, on_same}
 use Rattle.lane_turns.proofs.CutLemmas.{cut_made, cut_outlives}
 use Rattle.lane_turns.proofs.EventIndexLemmas.{event_before, index_within}

@@ -14,14 +14,14 @@ use Rattle.lane_clock.specs.declared.step.ClockStep.TheVariants.{Draw}
 use Rattle.lane_clock.specs.Knowledge.{StartOf}
 use Rattle.lane_clock.specs.Seats.{SeatView, own}
 use Rattle.lane_clock.specs.Steps.{draw_count, step_count}
+use Rattle.lane_logs.specs.Cuts.{IsEventAt}
+use Rattle.lane_logs.specs.Knowing.{lists_of}
+use Rattle.lane_logs.specs.SeatNumbers.{opener_seat}
+use Rattle.lane_logs.specs.Stand.{Stand, first_stand, stand_of}
+use Rattle.lane_logs.proofs.StandLemmas.{opening_passed}
 use Rattle.lane_turns.specs.Attending.{HasDrawnLast}
-use Rattle.lane_turns.specs.Cuts.{IsEventAt}
-use Rattle.lane_turns.specs.Meeting.{lists_of}
-use Rattle.lane_turns.specs.SeatNumbers.{opener_seat}
-use Rattle.lane_turns.specs.Stand.{Stand, first_stand, stand_of}
 use Rattle.lane_turns.proofs.GrowingLemmas.{take_start}
 use Rattle.lane_turns.proofs.PenLemmas.{step_count-append}
-use Rattle.lane_turns.proofs.StandLemmas.{opening_passed}
 
 pub index_within : (xs : List ClockStep) (i : ℕ) (step : ClockStep) → get_elem? xs i ≡ some step → i < length xs
 index_within [] i step is = absurd (some-ne-none step (sym is))

@@ -17,20 +17,21 @@ use Rattle.lane_clock.specs.Knowledge.{StartOf}
 use Rattle.lane_clock.specs.Seats.{ClockId, Remembers, SeatView, own}
 use Rattle.lane_clock.specs.Steps.{draw_count, step_count}
 use Rattle.lane_clock.proofs.KeepLemmas.{start_same, start_trans}
+use Rattle.lane_logs.specs.Cuts.{EventsAreCuts, HasStarted}
+use Rattle.lane_logs.specs.Knowing.{joined_count, lists_of}
+use Rattle.lane_logs.specs.Labels.{AreDrawn, none_drawn, one_drawn, IsDrawn, begins, posts, dispatches, stops_context, returns, ends, Labelled, shows, entries_in, steps_in}
+use Rattle.lane_logs.specs.OpenerLog.{AreOpenerParts, IsRestingStep, Looked, MayFollowOpened, OpenerPart, resting, opened, restarted, closed, closing_change, labels_of_opener, look_label, opener_labels, opener_steps}
+use Rattle.lane_logs.specs.Calls.{called_each}
+use Rattle.lane_logs.specs.SeatNumbers.{lane_count, opener_seat, worker_count}
+use Rattle.lane_logs.specs.Stand.{first_stand}
+use Rattle.lane_logs.proofs.OpeningLemmas.{called_sum}
+use Rattle.lane_logs.proofs.LabelLemmas.{entries-append, steps-append}
 use Rattle.lane_turns.specs.declared.closing.Closing.{Closing}
 use Rattle.lane_turns.specs.Attending.{AreHeard, HasDrawnLast, HaveAttended}
 use Rattle.lane_turns.specs.Benches.{AreLanes, AreStartedAt, AreWorkers, HaveAllMet, HaveAllStarted, IsRow, places_of}
-use Rattle.lane_turns.specs.Cuts.{EventsAreCuts, HasStarted}
-use Rattle.lane_turns.specs.Knowing.{joined_count}
-use Rattle.lane_turns.specs.Labels.{AreDrawn, none_drawn, one_drawn, IsDrawn, begins, posts, dispatches, stops_context, returns, ends, Labelled, shows, entries_in, steps_in}
-use Rattle.lane_turns.specs.Meeting.{lists_of}
 use Rattle.lane_turns.specs.OpenerEvents.{HasClosed, HasOpened, HasRestarted, HasWaited, closing_labels, weighing_labels}
-use Rattle.lane_turns.specs.OpenerLog.{AreOpenerParts, IsRestingStep, Looked, MayFollowOpened, OpenerPart, resting, opened, restarted, closed, closing_change, labels_of_opener, look_label, opener_labels, opener_steps}
 use Rattle.lane_turns.specs.Openers.{IsOpener, OpenerView}
-use Rattle.lane_turns.specs.Opening.{called_each}
 use Rattle.lane_turns.specs.Pens.{HasGone}
-use Rattle.lane_turns.specs.SeatNumbers.{lane_count, opener_seat, worker_count}
-use Rattle.lane_turns.specs.Stand.{first_stand}
 use Rattle.lane_turns.proofs.AttendingLemmas.{on_and_on}
 use Rattle.lane_turns.proofs.BenchLemmas.{place_at}
 use Rattle.lane_turns.proofs.DrawnLastLemmas.{closing_last, drawn_last}
@@ -41,8 +42,7 @@ use Rattle.lane_turns.proofs.LaneStartedLemmas.{started_start}
 use Rattle.lane_turns.proofs.MeetingLemmas.{met_number}
 use Rattle.lane_turns.proofs.OpenerEventLemmas.{closing_quiet, looks_draws, looks_entries, looks_quiet}
 use Rattle.lane_turns.proofs.OpenerLemmas.{gone_grows, own_steps}
-use Rattle.lane_turns.proofs.OpeningLemmas.{called_sum}
-use Rattle.lane_turns.proofs.PenLemmas.{entries-append, step_count-append, steps-append}
+use Rattle.lane_turns.proofs.PenLemmas.{step_count-append}
 use Rattle.lane_turns.proofs.SteppingLemmas.{stepped_number}
 
 -- the opener knows after its event what it knew before

@@ -3,7 +3,7 @@ use Rattle.std.proofs.Common.{◌≡◌, ℕ, List, [], sym, subst}
 use Rattle.session_script.specs.Script.{ScriptModel}
 use Rattle.strand_core.specs.declared.posted.Posted.{Posted}
 use Rattle.lane_clock.specs.Seats.{ClockId}
-use Rattle.lane_turns.specs.Labels.{none_drawn}
+use Rattle.lane_logs.specs.Labels.{none_drawn}
 use Rattle.lane_turns.specs.Pens.{HasDrawnCalls, PenView}
 use Rattle.lane_turns.specs.Posting.{FitsClock, IsPosting}
 use Rattle.lane_turns.proofs.PenLemmas.{gone_nowhere}

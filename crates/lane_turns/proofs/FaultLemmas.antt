@@ -11,14 +11,14 @@ use Rattle.lane_clock.specs.declared.step.ClockStep.TheVariants.{Load}
 use Rattle.lane_clock.specs.Knowledge.{StartOf}
 use Rattle.lane_clock.specs.Seats.{ClockId, own}
 use Rattle.lane_map.specs.LaneNumbers.{reactor_lane}
-use Rattle.lane_turns.specs.declared.log.LogEntry.{LogEntry}
+use Rattle.lane_logs.specs.declared.log.LogEntry.{LogEntry}
+use Rattle.lane_logs.specs.Cuts.{NoneStops, is_stop_draw}
+use Rattle.lane_logs.specs.Labels.{Labelled, entries_in, events_in, silent}
+use Rattle.lane_logs.specs.LaneLog.{AreParts}
+use Rattle.lane_logs.specs.Names.{SessionNames}
+use Rattle.lane_logs.specs.Parts.{Part, TurnEnd, are_broken, end_labels, executed, failed, fails, fault_label, idle, is_failing, labels_in, labels_of, looks_empty, missing, start_labels, tells, turned}
+use Rattle.lane_logs.proofs.LabelLemmas.{entries-append}
 use Rattle.lane_turns.specs.Batons.{IsLane, LaneView, opener_known}
-use Rattle.lane_turns.specs.Cuts.{NoneStops, is_stop_draw}
-use Rattle.lane_turns.specs.Labels.{Labelled, entries_in, events_in, silent}
-use Rattle.lane_turns.specs.LaneLog.{AreParts}
-use Rattle.lane_turns.specs.Names.{SessionNames}
-use Rattle.lane_turns.specs.Parts.{Part, TurnEnd, are_broken, end_labels, executed, failed, fails, fault_label, idle, is_failing, labels_in, labels_of, looks_empty, missing, start_labels, tells, turned}
-use Rattle.lane_turns.proofs.PenLemmas.{entries-append}
 use Rattle.lane_turns.proofs.ReactorStopLemmas.{all_go_on}
 
 -- whether the entries of these steps have a failure

@@ -16,25 +16,24 @@ use Rattle.lane_clock.specs.Knowledge.{StartOf}
 use Rattle.lane_clock.specs.Seats.{ClockId, SeatView, copy_seat, own}
 use Rattle.lane_map.specs.LaneNumbers.{reactor_lane}
 use Rattle.lane_map.proofs.NumberLemmas as lane_numbers
-use Rattle.lane_turns.specs.declared.log.LogEntry.{LogEntry}
+use Rattle.lane_logs.specs.declared.log.LogEntry.{LogEntry}
+use Rattle.lane_logs.specs.Cuts.{EventsAreCuts}
+use Rattle.lane_logs.specs.Drops.{drops_of}
+use Rattle.lane_logs.specs.Knowing.{joined_count, lists_of}
+use Rattle.lane_logs.specs.Labels.{events_in}
+use Rattle.lane_logs.specs.LaneLog.{IsLaneLog}
+use Rattle.lane_logs.specs.Logs.{AreLogs, LogsView, all_events, session_layout}
+use Rattle.lane_logs.specs.Names.{SessionNames}
+use Rattle.lane_logs.specs.OpenerLog.{IsOpenerLog}
+use Rattle.lane_logs.specs.SeatNumbers.{IsWorkerSeat, lane_count, opener_seat, worker_count}
+use Rattle.lane_logs.specs.Stand.{Stand, stand_of}
+use Rattle.lane_logs.specs.WorkerLog.{IsWorkerLog}
 use Rattle.lane_turns.specs.Batons.{IsLane, LaneView, opener_known}
-use Rattle.lane_turns.specs.Cuts.{EventsAreCuts}
-use Rattle.lane_turns.specs.Drops.{drops_of}
 use Rattle.lane_turns.specs.Finishing.{AreClosed, IsOver, pens_of}
-use Rattle.lane_turns.specs.Knowing.{joined_count}
 use Rattle.lane_turns.specs.KnownFaults.{KnowsFault}
-use Rattle.lane_turns.specs.Labels.{events_in}
-use Rattle.lane_turns.specs.LaneLog.{IsLaneLog}
-use Rattle.lane_turns.specs.Logs.{AreLogs, LogsView, all_events, session_layout}
-use Rattle.lane_turns.specs.Meeting.{lists_of}
-use Rattle.lane_turns.specs.Names.{SessionNames}
-use Rattle.lane_turns.specs.OpenerLog.{IsOpenerLog}
 use Rattle.lane_turns.specs.Openers.{OpenerView}
 use Rattle.lane_turns.specs.Pens.{PenView, no_pen}
-use Rattle.lane_turns.specs.SeatNumbers.{IsWorkerSeat, lane_count, opener_seat, worker_count}
-use Rattle.lane_turns.specs.Stand.{Stand, stand_of}
 use Rattle.lane_turns.specs.TakingIn.{IsTakenIn}
-use Rattle.lane_turns.specs.WorkerLog.{IsWorkerLog}
 use Rattle.lane_turns.specs.Workers.{IsWorker, WorkerView}
 use Rattle.lane_turns.proofs.FaultLemmas.{fault_shown}
 use Rattle.lane_turns.proofs.GrowingLemmas.{log_grows}

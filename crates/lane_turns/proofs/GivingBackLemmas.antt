@@ -5,8 +5,8 @@ use Rattle.asio_types.specs.Faults.{Rose}
 use Rattle.history_rules.specs.State.{ReactorHalf}
 use Rattle.reactor_trait.specs.Reactor.{Outside, ReactorState}
 use Rattle.proactor_core.specs.Proactor.{Follows, IsSound, ProactorView, StandsAt, tells}
+use Rattle.lane_logs.specs.Names.{SessionNames}
 use Rattle.lane_turns.specs.Finishing.{IsGivenBack}
-use Rattle.lane_turns.specs.Names.{SessionNames}
 use Rattle.lane_turns.specs.Turning.{KeepsTurns}
 
 pub given_back : {X : Type 0} (names : SessionNames) (state : X → ReactorState) (told : X → Option Outside)

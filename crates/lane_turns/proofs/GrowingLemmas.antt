@@ -5,17 +5,17 @@ use Rattle.std.proofs.lemmas.List.{take-append-le}
 use Rattle.lane_clock.specs.declared.step.ClockStep.{ClockStep}
 use Rattle.lane_clock.specs.declared.step.ClockStep.TheVariants.{Draw, Load, Place, Put, Look, Join}
 use Rattle.lane_clock.specs.Knowledge.{StartOf}
-use Rattle.lane_turns.specs.declared.log.LogEntry.{LogEntry}
-use Rattle.lane_turns.specs.Knowing.{joined_count}
-use Rattle.lane_turns.specs.Labels.{steps_in}
-use Rattle.lane_turns.specs.LaneLog.{AreParts, IsIdleStep, IsLaneLog, MayFollow, half_after, opener_after, steps_after}
-use Rattle.lane_turns.specs.Names.{SessionNames}
-use Rattle.lane_turns.specs.Parts.{Part, executed, failed, idle, missing, turned, labels_in, labels_of}
-use Rattle.lane_turns.specs.ReactorTurns.{MayStartTurn}
-use Rattle.lane_turns.specs.SeatNumbers.{opener_seat}
-use Rattle.lane_turns.specs.Stand.{base_of, is_running_round}
+use Rattle.lane_logs.specs.declared.log.LogEntry.{LogEntry}
+use Rattle.lane_logs.specs.Knowing.{joined_count}
+use Rattle.lane_logs.specs.Labels.{steps_in}
+use Rattle.lane_logs.specs.LaneLog.{AreParts, IsIdleStep, IsLaneLog, MayFollow, half_after, opener_after, steps_after}
+use Rattle.lane_logs.specs.Names.{SessionNames}
+use Rattle.lane_logs.specs.Parts.{Part, executed, failed, idle, missing, turned, labels_in, labels_of}
+use Rattle.lane_logs.specs.ReactorTurns.{MayStartTurn}
+use Rattle.lane_logs.specs.SeatNumbers.{opener_seat}
+use Rattle.lane_logs.specs.Stand.{base_of, is_running_round}
+use Rattle.lane_logs.proofs.LabelLemmas.{steps-append}
 use Rattle.lane_turns.proofs.MeetingLemmas.{joined_less}
-use Rattle.lane_turns.proofs.PenLemmas.{steps-append}
 
 -- of the first steps that were known no more are known
 pub take_start : (k : ℕ) (xs all : List ClockStep) → StartOf xs all → k ≤ length xs → take k all ≡ take k xs

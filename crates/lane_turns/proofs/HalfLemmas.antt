@@ -13,12 +13,12 @@ use Rattle.lane_clock.specs.declared.found.Change.{Change}
 use Rattle.lane_clock.specs.declared.found.Found.{Found}
 use Rattle.lane_clock.specs.Steps.{draw_count, place_count, step_count}
 use Rattle.lane_map.specs.LaneNumbers.{cells_of, home_lane}
-use Rattle.lane_turns.specs.declared.log.LogEntry.{LogEntry}
-use Rattle.lane_turns.specs.Half.{half_from}
-use Rattle.lane_turns.specs.Labels.{Labelled, shows, entries_in, steps_in}
-use Rattle.lane_turns.specs.Names.{SessionNames}
+use Rattle.lane_logs.specs.declared.log.LogEntry.{LogEntry}
+use Rattle.lane_logs.specs.Half.{half_from}
+use Rattle.lane_logs.specs.Labels.{Labelled, shows, entries_in, steps_in}
+use Rattle.lane_logs.specs.Names.{SessionNames}
+use Rattle.lane_logs.specs.ReactorTurns.{done_labels, done_note}
 use Rattle.lane_turns.specs.Pens.{HasGone, PenView}
-use Rattle.lane_turns.specs.ReactorTurns.{done_labels, done_note}
 use Rattle.lane_turns.specs.Turning.{HasTurnRoom, log_half}
 use Rattle.lane_turns.proofs.PenLemmas.{may_go_on}
 use Rattle.lane_turns.proofs.PostingLemmas.{put_draws, put_entries, put_places}

@@ -7,17 +7,18 @@ use Rattle.lane_clock.specs.declared.found.Found.{Found}
 use Rattle.lane_clock.specs.declared.step.ClockStep.{ClockStep}
 use Rattle.lane_clock.specs.Knowledge.{StartOf}
 use Rattle.lane_clock.specs.Seats.{ClockId, Remembers, SeatView, copy_seat, own}
-use Rattle.lane_turns.specs.declared.log.LogEntry.{LogEntry}
-use Rattle.lane_turns.specs.AtRest.{HasHeardPens, RestsFrom}
+use Rattle.lane_logs.specs.declared.log.LogEntry.{LogEntry}
+use Rattle.lane_logs.specs.AtRest.{RestsFrom}
+use Rattle.lane_logs.specs.Logs.{LogsView}
+use Rattle.lane_logs.specs.Knowing.{lists_of}
+use Rattle.lane_logs.specs.Names.{SessionNames}
+use Rattle.lane_logs.specs.SeatNumbers.{lane_count, opener_seat}
+use Rattle.lane_turns.specs.AtRest.{HasHeardPens}
 use Rattle.lane_turns.specs.Batons.{LaneView}
 use Rattle.lane_turns.specs.Finishing.{AreClosed, pens_of}
 use Rattle.lane_turns.specs.KeptSteps.{KeepStepsOf}
-use Rattle.lane_turns.specs.Logs.{LogsView}
-use Rattle.lane_turns.specs.Meeting.{lists_of}
-use Rattle.lane_turns.specs.Names.{SessionNames}
 use Rattle.lane_turns.specs.Openers.{OpenerView}
 use Rattle.lane_turns.specs.Pens.{PenView, no_pen}
-use Rattle.lane_turns.specs.SeatNumbers.{lane_count, opener_seat}
 use Rattle.lane_turns.specs.TakingIn.{IsTakenIn}
 use Rattle.lane_turns.specs.Workers.{WorkerView}
 use Rattle.lane_turns.proofs.AllWorkersLemmas.{image_at}

@@ -6,17 +6,18 @@ use Rattle.std.specs.Option.{option_or}
 use Rattle.lane_clock.specs.declared.found.Found.{Found}
 use Rattle.lane_clock.specs.declared.step.ClockStep.{ClockStep}
 use Rattle.lane_clock.specs.Seats.{ClockId, SeatView, own}
-use Rattle.lane_turns.specs.declared.log.LogEntry.{LogEntry}
+use Rattle.lane_logs.specs.declared.log.LogEntry.{LogEntry}
+use Rattle.lane_logs.specs.Knowing.{joined_count}
+use Rattle.lane_logs.specs.Labels.{Labelled, entries_in, steps_in}
+use Rattle.lane_logs.specs.LaneLog.{AreParts, FoundGoing, IsLaneLog, MayFollow, opener_after, steps_after}
+use Rattle.lane_logs.specs.Names.{SessionNames}
+use Rattle.lane_logs.specs.Parts.{Part, labels_in, labels_of, missed_in, next_place}
+use Rattle.lane_logs.specs.SeatNumbers.{opener_seat}
+use Rattle.lane_logs.specs.Stand.{base_of, is_running_round}
+use Rattle.lane_logs.proofs.LabelLemmas.{entries-append, steps-append}
 use Rattle.lane_turns.specs.Batons.{IsLane, LaneView, opener_known}
-use Rattle.lane_turns.specs.Knowing.{joined_count}
-use Rattle.lane_turns.specs.Labels.{Labelled, entries_in, steps_in}
-use Rattle.lane_turns.specs.LaneLog.{AreParts, FoundGoing, IsLaneLog, MayFollow, opener_after, steps_after}
-use Rattle.lane_turns.specs.Names.{SessionNames}
-use Rattle.lane_turns.specs.Parts.{Part, labels_in, labels_of, missed_in, next_place}
 use Rattle.lane_turns.specs.Pens.{HasGone, PenView}
-use Rattle.lane_turns.specs.SeatNumbers.{opener_seat}
-use Rattle.lane_turns.specs.Stand.{base_of, is_running_round}
-use Rattle.lane_turns.proofs.PenLemmas.{entries-append, gone_clock, steps-append}
+use Rattle.lane_turns.proofs.PenLemmas.{gone_clock}
 use Rattle.lane_turns.proofs.SteppingLemmas.{joined_on, knows_all, opener_same, stepped_number}
 
 module _ (names : SessionNames) (opener : List ClockStep) (lane : ℕ) where

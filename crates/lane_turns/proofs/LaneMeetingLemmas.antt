@@ -6,15 +6,16 @@ use Rattle.lane_clock.specs.Knowledge.{StartOf, counts}
 use Rattle.lane_clock.specs.Seats.{ClockId, SeatView, copy_seat, own}
 use Rattle.lane_clock.proofs.KeepLemmas.{start_same}
 use Rattle.session_script.specs.Script.{ScriptModel}
+use Rattle.lane_logs.specs.LaneLog.{IsLaneLog}
+use Rattle.lane_logs.specs.Knowing.{lists_of}
+use Rattle.lane_logs.specs.Names.{SessionNames}
+use Rattle.lane_logs.specs.Parts.{idle, next_place}
+use Rattle.lane_logs.specs.SeatNumbers.{opener_seat}
+use Rattle.lane_logs.specs.Stand.{base_of, is_running_round}
 use Rattle.lane_turns.specs.Batons.{IsLane, LaneView, opener_known}
-use Rattle.lane_turns.specs.LaneLog.{IsLaneLog}
-use Rattle.lane_turns.specs.Meeting.{HasMet, PenHasMet, lists_of}
-use Rattle.lane_turns.specs.Names.{SessionNames}
+use Rattle.lane_turns.specs.Meeting.{HasMet, PenHasMet}
 use Rattle.lane_turns.specs.Openers.{in_round, round_after}
-use Rattle.lane_turns.specs.Parts.{idle, next_place}
 use Rattle.lane_turns.specs.Pens.{PenView}
-use Rattle.lane_turns.specs.SeatNumbers.{opener_seat}
-use Rattle.lane_turns.specs.Stand.{base_of, is_running_round}
 use Rattle.lane_turns.proofs.LaneStepLemmas.{or_none}
 use Rattle.lane_turns.proofs.GrowingLemmas.{log_grows}
 use Rattle.lane_turns.proofs.LaneLogLemmas.{part_log}

@@ -15,14 +15,14 @@ use Rattle.lane_clock.specs.declared.step.ClockStep.{ClockStep}
 use Rattle.lane_clock.specs.declared.step.ClockStep.TheVariants.{Draw, Load, Look}
 use Rattle.lane_clock.specs.Knowledge.{StartOf}
 use Rattle.lane_clock.specs.Seats.{ClockId, own}
+use Rattle.lane_logs.specs.Cuts.{HasStarted, HaveStarted}
+use Rattle.lane_logs.specs.Labels.{AreDrawn, none_drawn, one_drawn, IsDrawn, begins, posts, dispatches, stops_context, returns, ends, Labelled, steps_in}
+use Rattle.lane_logs.specs.LaneLog.{AreParts, MayFollow, steps_after}
+use Rattle.lane_logs.specs.Names.{SessionNames}
+use Rattle.lane_logs.specs.Parts.{Part, idle, executed, turned, failed, missing, TurnStart, takes, passes, end_labels, labels_in, labels_of, next_place, places_used, start_labels, takes_place}
+use Rattle.lane_logs.proofs.LabelLemmas.{steps-append}
 use Rattle.lane_turns.specs.Batons.{IsLane, LaneView, opener_known}
-use Rattle.lane_turns.specs.Cuts.{HasStarted, HaveStarted}
-use Rattle.lane_turns.specs.Labels.{AreDrawn, none_drawn, one_drawn, IsDrawn, begins, posts, dispatches, stops_context, returns, ends, Labelled, steps_in}
-use Rattle.lane_turns.specs.LaneLog.{AreParts, MayFollow, steps_after}
-use Rattle.lane_turns.specs.Names.{SessionNames}
-use Rattle.lane_turns.specs.Parts.{Part, idle, executed, turned, failed, missing, TurnStart, takes, passes, end_labels, labels_in, labels_of, next_place, places_used, start_labels, takes_place}
 use Rattle.lane_turns.proofs.CutLemmas.{at_back, at_start}
-use Rattle.lane_turns.proofs.PenLemmas.{steps-append}
 
 -- what was started stays so in a longer list, and behind other steps
 pub started_start : (xs all : List ClockStep) (lane place : ℕ) → StartOf xs all → HasStarted xs lane place →

@@ -8,15 +8,15 @@ use Rattle.lane_clock.specs.declared.step.ClockStep.{ClockStep}
 use Rattle.lane_clock.specs.declared.step.ClockStep.TheVariants.{Load, Look}
 use Rattle.lane_clock.specs.Seats.{ClockId, own}
 use Rattle.lane_map.specs.LaneNumbers.{reactor_lane}
+use Rattle.lane_logs.specs.Half.{half_of}
+use Rattle.lane_logs.specs.Labels.{silent}
+use Rattle.lane_logs.specs.LaneLog.{may_execute}
+use Rattle.lane_logs.specs.Names.{SessionNames}
+use Rattle.lane_logs.specs.Parts.{are_broken, idle, looks_full, missing, next_place}
+use Rattle.lane_logs.specs.ReactorTurns.{may_take}
 use Rattle.lane_turns.specs.Batons.{IsLane, LaneView, opener_known}
-use Rattle.lane_turns.specs.Half.{half_of}
-use Rattle.lane_turns.specs.Labels.{silent}
-use Rattle.lane_turns.specs.LaneLog.{may_execute}
-use Rattle.lane_turns.specs.Names.{SessionNames}
-use Rattle.lane_turns.specs.Parts.{are_broken, idle, looks_full, missing, next_place}
 use Rattle.lane_turns.specs.Pens.{HasGone, PenView}
 use Rattle.lane_turns.specs.Polling.{left_labels, missed_too, with_pen}
-use Rattle.lane_turns.specs.ReactorTurns.{may_take}
 use Rattle.lane_turns.specs.Turning.{log_half}
 use Rattle.lane_turns.proofs.LaneLogLemmas.{lane_goes_on, part_log, parts_log}
 

@@ -13,13 +13,13 @@ use Rattle.session_script.specs.Script.{is_op}
 use Rattle.lane_map.specs.LaneNumbers.{home_lane, is_op_on, reactor_lane}
 use Rattle.lane_clock.specs.Seats.{ClockId}
 use Rattle.strand_core.specs.Hands.{Held, held_at}
-use Rattle.lane_turns.specs.declared.log.LogEntry.{LogEntry}
+use Rattle.lane_logs.specs.declared.log.LogEntry.{LogEntry}
+use Rattle.lane_logs.specs.Drops.{has_call, is_left}
+use Rattle.lane_logs.specs.Labels.{events_in}
+use Rattle.lane_logs.specs.LaneLog.{has_begun, is_begin_of}
+use Rattle.lane_logs.specs.Names.{SessionNames}
 use Rattle.lane_turns.specs.Batons.{BatonView, HaveHands, IsHandlerBaton}
 use Rattle.lane_turns.specs.Discarding.{IsDiscarding, held_in, held_on}
-use Rattle.lane_turns.specs.Drops.{has_call, is_left}
-use Rattle.lane_turns.specs.Labels.{events_in}
-use Rattle.lane_turns.specs.LaneLog.{has_begun, is_begin_of}
-use Rattle.lane_turns.specs.Names.{SessionNames}
 use Rattle.lane_turns.specs.Pens.{no_pen}
 
 none_first : (b c : Bool) → (b || c) ≡ false → b ≡ false

@@ -60,7 +60,6 @@ pub mod RoomLemmas
 pub mod ScanLemmas
 pub mod SeeingLemmas
 pub mod ShuttingLemmas
-pub mod StandLemmas
 pub mod SteppingLemmas
 pub mod TakingInLemmas
 pub mod TakingLemmas

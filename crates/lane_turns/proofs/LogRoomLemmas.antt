@@ -19,9 +19,9 @@ use Rattle.reactor_turns.proofs.SummingLemmas.{summed, summed-both, summed-less,
 use Rattle.lane_map.specs.LaneNumbers.{has_own_lane, home_lane, is_op_on, lane_list, reactor_lane}
 use Rattle.lane_map.proofs.CountLemmas.{passing_fits}
 use Rattle.lane_map.proofs.NumberLemmas.{lane_count}
+use Rattle.lane_logs.specs.Stand.{draws_of_call, first_stand}
 use Rattle.lane_turns.specs.Firsts.{RoomsFit}
 use Rattle.lane_turns.specs.Rooms.{lane_room, lane_rooms}
-use Rattle.lane_turns.specs.Stand.{draws_of_call, first_stand}
 
 -- the acts of one place, each with at most three
 numbers_by : (w : ℕ → ℕ) (here : Bool) (n k : ℕ) (rest : List ℕ) → w n ≤ 3 → sum_by w rest ≤ 3 * k →

@@ -9,13 +9,13 @@ use Rattle.lane_clock.specs.declared.found.Found.{Found}
 use Rattle.lane_clock.specs.declared.note.Note.{Note}
 use Rattle.lane_clock.specs.declared.step.ClockStep.TheVariants.{Load, Look}
 use Rattle.lane_map.specs.LaneNumbers.{cells_of}
+use Rattle.lane_logs.specs.Labels.{shows, silent}
+use Rattle.lane_logs.specs.OpenerLog.{Looked, closing_change, look_label}
+use Rattle.lane_logs.specs.Parts.{looks_empty, looks_full}
 use Rattle.lane_turns.specs.declared.closing.Closing.{Closing}
 use Rattle.lane_turns.specs.declared.standing.RoundNow.{RoundNow}
 use Rattle.lane_turns.specs.Closing.{HasSeen, HasWeighed, HaveLooked, Weighs, closing_event}
-use Rattle.lane_turns.specs.Labels.{shows, silent}
 use Rattle.lane_turns.specs.OpenerEvents.{closing_labels, weighing_labels}
-use Rattle.lane_turns.specs.OpenerLog.{Looked, closing_change, look_label}
-use Rattle.lane_turns.specs.Parts.{looks_empty, looks_full}
 use Rattle.lane_turns.specs.Pens.{HasGone, PenView}
 use Rattle.lane_turns.proofs.AttendingLemmas.{at_or_before}
 use Rattle.lane_turns.proofs.PenLemmas.{gone_nowhere, gone_on}

@@ -3,9 +3,9 @@ use Rattle.std.proofs.Common.{◌≡◌, ℕ, ◌+◌, List, [], ◌∷◌, Opti
 use Rattle.std.specs.Prelude.{map}
 use Rattle.lane_clock.specs.declared.note.Note.{Note}
 use Rattle.lane_clock.specs.Steps.{draw_count, place_count, step_count}
-use Rattle.lane_turns.specs.Knowing.{joined_count}
-use Rattle.lane_turns.specs.Labels.{entries_in, steps_in}
-use Rattle.lane_turns.specs.OpenerLog.{Looked, look_label}
+use Rattle.lane_logs.specs.Knowing.{joined_count}
+use Rattle.lane_logs.specs.Labels.{entries_in, steps_in}
+use Rattle.lane_logs.specs.OpenerLog.{Looked, look_label}
 use Rattle.lane_turns.specs.Receipts.{looks_from}
 
 pub looks_quiet : (n lane place : ℕ) (seen : List (Option Note)) →

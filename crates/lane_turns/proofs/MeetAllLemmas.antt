@@ -8,12 +8,12 @@ use Rattle.lane_clock.specs.Seats.{Remembers, SeatView, own}
 use Rattle.lane_clock.proofs.KeepLemmas.{start_trans}
 use Rattle.lane_map.specs.LaneNumbers.{reactor_lane}
 use Rattle.lane_map.proofs.NumberLemmas.{lane_count as lanes_and_reactor}
+use Rattle.lane_logs.specs.Knowing.{lists_of}
 use Rattle.lane_turns.specs.Attending.{AreHeard, HasAttended, HasGoneOn, HaveAttended, KnowsAllOf}
 use Rattle.lane_turns.specs.Benches.{AreLanes}
 use Rattle.lane_turns.specs.ClosingTries.{HasHeardFailure}
 use Rattle.lane_turns.specs.KnownFaults.{KnowsFault, ReactorFailed, SomeStop}
 use Rattle.lane_turns.specs.LaneValues.{Terms}
-use Rattle.lane_turns.specs.Meeting.{lists_of}
 use Rattle.lane_turns.specs.Openers.{OpenerView}
 use Rattle.lane_turns.proofs.AttendingLemmas.{on_and_on}
 use Rattle.lane_turns.proofs.MeetingLemmas.{copied_steps}

@@ -12,10 +12,10 @@ use Rattle.lane_clock.specs.declared.step.ClockStep.{ClockStep}
 use Rattle.lane_clock.specs.declared.step.ClockStep.TheVariants.{Join}
 use Rattle.lane_clock.specs.Knowledge.{StartOf, counts}
 use Rattle.lane_clock.specs.Seats.{Owns, SeatView, copy_seat, own}
+use Rattle.lane_logs.specs.Cuts.{HasStarted, HaveStarted, NoneStops, is_stop_draw}
+use Rattle.lane_logs.specs.Knowing.{lists_of}
 use Rattle.lane_turns.specs.Attending.{AreHeard, IsHeard}
 use Rattle.lane_turns.specs.Benches.{HaveAllStarted, IsRow, places_of}
-use Rattle.lane_turns.specs.Cuts.{HasStarted, HaveStarted, NoneStops, is_stop_draw}
-use Rattle.lane_turns.specs.Meeting.{lists_of}
 use Rattle.lane_turns.specs.Openers.{HaveMet, OpenerView}
 use Rattle.lane_turns.proofs.AttendingLemmas.{get_set_other, get_set_same, heard_now, heard_on, on_heard}
 use Rattle.lane_turns.proofs.BenchLemmas.{same_one}

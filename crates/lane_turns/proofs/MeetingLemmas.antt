@@ -11,8 +11,8 @@ use Rattle.lane_clock.specs.Seats.{Owns, SeatView, own}
 use Rattle.lane_clock.specs.Steps.{draw_count, place_count, step_count}
 use Rattle.lane_clock.proofs.JoinLemmas.{joined_at}
 use Rattle.lane_clock.proofs.KnownLemmas.{stepped_other}
-use Rattle.lane_turns.specs.Knowing.{joined_count}
-use Rattle.lane_turns.specs.Meeting.{HasMet, KnowsByJoins, PenHasMet, lists_of}
+use Rattle.lane_logs.specs.Knowing.{joined_count, lists_of}
+use Rattle.lane_turns.specs.Meeting.{HasMet, KnowsByJoins, PenHasMet}
 use Rattle.lane_turns.specs.Pens.{MayGo, PenView}
 use Rattle.lane_turns.proofs.PenLemmas.{step_count-append}
 

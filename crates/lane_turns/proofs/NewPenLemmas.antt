@@ -7,7 +7,7 @@ use Rattle.std.proofs.Math.Seq.{get_or-append_seam}
 use Rattle.std.proofs.lemmas.List.{get_or-map, length-map, map-append}
 use Rattle.std.proofs.lemmas.Option.{get_or_from_slice_get, slice_get_within}
 use Rattle.lane_clock.specs.Seats.{ClockId}
-use Rattle.lane_turns.specs.declared.log.LogEntry.{LogEntry}
+use Rattle.lane_logs.specs.declared.log.LogEntry.{LogEntry}
 use Rattle.lane_turns.specs.Pens.{PenView}
 use Rattle.lane_turns.specs.Rooms.{AreNewLogs, AreNewPens, EachAt, IsNewPen}
 

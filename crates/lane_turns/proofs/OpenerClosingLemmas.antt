@@ -7,23 +7,23 @@ use Rattle.lane_clock.specs.declared.found.Found.{Found}
 use Rattle.lane_clock.specs.declared.step.ClockStep.TheVariants.{Load}
 use Rattle.lane_clock.specs.Seats.{ClockId}
 use Rattle.lane_map.specs.LaneNumbers.{reactor_lane}
+use Rattle.lane_logs.specs.Cuts.{NoneStops}
+use Rattle.lane_logs.specs.Labels.{shows, silent}
+use Rattle.lane_logs.specs.Knowing.{lists_of}
+use Rattle.lane_logs.specs.OpenerLog.{closing_change}
+use Rattle.lane_logs.specs.SeatNumbers.{lane_count}
+use Rattle.lane_logs.specs.Stand.{is_round_open}
+use Rattle.lane_logs.proofs.StandLemmas.{less_closed, open_stand}
 use Rattle.lane_turns.specs.declared.closing.Closing.{Closing}
 use Rattle.lane_turns.specs.declared.standing.RoundNow.{RoundNow}
 use Rattle.lane_turns.specs.Benches.{AreStartedAt}
 use Rattle.lane_turns.specs.Closing.{BearsOut, HasWeighed, Weighs, closing_event}
-use Rattle.lane_turns.specs.Cuts.{NoneStops}
-use Rattle.lane_turns.specs.Labels.{shows, silent}
-use Rattle.lane_turns.specs.Meeting.{lists_of}
 use Rattle.lane_turns.specs.OpenerEvents.{HasClosed, HasWaited}
-use Rattle.lane_turns.specs.OpenerLog.{closing_change}
 use Rattle.lane_turns.specs.Openers.{IsOpener, OpenerView, round_of}
 use Rattle.lane_turns.specs.Pens.{HasGone, MayGo, PenView}
-use Rattle.lane_turns.specs.SeatNumbers.{lane_count}
-use Rattle.lane_turns.specs.Stand.{is_round_open}
 use Rattle.lane_turns.proofs.LookLemmas.{closing_gone, weighed_gone}
 use Rattle.lane_turns.proofs.OpenerEventLemmas.{closed_after, waited_after}
 use Rattle.lane_turns.proofs.PenLemmas.{may_go_less}
-use Rattle.lane_turns.proofs.StandLemmas.{less_closed, open_stand}
 
 module _ (script : ScriptModel) (clock : ClockId) (old : OpenerView) (is : IsOpener script clock old) (places : List ℕ)
     (way : Closing) (found : Found) (round : RoundNow) (bears : Bool) (b c : PenView)

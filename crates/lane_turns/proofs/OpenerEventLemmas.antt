@@ -12,26 +12,25 @@ use Rattle.lane_clock.specs.declared.step.ClockStep.TheVariants.{Load}
 use Rattle.lane_clock.specs.Seats.{ClockId}
 use Rattle.lane_clock.specs.Steps.{draw_count, place_count, step_count}
 use Rattle.lane_map.specs.LaneNumbers.{reactor_lane}
+use Rattle.lane_logs.specs.Cuts.{HasStarted, NoneStops, is_stop_draw}
+use Rattle.lane_logs.specs.Knowing.{joined_count, lists_of}
+use Rattle.lane_logs.specs.Labels.{Labelled, shows, silent, entries_in, steps_in}
+use Rattle.lane_logs.specs.OpenerLog.{Closes, ClosedPart, IsPolledLane, Looked, OpenerPart, ReactorWorks, closed, opened, restarted, resting, closing_change, labels_of_opener, look_label, opener_steps, others_after}
+use Rattle.lane_logs.specs.Stand.{draws_to_come, Stand, first_stand, is_round_open, stand_from, stand_of, wants_restart}
+use Rattle.lane_logs.specs.Calls.{called_each}
+use Rattle.lane_logs.specs.SeatNumbers.{lane_count}
+use Rattle.lane_logs.proofs.OpeningLemmas.{called_sum, opening_calls}
+use Rattle.lane_logs.proofs.StandLemmas.{IsOpenStand, less_closed, less_restarted, open_stand, opening_passed, stand_closed, stand_restarted, waiting_stand}
 use Rattle.lane_turns.specs.declared.closing.Closing.{Closing}
 use Rattle.lane_turns.specs.declared.closing.Closing.TheVariants as closing
 use Rattle.lane_turns.specs.Closing.{AreSeenEmpty, BearsOut, closing_event}
-use Rattle.lane_turns.specs.Cuts.{HasStarted, NoneStops, is_stop_draw}
-use Rattle.lane_turns.specs.Knowing.{joined_count}
-use Rattle.lane_turns.specs.Labels.{Labelled, shows, silent, entries_in, steps_in}
-use Rattle.lane_turns.specs.Meeting.{lists_of}
 use Rattle.lane_turns.specs.OpenerEvents.{closing_labels, weighing_labels}
-use Rattle.lane_turns.specs.OpenerLog.{Closes, ClosedPart, IsPolledLane, Looked, OpenerPart, ReactorWorks, closed, opened, restarted, resting, closing_change, labels_of_opener, look_label, opener_steps, others_after}
-use Rattle.lane_turns.specs.Openers.{IsOpener, OpenerView, draws_to_come, is_running_at, round_of}
-use Rattle.lane_turns.specs.Opening.{called_each}
+use Rattle.lane_turns.specs.Openers.{IsOpener, OpenerView, is_running_at, round_of}
 use Rattle.lane_turns.specs.Pens.{HasDrawnCalls, HasGone, MayGo, PenView}
-use Rattle.lane_turns.specs.SeatNumbers.{lane_count}
-use Rattle.lane_turns.specs.Stand.{Stand, first_stand, is_round_open, stand_from, stand_of, wants_restart}
 use Rattle.lane_turns.proofs.DrawnLemmas.{AreSized, all_sized, drawn_quiet}
 use Rattle.lane_turns.proofs.OpenerGrowingLemmas.{rested, rested_labels, rested_parts, same_others}
 use Rattle.lane_turns.proofs.OpenerLemmas.{gone_grows, opener_goes_on, opener_knows, own_steps}
-use Rattle.lane_turns.proofs.OpeningLemmas.{called_sum, opening_calls}
 use Rattle.lane_turns.proofs.PenLemmas.{may_go_on}
-use Rattle.lane_turns.proofs.StandLemmas.{IsOpenStand, less_closed, less_restarted, open_stand, opening_passed, stand_closed, stand_restarted, waiting_stand}
 use Rattle.lane_turns.proofs.SteppingLemmas.{knows_all}
 
 -- looks take nothing in, show nothing and draw nothing

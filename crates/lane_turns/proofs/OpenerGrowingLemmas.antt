@@ -9,13 +9,13 @@ use Rattle.lane_clock.specs.declared.step.ClockStep.TheVariants.{Look}
 use Rattle.lane_clock.specs.Knowledge.{StartOf}
 use Rattle.lane_map.specs.LaneNumbers.{reactor_lane}
 use Rattle.session_script.specs.Script.{ScriptModel}
-use Rattle.lane_turns.specs.Cuts.{HasStarted, NoneStops}
-use Rattle.lane_turns.specs.Knowing.{joined_count}
-use Rattle.lane_turns.specs.Labels.{steps_in}
-use Rattle.lane_turns.specs.OpenerLog.{AreOpenerParts, ClosedPart, Closes, Looked, MayFollowOpened, OpenerPart, ReactorWorks, resting, opened, restarted, closed, labels_of_opener, look_label, opener_labels, opener_steps, others_after}
+use Rattle.lane_logs.specs.Cuts.{HasStarted, NoneStops}
+use Rattle.lane_logs.specs.Knowing.{joined_count}
+use Rattle.lane_logs.specs.Labels.{steps_in}
+use Rattle.lane_logs.specs.OpenerLog.{AreOpenerParts, ClosedPart, Closes, Looked, MayFollowOpened, OpenerPart, ReactorWorks, resting, opened, restarted, closed, labels_of_opener, look_label, opener_labels, opener_steps, others_after}
+use Rattle.lane_logs.proofs.LabelLemmas.{steps-append}
 use Rattle.lane_turns.proofs.GrowingLemmas.{take_start}
 use Rattle.lane_turns.proofs.MeetingLemmas.{joined_less}
-use Rattle.lane_turns.proofs.PenLemmas.{steps-append}
 
 module _ (script : ScriptModel) (lists longer : ℕ → List ClockStep) (more : (n : ℕ) → StartOf (lists n) (longer n)) where
   -- no more was taken in than is known

@@ -10,18 +10,19 @@ use Rattle.lane_clock.specs.declared.step.Known.{Known}
 use Rattle.lane_clock.specs.Knowledge.{StartOf, counts, steps_at}
 use Rattle.lane_clock.specs.Seats.{ClockId, Owns, SeatView, own}
 use Rattle.lane_clock.proofs.KeepLemmas.{start_same}
-use Rattle.lane_turns.specs.declared.log.LogEntry.{LogEntry}
-use Rattle.lane_turns.specs.Knowing.{joined_count}
-use Rattle.lane_turns.specs.Labels.{Labelled, entries_in, steps_in}
-use Rattle.lane_turns.specs.Meeting.{KnowsByJoins, PenHasMet, lists_of}
-use Rattle.lane_turns.specs.OpenerLog.{AreOpenerParts, OpenerPart, resting, labels_of_opener, opener_steps}
-use Rattle.lane_turns.specs.Openers.{IsOpener, OpenerView, draws_to_come}
+use Rattle.lane_logs.specs.declared.log.LogEntry.{LogEntry}
+use Rattle.lane_logs.specs.Knowing.{joined_count, lists_of}
+use Rattle.lane_logs.specs.Labels.{Labelled, entries_in, steps_in}
+use Rattle.lane_logs.specs.OpenerLog.{AreOpenerParts, OpenerPart, resting, labels_of_opener, opener_steps}
+use Rattle.lane_logs.specs.Stand.{draws_to_come, Stand, after_draw, stand_from, stand_of}
+use Rattle.lane_logs.specs.SeatNumbers.{opener_seat}
+use Rattle.lane_logs.proofs.LabelLemmas.{entries-append, steps-append}
+use Rattle.lane_turns.specs.Meeting.{KnowsByJoins, PenHasMet}
+use Rattle.lane_turns.specs.Openers.{IsOpener, OpenerView}
 use Rattle.lane_turns.specs.Pens.{HasGone, MayGo, PenView}
-use Rattle.lane_turns.specs.SeatNumbers.{opener_seat}
-use Rattle.lane_turns.specs.Stand.{Stand, after_draw, stand_from, stand_of}
 use Rattle.lane_turns.proofs.MeetingLemmas.{met_clock, met_knows, met_number, met_room}
 use Rattle.lane_turns.proofs.OpenerGrowingLemmas.{Knows, still_opened}
-use Rattle.lane_turns.proofs.PenLemmas.{entries-append, gone_clock, steps-append}
+use Rattle.lane_turns.proofs.PenLemmas.{gone_clock}
 use Rattle.lane_turns.proofs.SteppingLemmas.{joined_on, stepped_known, stepped_number}
 
 pub stand_from-append : (script : ScriptModel) (stand : Stand) (xs ys : List ClockStep) →

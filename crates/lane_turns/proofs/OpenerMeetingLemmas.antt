@@ -3,10 +3,11 @@ use Rattle.std.proofs.Common.{◌≡◌, refl, sym, ap, subst}
 use Rattle.session_script.specs.Script.{ScriptModel}
 use Rattle.lane_clock.specs.Knowledge.{StartOf}
 use Rattle.lane_clock.specs.Seats.{ClockId, SeatView, copy_seat, own}
-use Rattle.lane_turns.specs.Meeting.{PenHasMet, lists_of}
+use Rattle.lane_logs.specs.Knowing.{lists_of}
+use Rattle.lane_logs.specs.SeatNumbers.{opener_seat}
+use Rattle.lane_turns.specs.Meeting.{PenHasMet}
 use Rattle.lane_turns.specs.Openers.{HasTakenIn, HaveMet, IsOpener, OpenerView}
 use Rattle.lane_turns.specs.Pens.{PenView}
-use Rattle.lane_turns.specs.SeatNumbers.{opener_seat}
 use Rattle.lane_turns.proofs.MeetingLemmas.{copied_steps}
 
 module _ (script : ScriptModel) (clock : ClockId) (old : OpenerView) (is : IsOpener script clock old) where

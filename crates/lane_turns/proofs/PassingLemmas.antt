@@ -17,11 +17,11 @@ use Rattle.reactor_turns.proofs.ClockLemmas.{runs-last, runs-tick}
 use Rattle.reactor_turns.proofs.TurnedLemmas.{now-point}
 use Rattle.lane_clock.specs.declared.found.Change.TheVariants as change
 use Rattle.lane_clock.specs.declared.found.Found.{Found}
-use Rattle.lane_turns.specs.Labels.{shows}
-use Rattle.lane_turns.specs.Names.{SessionNames}
-use Rattle.lane_turns.specs.Parts.{fault_label}
+use Rattle.lane_logs.specs.Labels.{shows}
+use Rattle.lane_logs.specs.Names.{SessionNames}
+use Rattle.lane_logs.specs.Parts.{fault_label}
+use Rattle.lane_logs.specs.ReactorTurns.{point_event}
 use Rattle.lane_turns.specs.Pens.{HasGone, MayGo, PenView}
-use Rattle.lane_turns.specs.ReactorTurns.{point_event}
 use Rattle.lane_turns.specs.Turning.{HasTold, HasTurned, HasTurnRoom, IsMidTurn, KeepsTurns, log_half}
 use Rattle.lane_turns.proofs.TurningLemmas.{begun_half, begun_mid, begun_room, broken_turned, fault_keeps, fault_may, fault_room, room_to_draw, whole_keeps, whole_turned}
 

@@ -9,19 +9,9 @@ use Rattle.lane_clock.specs.declared.found.Found.{Found}
 use Rattle.lane_clock.specs.declared.step.ClockStep.{ClockStep}
 use Rattle.lane_clock.specs.Seats.{SeatView, after_step, own}
 use Rattle.lane_clock.specs.Steps.{draw_count, place_count, step_count}
-use Rattle.lane_turns.specs.Labels.{one_drawn, Labelled, silent, shows, allots, entries_in, steps_in, step_of}
+use Rattle.lane_logs.specs.Labels.{one_drawn, Labelled, shows, entries_in, steps_in}
+use Rattle.lane_logs.proofs.LabelLemmas.{entries-append, steps-append}
 use Rattle.lane_turns.specs.Pens.{HasDrawnCall, HasDrawnCalls, HasGone, MayGo, PenView, after_steps}
-
-pub steps-append : (xs ys : List Labelled) → steps_in (xs ++ ys) ≡ steps_in xs ++ steps_in ys
-steps-append [] ys = refl
-steps-append (x ∷ xs) ys = ap (λ steps. step_of x ∷ steps) (steps-append xs ys)
-
-pub entries-append : (xs ys : List Labelled) → entries_in (xs ++ ys) ≡ entries_in xs ++ entries_in ys
-entries-append [] ys = refl
-entries-append (silent step ∷ xs) ys = entries-append xs ys
-entries-append (shows shown changes found ∷ xs) ys =
-    ap (λ entries. record { position = found.clock; event = shown } ∷ entries) (entries-append xs ys)
-entries-append (allots act lane place ∷ xs) ys = entries-append xs ys
 
 pub after_steps-append : (seat : SeatView) (xs ys : List ClockStep) →
     after_steps seat (xs ++ ys) ≡ after_steps (after_steps seat xs) ys

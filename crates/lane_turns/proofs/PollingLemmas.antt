@@ -8,11 +8,11 @@ use Rattle.lane_clock.specs.declared.found.Found.{Found}
 use Rattle.lane_clock.specs.declared.note.Note.{Note}
 use Rattle.lane_clock.specs.declared.step.ClockStep.TheVariants.{Load, Look}
 use Rattle.lane_clock.specs.Steps.{draw_count, place_count, step_count}
+use Rattle.lane_logs.specs.Labels.{Labelled, silent, entries_in, steps_in}
+use Rattle.lane_logs.specs.Parts.{looks_full}
 use Rattle.lane_turns.specs.declared.lane.LaneStanding.{LaneStanding}
 use Rattle.lane_turns.specs.Batons.{LaneView}
 use Rattle.lane_turns.specs.Executing.{HasExecutedNoted}
-use Rattle.lane_turns.specs.Labels.{Labelled, silent, entries_in, steps_in}
-use Rattle.lane_turns.specs.Parts.{looks_full}
 use Rattle.lane_turns.specs.Pens.{HasGone, MayGo, PenView}
 use Rattle.lane_turns.specs.Polling.{MissedNext, RanNext, StoppedNext, left_labels}
 use Rattle.lane_turns.proofs.PenLemmas.{gone_on, may_go_on}

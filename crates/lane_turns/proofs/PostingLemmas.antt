@@ -1,9 +1,9 @@
 -- What a poster takes: a first part of what it takes, and after a call what follows it.
-use Rattle.std.proofs.Common.{◌≡◌, ℕ, ◌+◌, ◌≤◌, Bool, true, false, cond, List, [], ◌∷◌, ◌++◌, length, refl, sym, ap, ◌∙◌, subst, arith, length-append}
+use Rattle.std.proofs.Common.{◌≡◌, ℕ, ◌+◌, ◌≤◌, Bool, true, false, cond, List, [], ◌∷◌, ◌++◌, length, refl, sym, ap, subst, arith, length-append}
 use Rattle.std.specs.Prelude.{Some, nat_lt, slice_index}
 use Rattle.asio_types.specs.declared.event.Event.{Event}
 use Rattle.asio_types.specs.declared.event.Event.TheVariants as event
-use Rattle.session_script.specs.Script.{ScriptModel, stops}
+use Rattle.session_script.specs.Script.{ScriptModel}
 use Rattle.strand_core.specs.Execution.{events_of}
 use Rattle.strand_core.specs.declared.posted.Posted.{Posted}
 use Rattle.strand_core.specs.declared.posted.Posted.TheVariants as posted
@@ -11,32 +11,12 @@ use Rattle.lane_clock.specs.declared.note.Note.{Note}
 use Rattle.lane_clock.specs.declared.step.ClockStep.TheVariants.{Put}
 use Rattle.lane_clock.specs.Steps.{draw_count, place_count, step_count}
 use Rattle.lane_map.specs.LaneNumbers.{asked_lane, cells_of}
-use Rattle.lane_turns.specs.Labels.{IsDrawn, begins, posts, dispatches, stops_context, returns, ends, Labelled, silent, entries_in, steps_in, put_within, call_note}
+use Rattle.lane_logs.specs.Labels.{IsDrawn, begins, posts, dispatches, stops_context, returns, ends, Labelled, silent, entries_in, steps_in, put_within, call_note}
+use Rattle.lane_logs.specs.Calls.{CallsActs}
+use Rattle.lane_logs.proofs.OpeningLemmas.{shown_sum}
 use Rattle.lane_turns.specs.Pens.{HasDrawnCall, PenView}
-use Rattle.lane_turns.specs.Posting.{CallsActs, PosterView, TakesCalls, TakesNext}
+use Rattle.lane_turns.specs.Posting.{PosterView, TakesCalls, TakesNext}
 use Rattle.lane_turns.proofs.PenLemmas.{may_go_on}
-
-called_append : (stops : Bool) (first second : Event) (xs ys all : List Event) → all ≡ xs ++ ys →
-    cond stops (first ∷ second ∷ all) (first ∷ all) ≡ cond stops (first ∷ second ∷ xs) (first ∷ xs) ++ ys
-called_append true first second xs ys all same = ap (λ events. first ∷ second ∷ events) same
-called_append false first second xs ys all same = ap (λ events. first ∷ events) same
-
-pub shown-append : (script : ScriptModel) (xs ys : List Posted) →
-    events_of script (xs ++ ys) ≡ events_of script xs ++ events_of script ys
-shown-append script [] ys = refl
-shown-append script (posted.Begin op code size begun ∷ xs) ys =
-    ap (λ events. event.Begin op code size ∷ events) (shown-append script xs ys)
-shown-append script (posted.Call act ∷ xs) ys =
-    called_append (stops script act) (event.Call act) (event.Stop (Some act)) (events_of script xs)
-    (events_of script ys) (events_of script (xs ++ ys)) (shown-append script xs ys)
-shown-append script (posted.Back act ∷ xs) ys = ap (λ events. event.Back act ∷ events) (shown-append script xs ys)
-shown-append script (posted.End op ran ∷ xs) ys =
-    ap (λ events. event.End op ran.mark ∷ events) (shown-append script xs ys)
-
-pub shown_sum : (script : ScriptModel) (xs ys : List Posted) →
-    length (events_of script (xs ++ ys)) ≡ length (events_of script xs) + length (events_of script ys)
-shown_sum script xs ys =
-    ap length (shown-append script xs ys) ∙ length-append (events_of script xs) (events_of script ys)
 
 first_acts : (script : ScriptModel) (xs ys : List Posted) → CallsActs script (xs ++ ys) → CallsActs script xs
 first_acts script [] ys all = tt

@@ -14,27 +14,27 @@ use Rattle.lane_clock.specs.declared.step.ClockStep.{ClockStep}
 use Rattle.lane_clock.specs.declared.step.ClockStep.TheVariants.{Load, Look}
 use Rattle.lane_clock.specs.Seats.{ClockId, own}
 use Rattle.lane_map.specs.LaneNumbers.{cells_of, home_lane, reactor_lane}
-use Rattle.lane_turns.specs.declared.log.LogEntry.{LogEntry}
+use Rattle.lane_logs.specs.declared.log.LogEntry.{LogEntry}
+use Rattle.lane_logs.specs.Knowing.{joined_count}
+use Rattle.lane_logs.specs.Labels.{Labelled, silent, shows, entries_in, steps_in}
+use Rattle.lane_logs.specs.LaneLog.{AreParts, half_after, opener_after}
+use Rattle.lane_logs.specs.Names.{SessionNames}
+use Rattle.lane_logs.specs.Parts.{FailedPart, Part, TurnEnd, TurnPart, TurnStart, are_broken, end_labels, executed, failed, fails, fault_label, idle, is_failing, labels_in, labels_of, looks_empty, missing, next_place, passes, start_labels, takes, takes_place, tells, turned}
+use Rattle.lane_logs.specs.ReactorTurns.{AreTold, none_told, one_told, EndsTurn, MayStartTurn, done_labels, done_note, may_take, start_event}
+use Rattle.lane_logs.specs.SeatNumbers.{opener_seat}
+use Rattle.lane_logs.specs.Stand.{is_running_round}
+use Rattle.lane_logs.proofs.LabelLemmas.{entries-append, steps-append}
 use Rattle.lane_turns.specs.declared.one.One.{One}
 use Rattle.lane_turns.specs.declared.one.One.TheVariants as one
 use Rattle.lane_turns.specs.Batons.{IsLane, LaneView, opener_known}
-use Rattle.lane_turns.specs.Knowing.{joined_count}
-use Rattle.lane_turns.specs.Labels.{Labelled, silent, shows, entries_in, steps_in}
-use Rattle.lane_turns.specs.LaneLog.{AreParts, half_after, opener_after}
-use Rattle.lane_turns.specs.Names.{SessionNames}
-use Rattle.lane_turns.specs.Parts.{FailedPart, Part, TurnEnd, TurnPart, TurnStart, are_broken, end_labels, executed, failed, fails, fault_label, idle, is_failing, labels_in, labels_of, looks_empty, missing, next_place, passes, start_labels, takes, takes_place, tells, turned}
 use Rattle.lane_turns.specs.Pens.{PenView}
 use Rattle.lane_turns.specs.Polling.{missed_too}
 use Rattle.lane_turns.specs.ReactorPolling.{FailedNext, FoundNoRequest, FoundOtherWork, HadFailed, LeftRequest, LeftTime, MissedRequest, TurnCameTo, TurnedNext, turned_on}
-use Rattle.lane_turns.specs.ReactorTurns.{AreTold, none_told, one_told, EndsTurn, MayStartTurn, done_labels, done_note, may_take, start_event}
-use Rattle.lane_turns.specs.SeatNumbers.{opener_seat}
-use Rattle.lane_turns.specs.Stand.{is_running_round}
 use Rattle.lane_turns.specs.Turning.{HasTurnRoom, IsReactorBaton, KeepsTurns, log_half}
 use Rattle.lane_turns.proofs.DrawnLemmas.{put_quiet}
 use Rattle.lane_turns.proofs.HalfLemmas.{half-append}
 use Rattle.lane_turns.proofs.LaneLogLemmas.{found_going, lane_goes_on, opener_is, part_log}
 use Rattle.lane_turns.proofs.LaneStepLemmas.{lane_left, lane_loaded, lane_looked, lane_looked_on, lane_missed, or_none}
-use Rattle.lane_turns.proofs.PenLemmas.{entries-append, steps-append}
 use Rattle.lane_turns.proofs.SteppingLemmas.{joined_on}
 
 -- a log whose last event is a failure is that of a reactor that failed

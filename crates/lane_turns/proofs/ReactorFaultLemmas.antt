@@ -23,6 +23,15 @@ use Rattle.lane_clock.specs.declared.step.ClockStep.TheVariants.{Draw, Load, Loo
 use Rattle.lane_clock.specs.Knowledge.{StartOf}
 use Rattle.lane_clock.specs.Seats.{ClockId, Remembers, SeatView, own}
 use Rattle.lane_map.specs.LaneNumbers.{cells_of, reactor_lane}
+use Rattle.lane_logs.specs.Cuts.{is_stop_draw}
+use Rattle.lane_logs.specs.Half.{half_from}
+use Rattle.lane_logs.specs.Labels.{Labelled, entries_in, shows, silent, steps_in}
+use Rattle.lane_logs.specs.LaneLog.{AreParts, MayFollow, half_after}
+use Rattle.lane_logs.specs.Knowing.{lists_of}
+use Rattle.lane_logs.specs.Names.{SessionNames}
+use Rattle.lane_logs.specs.Parts.{Part, TurnEnd, TurnStart, are_broken, end_labels, executed, failed, fails, fault_label, idle, is_broken, is_failing, labels_in, labels_of, looks_empty, missing, passes, start_labels, takes, tells, turned}
+use Rattle.lane_logs.specs.ReactorTurns.{AreTold, EndsTurn, MayStartTurn, done_labels, none_told, one_told, point_event, start_event}
+use Rattle.lane_logs.proofs.LabelLemmas.{entries-append, steps-append}
 use Rattle.lane_turns.specs.declared.one.One.{One}
 use Rattle.lane_turns.specs.declared.one.One.TheVariants as one
 use Rattle.lane_turns.specs.declared.run_end.RunEnd.{RunEnd}
@@ -30,24 +39,15 @@ use Rattle.lane_turns.specs.declared.run_end.RunEnd.TheVariants as end
 use Rattle.lane_turns.specs.Answers.{is_fault}
 use Rattle.lane_turns.specs.Attempts.{HasTried, WorkerAt}
 use Rattle.lane_turns.specs.Batons.{IsLane, LaneView, opener_known}
-use Rattle.lane_turns.specs.Cuts.{is_stop_draw}
-use Rattle.lane_turns.specs.Half.{half_from}
 use Rattle.lane_turns.specs.KnownFaults.{KnowsAfterFault, KnowsFault, SomeStop}
-use Rattle.lane_turns.specs.Labels.{Labelled, entries_in, shows, silent, steps_in}
-use Rattle.lane_turns.specs.LaneLog.{AreParts, MayFollow, half_after}
 use Rattle.lane_turns.specs.LaneOf.{has_failed, seat_of}
 use Rattle.lane_turns.specs.LaneValues.{HearsOf, IsBaton, LaneCameTo, LaneValue, Rests, Terms, Tries, handlers, reactor}
-use Rattle.lane_turns.specs.Meeting.{lists_of}
-use Rattle.lane_turns.specs.Names.{SessionNames}
-use Rattle.lane_turns.specs.Parts.{Part, TurnEnd, TurnStart, are_broken, end_labels, executed, failed, fails, fault_label, idle, is_broken, is_failing, labels_in, labels_of, looks_empty, missing, passes, start_labels, takes, tells, turned}
 use Rattle.lane_turns.specs.ReactorPolling.{FailedNext, TurnedNext}
-use Rattle.lane_turns.specs.ReactorTurns.{AreTold, EndsTurn, MayStartTurn, done_labels, none_told, one_told, point_event, start_event}
 use Rattle.lane_turns.specs.Runs.{last_end}
 use Rattle.lane_turns.specs.Turning.{log_half}
 use Rattle.lane_turns.specs.Workers.{WorkerView}
 use Rattle.lane_turns.proofs.HalfLemmas.{done_half, half-append}
 use Rattle.lane_turns.proofs.MeetingLemmas.{copied_steps}
-use Rattle.lane_turns.proofs.PenLemmas.{entries-append, steps-append}
 use Rattle.lane_turns.proofs.ScanLemmas.{tried_seat}
 
 -- a stop among the first of some steps, or behind others

@@ -18,17 +18,17 @@ use Rattle.lane_clock.specs.declared.note.Note.{Note}
 use Rattle.lane_clock.specs.declared.step.ClockStep.TheVariants.{Load, Look}
 use Rattle.lane_clock.specs.Steps.{draw_count, place_count, step_count}
 use Rattle.lane_map.specs.LaneNumbers.{cells_of}
+use Rattle.lane_logs.specs.Half.{held_guards}
+use Rattle.lane_logs.specs.Labels.{Labelled, silent, shows, entries_in, steps_in}
+use Rattle.lane_logs.specs.Names.{SessionNames}
+use Rattle.lane_logs.specs.Parts.{end_labels, fault_label, looks_empty, looks_full, passes, takes}
+use Rattle.lane_logs.specs.ReactorTurns.{EndsTurn, may_take, point_event, take_change}
 use Rattle.lane_turns.specs.declared.lane.LaneStanding.{LaneStanding}
 use Rattle.lane_turns.specs.declared.one.One.{One}
 use Rattle.lane_turns.specs.Batons.{LaneView}
-use Rattle.lane_turns.specs.Half.{held_guards}
-use Rattle.lane_turns.specs.Labels.{Labelled, silent, shows, entries_in, steps_in}
-use Rattle.lane_turns.specs.Names.{SessionNames}
-use Rattle.lane_turns.specs.Parts.{end_labels, fault_label, looks_empty, looks_full, passes, takes}
 use Rattle.lane_turns.specs.Pens.{HasGone, PenView}
 use Rattle.lane_turns.specs.Polling.{with_pen}
 use Rattle.lane_turns.specs.ReactorPolling.{FailedNext, FoundNoRequest, FoundOtherWork, IsIdleWork, LeftRequest, LeftTime, MayWait, MissedRequest, TurnCameTo, TurnedNext}
-use Rattle.lane_turns.specs.ReactorTurns.{EndsTurn, may_take, point_event, take_change}
 use Rattle.lane_turns.specs.Turning.{HasFailedAlone, HasTurned, HasTurnRoom, KeepsTurns, log_half}
 use Rattle.lane_turns.proofs.HalfLemmas.{log_still, room_still}
 use Rattle.lane_turns.proofs.PenLemmas.{gone_on}

@@ -12,15 +12,15 @@ use Rattle.lane_clock.specs.declared.step.ClockStep.{ClockStep}
 use Rattle.lane_clock.specs.declared.step.ClockStep.TheVariants.{Draw, Load, Place, Put, Look, Join}
 use Rattle.lane_clock.specs.Seats.{ClockId, own}
 use Rattle.lane_map.specs.LaneNumbers.{cells_of, home_lane, reactor_lane}
+use Rattle.lane_logs.specs.Cuts.{NoneStops, is_stop_change, is_stop_draw}
+use Rattle.lane_logs.specs.Labels.{Labelled, silent, shows, put_within, steps_in}
+use Rattle.lane_logs.specs.LaneLog.{AreParts, IsIdleStep, MayFollow, steps_after}
+use Rattle.lane_logs.specs.Names.{SessionNames}
+use Rattle.lane_logs.specs.Parts.{Part, TurnEnd, TurnStart, are_broken, end_labels, executed, failed, fails, idle, is_broken, is_failing, labels_in, labels_of, missing, passes, start_labels, takes, tells, turned}
+use Rattle.lane_logs.specs.ReactorTurns.{AreTold, none_told, one_told, EndsTurn, MayStartTurn, done_labels, done_note, lets_go, take_change}
+use Rattle.lane_logs.proofs.LabelLemmas.{steps-append}
 use Rattle.lane_turns.specs.Batons.{IsLane, LaneView, opener_known}
-use Rattle.lane_turns.specs.Cuts.{NoneStops, is_stop_change, is_stop_draw}
-use Rattle.lane_turns.specs.Labels.{Labelled, silent, shows, put_within, steps_in}
-use Rattle.lane_turns.specs.LaneLog.{AreParts, IsIdleStep, MayFollow, steps_after}
-use Rattle.lane_turns.specs.Names.{SessionNames}
-use Rattle.lane_turns.specs.Parts.{Part, TurnEnd, TurnStart, are_broken, end_labels, executed, failed, fails, idle, is_broken, is_failing, labels_in, labels_of, missing, passes, start_labels, takes, tells, turned}
-use Rattle.lane_turns.specs.ReactorTurns.{AreTold, none_told, one_told, EndsTurn, MayStartTurn, done_labels, done_note, lets_go, take_change}
 use Rattle.lane_turns.specs.Turning.{log_half}
-use Rattle.lane_turns.proofs.PenLemmas.{steps-append}
 use Rattle.lane_turns.proofs.ReactorBatonLemmas.{works_still}
 
 abbrev IsNoStop : ClockStep → Type 0

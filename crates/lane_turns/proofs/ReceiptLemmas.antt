@@ -15,15 +15,17 @@ use Rattle.lane_clock.specs.declared.step.ClockStep.TheVariants.{Look}
 use Rattle.lane_clock.specs.Knowledge.{StartOf}
 use Rattle.lane_clock.specs.Seats.{own}
 use Rattle.lane_map.specs.LaneNumbers.{has_cell, reactor_lane}
-use Rattle.lane_turns.specs.declared.receipt.Receipt.{Receipt}
-use Rattle.lane_turns.specs.Labels.{silent, steps_in}
+use Rattle.lane_logs.specs.declared.receipt.Receipt.{Receipt}
+use Rattle.lane_logs.specs.Labels.{silent, steps_in}
+use Rattle.lane_logs.specs.Receipts.{IsReceiptOf, holds_op, note_of}
+use Rattle.lane_logs.proofs.LabelLemmas.{steps-append}
 use Rattle.lane_turns.specs.Pens.{HasGone, PenView}
-use Rattle.lane_turns.specs.Receipts.{FindsIn, HasFound, HasFoundNone, IsReceiptOf, holds_op, SeatHasGone, looks_from, note_of}
+use Rattle.lane_turns.specs.Receipts.{FindsIn, HasFound, HasFoundNone, SeatHasGone, looks_from}
 use Rattle.lane_turns.specs.Scanning.{SeatGoesOn}
 use Rattle.lane_turns.specs.Workers.{WorkerView}
 use Rattle.lane_turns.proofs.CutLemmas.{at_back, at_start}
 use Rattle.lane_turns.proofs.LookedLemmas.{looks_draw_none, looks_show_none}
-use Rattle.lane_turns.proofs.PenLemmas.{gone_nowhere, gone_on, steps-append}
+use Rattle.lane_turns.proofs.PenLemmas.{gone_nowhere, gone_on}
 use Rattle.lane_turns.proofs.ScanLemmas.{seat_gone}
 
 -- one look more

@@ -6,11 +6,11 @@ use Rattle.std.proofs.lemmas.Option.{slice_get_cases}
 use Rattle.session_script.specs.Script.{ScriptModel}
 use Rattle.lane_clock.specs.Seats.{Remembers, SeatView}
 use Rattle.lane_clock.proofs.KeepLemmas.{start_same, start_trans}
+use Rattle.lane_logs.specs.Knowing.{lists_of}
 use Rattle.lane_turns.specs.AllWorkers.{clock_seat}
 use Rattle.lane_turns.specs.Attempts.{WorkerState}
 use Rattle.lane_turns.specs.Attending.{HaveAttended}
 use Rattle.lane_turns.specs.KeptSteps.{AllRemember}
-use Rattle.lane_turns.specs.Meeting.{lists_of}
 use Rattle.lane_turns.specs.Openers.{OpenerView}
 use Rattle.lane_turns.specs.OwnRuns.{LastIsNow}
 use Rattle.lane_turns.proofs.AllWorkersLemmas.{same_source}

@@ -6,7 +6,7 @@ use Rattle.lane_clock.specs.declared.step.Known.{Known}
 use Rattle.lane_clock.specs.Knowledge.{StartOf, steps_at}
 use Rattle.lane_clock.specs.Seats.{Remembers, SeatView, own}
 use Rattle.lane_clock.proofs.KeepLemmas.{start_same}
-use Rattle.lane_turns.specs.Labels.{Labelled, steps_in}
+use Rattle.lane_logs.specs.Labels.{Labelled, steps_in}
 use Rattle.lane_turns.specs.Pens.{HasGone, PenView}
 use Rattle.lane_turns.proofs.SteppingLemmas.{stepped_known, stepped_number}
 

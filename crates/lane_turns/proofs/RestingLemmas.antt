@@ -9,9 +9,10 @@ use Rattle.session_script.specs.Script.{ScriptModel}
 use Rattle.lane_clock.specs.declared.step.ClockStep.{ClockStep}
 use Rattle.lane_clock.specs.declared.step.ClockStep.TheVariants.{Draw, Load, Place, Put, Look, Join}
 use Rattle.lane_clock.specs.Knowledge.{StartOf}
-use Rattle.lane_turns.specs.AtRest.{IsLook, RestsFrom}
-use Rattle.lane_turns.specs.OpenerLog.{IsRestingStep}
-use Rattle.lane_turns.specs.SeatNumbers.{opener_seat}
+use Rattle.lane_logs.specs.AtRest.{RestsFrom}
+use Rattle.lane_logs.specs.OpenerLog.{IsRestingStep}
+use Rattle.lane_logs.specs.SeatNumbers.{opener_seat}
+use Rattle.lane_turns.specs.AtRest.{IsLook}
 use Rattle.lane_turns.proofs.CutLemmas.{at_back}
 use Rattle.lane_turns.proofs.EventIndexLemmas.{index_front, index_within}
 

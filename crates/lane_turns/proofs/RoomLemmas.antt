@@ -16,12 +16,13 @@ use Rattle.strand_core.specs.declared.posted.Posted.TheVariants as posted
 use Rattle.strand_core.proofs.RoomLemmas.{executions_keep_room, room_for-less}
 use Rattle.strand_core.proofs.CallLemmas.{with_marks}
 use Rattle.strand_core.proofs.TreeLemmas.{Among, among_within}
+use Rattle.lane_logs.specs.Labels.{AreDrawn, Labelled, entries_in, steps_in}
+use Rattle.lane_logs.specs.Parts.{ExecutedPart, executed, labels_in}
+use Rattle.lane_logs.specs.Calls.{CallsActs}
 use Rattle.lane_turns.specs.Batons.{HasRoom, LaneView, room_held}
-use Rattle.lane_turns.specs.Labels.{AreDrawn, Labelled, entries_in, steps_in}
-use Rattle.lane_turns.specs.Parts.{ExecutedPart, executed, labels_in}
 use Rattle.lane_turns.specs.Pens.{HasGone, PenView}
 use Rattle.lane_turns.specs.Polling.{RanNext, most_made}
-use Rattle.lane_turns.specs.Posting.{CallsActs, TakesNext}
+use Rattle.lane_turns.specs.Posting.{TakesNext}
 use Rattle.lane_turns.proofs.DrawnLemmas.{all_sized, calls_shown}
 use Rattle.lane_turns.proofs.PenLemmas.{may_go_on}
 use Rattle.lane_turns.proofs.PostingLemmas.{takes_all}

@@ -12,11 +12,11 @@ use Rattle.lane_clock.specs.Knowledge.{counts}
 use Rattle.lane_clock.specs.Seats.{SeatView, copy_seat, own}
 use Rattle.lane_clock.specs.Steps.{draw_count, step_count}
 use Rattle.lane_clock.proofs.KeepLemmas.{start_same, start_trans}
+use Rattle.lane_logs.specs.Labels.{Labelled, entries_in, silent, steps_in}
 use Rattle.lane_turns.specs.declared.one.One.{One}
 use Rattle.lane_turns.specs.declared.one.One.TheVariants as one
 use Rattle.lane_turns.specs.Answers.{is_fault, is_nothing}
 use Rattle.lane_turns.specs.Attempts.{Gives, HasAttempted, HasTried, WorkerAt, WorkerState}
-use Rattle.lane_turns.specs.Labels.{Labelled, entries_in, silent, steps_in}
 use Rattle.lane_turns.specs.LaneValues.{HearsOf, LaneValue, Tries, handlers, reactor}
 use Rattle.lane_turns.specs.Receipts.{SeatHasGone}
 use Rattle.lane_turns.specs.Scanning.{CameBehind, GoesOn, Grows, HasLooked, HavePassed, Looks, HasLookedRound, HasScanned, Scans, SeatGoesOn, TriedAmong, TriedLast, misses_of, none_passed, numbers_of, one_passed}

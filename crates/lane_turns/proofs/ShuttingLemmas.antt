@@ -5,9 +5,9 @@ use mathlib.Core.Logic.{dite}
 use native.Mathlib.Decide.{ℕ_discrete}
 use Rattle.session_script.specs.Script.{ScriptModel}
 use Rattle.lane_clock.specs.Seats.{ClockId, Owns}
+use Rattle.lane_logs.specs.SeatNumbers.{opener_seat}
 use Rattle.lane_turns.specs.Openers.{IsOpener, OpenerView}
 use Rattle.lane_turns.specs.Pens.{PenView, no_pen}
-use Rattle.lane_turns.specs.SeatNumbers.{opener_seat}
 use Rattle.lane_turns.specs.TakingIn.{AreTakenIn}
 
 module _ (script : ScriptModel) (pens : List PenView) (count : length pens ≡ opener_seat script)

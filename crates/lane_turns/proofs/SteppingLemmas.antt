@@ -9,11 +9,11 @@ use Rattle.lane_clock.specs.declared.step.Known.{Known}
 use Rattle.lane_clock.specs.Knowledge.{known_at, steps_at}
 use Rattle.lane_clock.specs.Seats.{SeatView, after_step}
 use Rattle.lane_clock.proofs.SeatLemmas.{step_other}
+use Rattle.lane_logs.specs.Knowing.{joined_count, known_steps}
+use Rattle.lane_logs.specs.Labels.{Labelled, steps_in}
+use Rattle.lane_logs.specs.SeatNumbers.{lane_count, opener_seat}
 use Rattle.lane_turns.specs.Batons.{opener_known}
-use Rattle.lane_turns.specs.Knowing.{joined_count, known_steps}
-use Rattle.lane_turns.specs.Labels.{Labelled, steps_in}
 use Rattle.lane_turns.specs.Pens.{HasGone, PenView, after_steps}
-use Rattle.lane_turns.specs.SeatNumbers.{lane_count, opener_seat}
 
 pub stepped_known : (seat : SeatView) (steps : List ClockStep) (n : ℕ) → n ≢ seat.number →
     known_at (after_steps seat steps).known n ≡ known_at seat.known n

@@ -15,16 +15,16 @@ use Rattle.lane_clock.specs.declared.step.ClockStep.TheVariants.{Draw, Join}
 use Rattle.lane_clock.specs.Knowledge.{StartOf, counts}
 use Rattle.lane_clock.specs.Seats.{Owns, SeatView, own}
 use Rattle.lane_clock.proofs.KeepLemmas.{start_same, start_trans}
-use Rattle.lane_turns.specs.declared.log.LogEntry.{LogEntry}
-use Rattle.lane_turns.specs.AtRest.{RestsFrom}
+use Rattle.lane_logs.specs.declared.log.LogEntry.{LogEntry}
+use Rattle.lane_logs.specs.AtRest.{RestsFrom}
+use Rattle.lane_logs.specs.Cuts.{EventsAreCuts}
+use Rattle.lane_logs.specs.Knowing.{lists_of}
+use Rattle.lane_logs.specs.OpenerLog.{IsRestingStep}
+use Rattle.lane_logs.specs.SeatNumbers.{opener_seat}
+use Rattle.lane_logs.specs.Stand.{stand_of}
 use Rattle.lane_turns.specs.Batons.{opener_known}
-use Rattle.lane_turns.specs.Cuts.{EventsAreCuts}
-use Rattle.lane_turns.specs.Meeting.{lists_of}
-use Rattle.lane_turns.specs.OpenerLog.{IsRestingStep}
 use Rattle.lane_turns.specs.Openers.{OpenerView}
 use Rattle.lane_turns.specs.Pens.{PenView}
-use Rattle.lane_turns.specs.SeatNumbers.{opener_seat}
-use Rattle.lane_turns.specs.Stand.{stand_of}
 use Rattle.lane_turns.specs.TakingIn.{AreTakenIn, HasJoined, IsTakenIn}
 use Rattle.lane_turns.proofs.CutLemmas.{cut_outlives}
 use Rattle.lane_turns.proofs.GrowingLemmas.{take_start}

@@ -1,8 +1,8 @@
 -- A request that the reactor takes.
 use Rattle.std.proofs.Common.{◌≡◌, ℕ, ◌-◌, ◌^◌, ◌<◌, ◌≤◌, Bool, true, false, not, cond, List, [], ◌∷◌, Option, Some, None, inl, inr, length, refl, sym, ap, subst, ◌∙◌, arith}
-use Rattle.std.specs.Prelude.{◌&&◌, ◌||◌, IsTrue, count_by, min, nat_eq, nat_lt, slice_get, if◌then◌else◌}
+use Rattle.std.specs.Prelude.{◌&&◌, IsTrue, count_by, min, nat_eq, nat_lt, slice_get, if◌then◌else◌}
 use Rattle.std.specs.List.{slice_index_or}
-use Rattle.std.proofs.lemmas.Bool.{and_parts, cases_lt, le-ltb, lt-ltb, not-true}
+use Rattle.std.proofs.lemmas.Bool.{cases_lt, le-ltb, lt-ltb}
 use Rattle.std.proofs.lemmas.List.Sums.{count_by-le-length}
 use Rattle.std.proofs.lemmas.Option.{slice_get_past}
 use Rattle.asio_types.specs.Faults.{Rose}
@@ -22,7 +22,6 @@ use Rattle.proactor_core.specs.Counts.{within_32_bits}
 use Rattle.proactor_core.specs.Proactor.{Follows, IsSound, ProactorView, tells}
 use Rattle.proactor_core.specs.Room.{IsUntaken}
 use Rattle.reactor_turns.specs.Ahead.{IsHalfOf, IsOpenRequest, LeavesRoom}
-use Rattle.reactor_turns.specs.Standing.{is_awaited}
 use Rattle.reactor_turns.specs.Turned.{IsTurned}
 use Rattle.reactor_turns.proofs.AheadLemmas.{take_leaves}
 use Rattle.reactor_turns.proofs.ClockLemmas.{runs-take}
@@ -30,75 +29,29 @@ use Rattle.reactor_turns.proofs.FollowsLemmas.{follows_taken}
 use Rattle.reactor_turns.proofs.TurnedLemmas.{now-take}
 use Rattle.lane_clock.specs.declared.found.Change.{Change}
 use Rattle.lane_clock.specs.declared.found.Change.TheVariants as change
-use Rattle.lane_map.specs.LaneNumbers.{act_passes, asks_its_lane, asks_reactor}
-use Rattle.lane_turns.specs.Half.{held_guards}
-use Rattle.lane_turns.specs.Names.{SessionNames}
-use Rattle.lane_turns.specs.ReactorTurns.{may_take, take_change}
+use Rattle.lane_map.specs.LaneNumbers.{asks_its_lane}
+use Rattle.lane_logs.specs.Half.{held_guards}
+use Rattle.lane_logs.specs.Names.{SessionNames}
+use Rattle.lane_logs.specs.ReactorTurns.{may_take, take_change}
+use Rattle.lane_logs.specs.Labels.{shows}
+use Rattle.lane_logs.specs.Parts.{fault_label}
+use Rattle.lane_logs.proofs.RequestLemmas.{asks_kind, posting_asks, request_within, asked}
 use Rattle.lane_clock.specs.declared.found.Found.{Found}
-use Rattle.lane_turns.specs.Labels.{shows}
-use Rattle.lane_turns.specs.Parts.{fault_label}
 use Rattle.lane_turns.specs.Pens.{HasGone, MayGo, PenView}
 use Rattle.lane_turns.specs.Turning.{HasTold, HasTurned, HasTurnRoom, IsMidTurn, KeepsTurns, log_half}
 use Rattle.lane_turns.proofs.TurningLemmas.{begun_half, begun_mid, begun_room, broken_turned, fault_keeps, fault_may, fault_room, room_to_draw, whole_keeps, whole_turned}
-
--- what asks the reactor is an asynchronous operation or a control act
-asks_kind : (given : Act) → asks_reactor given ≡ true → (is_awaited given || is_control given) ≡ true
-asks_kind (act.Post strand) asks = absurd (cc)
-asks_kind (act.Defer strand) asks = absurd (cc)
-asks_kind (act.Dispatch strand) asks = absurd (cc)
-asks_kind act.Stop asks = absurd (cc)
-asks_kind (act.Wait a b c d) asks = refl
-asks_kind (act.ReadSome a b c d e) asks = refl
-asks_kind (act.ReadAll a b c d e) asks = refl
-asks_kind (act.Until a b c d e f) asks = refl
-asks_kind (act.WriteSome a b c d e) asks = refl
-asks_kind (act.WriteAll a b c d e) asks = refl
-asks_kind (act.Expires a b) asks = refl
-asks_kind (act.ExpiresAt a b) asks = refl
-asks_kind (act.Cancel a) asks = refl
-asks_kind (act.CancelOne a) asks = refl
-asks_kind (act.Emit a b) asks = refl
-asks_kind (act.Close a) asks = refl
-asks_kind (act.Release a) asks = refl
-
-pub posting_asks : (given : Act) → asks_its_lane given ≡ is_posting given
-posting_asks (act.Post strand) = refl
-posting_asks (act.Defer strand) = refl
-posting_asks (act.Dispatch strand) = refl
-posting_asks given = refl
-
-passing_act : (script : ScriptModel) (n : ℕ) → act_passes asks_reactor script n ≡ true →
-    (given : Act) × (act_of script n ≡ Some given) × (asks_reactor given ≡ true)
-passing_act script n passes = by_found (act_of script n) refl
-  where
-    by_found : (found : Option Act) → act_of script n ≡ found →
-        (given : Act) × (act_of script n ≡ Some given) × (asks_reactor given ≡ true)
-    by_found None there = absurd (cc (rw there at passes))
-    by_found (Some given) there = (given, there, rw there at passes)
 
 -- a request that may be taken
 pub open_request : (script : ScriptModel) (half : ReactorHalf) (a : ℕ) → may_take script half a ≡ true →
     IsOpenRequest script half a
 open_request script half a may =
-    let parts = and_parts (act_passes asks_reactor script a) (not (was_taken half a)) may in
-    let found = passing_act script a parts.0 in
+    let request = asked script half a may in
     record {
-      act = found.0;
-      is = found.1;
-      asks = asks_kind found.0 found.2;
-      untaken = not-true (was_taken half a) parts.1;
+      act = request.given;
+      is = request.is;
+      asks = asks_kind request.given request.asks;
+      untaken = request.untaken;
     }
-
-pub request_within : (script : ScriptModel) (half : ReactorHalf) (a : ℕ) → may_take script half a ≡ true →
-    a < length script.acts
-request_within script half a may = elim (cases_lt a (length script.acts)) [
-  | inl within ↦ within
-  | inr past ↦
-      let gone : slice_get script.acts a ≡ None = slice_get_past script.acts a past in
-      let none : act_passes asks_reactor script a ≡ false = rw gone refl in
-      let passes = (and_parts (act_passes asks_reactor script a) (not (was_taken half a)) may).0 in
-      absurd (let wrong : false ≡ true = sym none ∙ passes in cc)
-]
 
 -- whether an act may be taken, by its kind
 kind_takes : (script : ScriptModel) (half : ReactorHalf) (a : ℕ) (given : Act) → act_of script a ≡ Some given →

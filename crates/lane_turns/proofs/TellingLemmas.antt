@@ -13,7 +13,7 @@ use Rattle.lane_clock.specs.declared.step.ClockStep.TheVariants.{Draw, Put}
 use Rattle.lane_clock.specs.Steps.{has_drawn, has_put, is_place, is_put}
 use Rattle.lane_clock.proofs.SeatLemmas.{has_drawn-push, has_put-push}
 use Rattle.lane_map.specs.LaneNumbers.{cells_of, home_lane}
-use Rattle.lane_turns.specs.Labels.{Labelled, allots, shows, silent}
+use Rattle.lane_logs.specs.Labels.{Labelled, allots, shows, silent}
 use Rattle.lane_turns.specs.Pens.{HasGone, MayGo, PenView}
 use Rattle.lane_turns.specs.Telling.{HasPlace, HasPlaceBeyond, HasToldDone}
 use Rattle.lane_turns.proofs.PenLemmas.{gone_on, may_go_on}

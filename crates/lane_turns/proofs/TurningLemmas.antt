@@ -18,12 +18,12 @@ use Rattle.reactor_turns.proofs.TurnedLemmas.{rose_since}
 use Rattle.lane_clock.specs.declared.found.Change.{Change}
 use Rattle.lane_clock.specs.declared.found.Change.TheVariants as change
 use Rattle.lane_clock.specs.declared.found.Found.{Found}
-use Rattle.lane_turns.specs.Half.{half_from}
-use Rattle.lane_turns.specs.Labels.{shows, entries_in}
-use Rattle.lane_turns.specs.Names.{SessionNames}
-use Rattle.lane_turns.specs.Parts.{fails, fault_label, tells as tells_all}
+use Rattle.lane_logs.specs.Half.{half_from}
+use Rattle.lane_logs.specs.Labels.{shows, entries_in}
+use Rattle.lane_logs.specs.Names.{SessionNames}
+use Rattle.lane_logs.specs.Parts.{fails, fault_label, tells as tells_all}
+use Rattle.lane_logs.specs.ReactorTurns.{AreTold}
 use Rattle.lane_turns.specs.Pens.{HasGone, MayGo, PenView}
-use Rattle.lane_turns.specs.ReactorTurns.{AreTold}
 use Rattle.lane_turns.specs.Turning.{HasTold, HasTurned, HasTurnRoom, IsMidTurn, KeepsTurns, log_half}
 use Rattle.lane_turns.proofs.HalfLemmas.{log_event, log_on, room_on}
 use Rattle.lane_turns.proofs.PenLemmas.{gone_on, may_go_less}

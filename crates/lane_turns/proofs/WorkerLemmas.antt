@@ -1,5 +1,5 @@
 -- A worker after it stops the context, reads the clock word, or takes in what the opener knew.
-use Rattle.std.proofs.Common.{◌≡◌, ◌≢◌, ◌⊎◌, inl, inr, ⊎_elim, ℕ, ◌+◌, ◌≤◌, Bool, true, false, cond, zero, suc, List, [], ◌∷◌, ◌++◌, Option, None, length, ne_eqb, refl, sym, ap, subst, ◌∙◌, arith, append_assoc}
+use Rattle.std.proofs.Common.{◌≡◌, ◌≢◌, ◌⊎◌, inl, inr, ⊎_elim, ℕ, ◌+◌, ◌≤◌, Bool, true, false, cond, List, [], ◌∷◌, ◌++◌, Option, None, length, ne_eqb, refl, sym, ap, subst, ◌∙◌, arith, append_assoc}
 use Rattle.std.specs.Prelude.{◌&&◌, ◌==◌, not}
 use Rattle.std.proofs.lemmas.Bool.{eq-eqb, eqb-true}
 use Rattle.std.proofs.lemmas.Bool.Decides.{eqb_tells}
@@ -10,61 +10,34 @@ use Rattle.lane_clock.specs.declared.found.Change.TheVariants as change
 use Rattle.lane_clock.specs.declared.found.Found.{Found}
 use Rattle.lane_clock.specs.declared.note.Note.{Note}
 use Rattle.lane_clock.specs.declared.step.ClockStep.{ClockStep}
-use Rattle.lane_clock.specs.declared.step.ClockStep.TheVariants.{Draw, Load, Place, Put, Look, Join}
+use Rattle.lane_clock.specs.declared.step.ClockStep.TheVariants.{Load, Look, Join}
 use Rattle.lane_clock.specs.declared.step.Known.{Known}
 use Rattle.lane_clock.specs.Knowledge.{StartOf, counts, steps_at}
 use Rattle.lane_clock.specs.Seats.{ClockId, Owns, SeatView, copy_seat, own}
 use Rattle.lane_clock.specs.Steps.{draw_count, place_count, step_count}
-use Rattle.lane_turns.specs.declared.log.LogEntry.{LogEntry}
+use Rattle.lane_logs.specs.declared.log.LogEntry.{LogEntry}
+use Rattle.lane_logs.specs.Knowing.{joined_count, lists_of}
+use Rattle.lane_logs.specs.Labels.{Labelled, shows, silent, entries_in, steps_in}
+use Rattle.lane_logs.specs.OpenerLog.{IsRestingStep}
+use Rattle.lane_logs.specs.SeatNumbers.{opener_seat}
+use Rattle.lane_logs.specs.Stand.{Stand, base_of, is_round_open, shut, stand_from, stand_of}
+use Rattle.lane_logs.specs.WorkerLog.{AreWorkerParts, MayFollowStopped, WorkerPart, waiting, stopped, labels_of_worker, stand_known, stops_drawn, worker_label}
+use Rattle.lane_logs.proofs.LabelLemmas.{entries-append, steps-append}
+use Rattle.lane_logs.proofs.StandLemmas.{open_stand, closings_rise}
 use Rattle.lane_turns.specs.declared.standing.RoundNow.{RoundNow}
 use Rattle.lane_turns.specs.Batons.{opener_known}
-use Rattle.lane_turns.specs.Knowing.{joined_count}
-use Rattle.lane_turns.specs.Labels.{Labelled, shows, silent, entries_in, steps_in}
-use Rattle.lane_turns.specs.Meeting.{PenHasMet, lists_of}
-use Rattle.lane_turns.specs.OpenerLog.{IsRestingStep}
+use Rattle.lane_turns.specs.Meeting.{PenHasMet}
 use Rattle.lane_turns.specs.Openers.{round_after}
 use Rattle.lane_turns.specs.Pens.{HasGone, MayGo, PenView}
 use Rattle.lane_turns.specs.Receipts.{looks_from}
-use Rattle.lane_turns.specs.SeatNumbers.{opener_seat}
-use Rattle.lane_turns.specs.Stand.{Stand, after_draw, after_opening_draw, base_of, is_round_open, shut, stand_from, stand_of, wants_restart}
-use Rattle.lane_turns.specs.WorkerLog.{AreWorkerParts, MayFollowStopped, WorkerPart, waiting, stopped, labels_of_worker, stand_known, stops_drawn, worker_label}
 use Rattle.lane_turns.specs.Workers.{IsInStep, IsWorker, WorkerView, heard_round, in_new_round, may_draw_stop}
 use Rattle.lane_turns.proofs.GrowingLemmas.{take_start}
 use Rattle.lane_turns.proofs.LaneMeetingLemmas.{knows_opener}
 use Rattle.lane_turns.proofs.LookedLemmas.{looks_draw_none, looks_place_none, looks_quiet, looks_show_none}
 use Rattle.lane_turns.proofs.MeetingLemmas.{copied_steps, joined_less, met_clock, met_either, met_known, met_number}
 use Rattle.lane_turns.proofs.OpenerLemmas.{stand_from-append}
-use Rattle.lane_turns.proofs.PenLemmas.{entries-append, gone_clock, step_count-append, steps-append}
-use Rattle.lane_turns.proofs.StandLemmas.{open_stand}
+use Rattle.lane_turns.proofs.PenLemmas.{gone_clock, step_count-append}
 use Rattle.lane_turns.proofs.SteppingLemmas.{joined_on, knows_all, stepped_known, stepped_number}
-
--- rounds are closed one after another
-closings_by : (script : ScriptModel) (stand : Stand) (found : Found) (opening : ℕ) →
-    stand.closings ≤ (after_opening_draw opening script stand found).closings
-closings_by script stand found zero = by_test (wants_restart script stand)
-  where
-    by_test : (b : Bool) →
-        stand.closings
-        ≤ (cond b (record stand { restarted = true; base = found.stops })
-        (record stand { closings = stand.closings + 1; restarted = false })).closings
-    by_test true = omega arith
-    by_test false = omega arith
-closings_by script stand found (suc opening) = omega arith
-
-pub closings_rise : (script : ScriptModel) (steps : List ClockStep) (stand : Stand) →
-    stand.closings ≤ (stand_from script stand steps).closings
-closings_rise script [] stand = omega arith
-closings_rise script (Draw change found ∷ steps) stand =
-    omega (
-      arith,
-      closings_by script stand found stand.opening,
-      closings_rise script steps (after_draw script stand found),
-    )
-closings_rise script (Load found ∷ steps) stand = closings_rise script steps stand
-closings_rise script (Place lane place ∷ steps) stand = closings_rise script steps stand
-closings_rise script (Put lane place note ∷ steps) stand = closings_rise script steps stand
-closings_rise script (Look lane place held ∷ steps) stand = closings_rise script steps stand
-closings_rise script (Join taken ∷ steps) stand = closings_rise script steps stand
 
 -- a worker's log stays one where more of the opener's steps are known
 module _ (script : ScriptModel) (opener longer : List ClockStep) (more : StartOf opener longer) where

@@ -4,19 +4,19 @@ use Rattle.std.specs.Prelude.{◌≡◌, ◌≢◌, ℕ, Bool, true, List, Optio
 use Rattle.session_script.specs.Script.{ScriptModel}
 use Rattle.turn_table.specs.Seated.{Lanes, Seated}
 use Rattle.lane_clock.specs.Seats.{SeatView}
-use Rattle.lane_turns.specs.declared.log.LogEntry.{LogEntry}
+use Rattle.lane_logs.specs.declared.log.LogEntry.{LogEntry}
+use Rattle.lane_logs.specs.Cuts.{EventsAreCuts}
+use Rattle.lane_logs.specs.Knowing.{lists_of}
+use Rattle.lane_logs.specs.SeatNumbers.{lane_count}
+use Rattle.lane_logs.specs.Stand.{Stand}
 use Rattle.lane_turns.specs.declared.run_end.RunEnd.{RunEnd}
 use Rattle.lane_turns.specs.declared.run_end.RunEnd.TheVariants as end
 use Rattle.lane_turns.specs.Attempts.{WorkerState}
 use Rattle.lane_turns.specs.Benches.{AreInRound, AreWorkers}
-use Rattle.lane_turns.specs.Cuts.{EventsAreCuts}
 use Rattle.lane_turns.specs.Gathering.{AreSeated, StandsForFirst, with_turns_below}
 use Rattle.lane_turns.specs.LaneOf.{has_failed}
 use Rattle.lane_turns.specs.LaneValues.{IsBaton, LaneValue, Terms}
-use Rattle.lane_turns.specs.Meeting.{lists_of}
 use Rattle.lane_turns.specs.Openers.{OpenerView}
-use Rattle.lane_turns.specs.SeatNumbers.{lane_count}
-use Rattle.lane_turns.specs.Stand.{Stand}
 
 -- all workers, the caller's own last, and the opener
 pub record WorkersView (H X : Type 0) : Type 0 where

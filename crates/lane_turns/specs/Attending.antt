@@ -9,9 +9,8 @@ use Rattle.lane_clock.specs.declared.step.ClockStep.TheVariants.{Draw}
 use Rattle.lane_clock.specs.Knowledge.{StartOf}
 use Rattle.lane_clock.specs.Seats.{Owns, Remembers, SeatView, own}
 use Rattle.lane_clock.specs.Steps.{draw_count, step_count}
+use Rattle.lane_logs.specs.Knowing.{joined_count, lists_of}
 use Rattle.lane_turns.specs.Batons.{opener_known}
-use Rattle.lane_turns.specs.Knowing.{joined_count}
-use Rattle.lane_turns.specs.Meeting.{lists_of}
 use Rattle.lane_turns.specs.Openers.{HaveMet, OpenerView}
 
 -- the opener went on without a draw

@@ -9,15 +9,15 @@ use Rattle.lane_clock.specs.declared.step.ClockStep.{ClockStep}
 use Rattle.lane_clock.specs.Knowledge.{steps_at}
 use Rattle.lane_clock.specs.Seats.{ClockId, Owns, SeatView, own}
 use Rattle.lane_map.specs.LaneNumbers.{is_op_on, reactor_lane}
-use Rattle.lane_turns.specs.declared.log.LogEntry.{LogEntry}
-use Rattle.lane_turns.specs.Knowing.{joined_count}
-use Rattle.lane_turns.specs.Labels.{events_in}
-use Rattle.lane_turns.specs.LaneLog.{IsLaneLog, has_begun}
-use Rattle.lane_turns.specs.Names.{IsNamedMark, SessionNames}
-use Rattle.lane_turns.specs.Parts.{next_place}
+use Rattle.lane_logs.specs.declared.log.LogEntry.{LogEntry}
+use Rattle.lane_logs.specs.Knowing.{joined_count}
+use Rattle.lane_logs.specs.Labels.{events_in}
+use Rattle.lane_logs.specs.LaneLog.{IsLaneLog, has_begun}
+use Rattle.lane_logs.specs.Names.{IsNamedMark, SessionNames}
+use Rattle.lane_logs.specs.Parts.{next_place}
+use Rattle.lane_logs.specs.SeatNumbers.{lane_count, opener_seat}
+use Rattle.lane_logs.specs.Stand.{base_of, is_running_round}
 use Rattle.lane_turns.specs.Pens.{MayGo, PenView}
-use Rattle.lane_turns.specs.SeatNumbers.{lane_count, opener_seat}
-use Rattle.lane_turns.specs.Stand.{base_of, is_running_round}
 
 pub record LaneView : Type 0 where
   pub lane : ℕ

@@ -7,11 +7,11 @@ use Rattle.session_script.specs.Script.{ScriptModel}
 use Rattle.lane_clock.specs.declared.step.ClockStep.{ClockStep}
 use Rattle.lane_clock.specs.Seats.{SeatView, own}
 use Rattle.lane_map.specs.LaneNumbers.{reactor_lane}
+use Rattle.lane_logs.specs.Cuts.{HaveStarted, NoneStops}
+use Rattle.lane_logs.specs.Stand.{base_at, Stand}
+use Rattle.lane_logs.specs.SeatNumbers.{lane_count, worker_count}
 use Rattle.lane_turns.specs.Attending.{HasGoneOn, HaveAttended}
-use Rattle.lane_turns.specs.Cuts.{HaveStarted, NoneStops}
-use Rattle.lane_turns.specs.Openers.{OpenerView, base_at, is_running_at}
-use Rattle.lane_turns.specs.SeatNumbers.{lane_count, worker_count}
-use Rattle.lane_turns.specs.Stand.{Stand}
+use Rattle.lane_turns.specs.Openers.{OpenerView, is_running_at}
 
 -- so many seats, whose numbers are one after another from the first on
 pub record IsRow {T : Type 0} (seat : T → SeatView) (first count : ℕ) (all : List T) : Type 0 where

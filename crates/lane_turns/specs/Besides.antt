@@ -2,7 +2,7 @@
 -- own).
 use Rattle.std.specs.Prelude.{Bool, false, List, [], Option, None, map, is_some}
 use Rattle.turn_table.specs.Seated.{Seated}
-use Rattle.lane_turns.specs.declared.log.LogEntry.{LogEntry}
+use Rattle.lane_logs.specs.declared.log.LogEntry.{LogEntry}
 use Rattle.lane_turns.specs.declared.run_end.RunEnd.{RunEnd}
 use Rattle.lane_turns.specs.Attempts.{WorkerState}
 

@@ -6,10 +6,10 @@ use Rattle.asio_types.specs.declared.event.Event.TheVariants as event
 use Rattle.session_script.specs.Script.{ScriptModel}
 use Rattle.lane_clock.specs.declared.found.Found.{Found}
 use Rattle.lane_map.specs.LaneNumbers.{cells_of}
+use Rattle.lane_logs.specs.OpenerLog.{Looked, look_label}
 use Rattle.lane_turns.specs.declared.closing.Closing.{Closing}
 use Rattle.lane_turns.specs.declared.closing.Closing.TheVariants as closing
 use Rattle.lane_turns.specs.declared.standing.RoundNow.{RoundNow}
-use Rattle.lane_turns.specs.OpenerLog.{Looked, look_label}
 use Rattle.lane_turns.specs.Pens.{HasGone, PenView}
 
 -- the event that closes a round

@@ -8,9 +8,9 @@ use Rattle.asio_types.specs.declared.event.Event.{Event}
 use Rattle.op_handlers.specs.Marks.{Marks}
 use Rattle.lane_map.specs.LaneNumbers.{home_lane, is_op_on, reactor_lane}
 use Rattle.strand_core.specs.Hands.{Held, held_at}
-use Rattle.lane_turns.specs.Drops.{dropped, has_call, is_left}
-use Rattle.lane_turns.specs.LaneLog.{has_begun}
-use Rattle.lane_turns.specs.Names.{SessionNames}
+use Rattle.lane_logs.specs.Drops.{dropped, has_call, is_left}
+use Rattle.lane_logs.specs.LaneLog.{has_begun}
+use Rattle.lane_logs.specs.Names.{SessionNames}
 
 -- the handler of an operation, if it is held
 abbrev pub held_in : {H : Type 0} → Option (Held H) → ℕ → Option H

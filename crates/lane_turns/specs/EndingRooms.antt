@@ -3,8 +3,8 @@
 use Rattle.std.specs.Prelude.{◌≡◌, ◌≤◌, Bool, false, List, [], All, length, vec_capacity}
 use Rattle.session_script.specs.Script.{ScriptModel}
 use Rattle.lane_map.specs.LaneNumbers.{reactor_lane}
+use Rattle.lane_logs.specs.SeatNumbers.{lane_count, opener_seat, seat_count}
 use Rattle.lane_turns.specs.declared.ending_room.LeavingRoom.{LeavingRoom}
-use Rattle.lane_turns.specs.SeatNumbers.{lane_count, opener_seat, seat_count}
 
 -- a mark for each act, none of which is set
 pub record AreUnset (script : ScriptModel) (marks : List Bool) : Type 0 where

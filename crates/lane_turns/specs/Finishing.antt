@@ -2,7 +2,6 @@
 -- closed, and what is given back (Asio reference, io_context::~io_context).
 use Rattle.std.specs.Prelude.{◌≡◌, ◌⊎◌, ◌≤◌, ◌+◌, ℕ, Bool, true, false, List, [], ◌∷◌, ◌++◌, Option, IfSome, IsTrue, length, map, slice_get}
 use Rattle.asio_types.specs.Faults.{Rose}
-use Rattle.asio_types.specs.declared.event.Event.{Event}
 use Rattle.session_script.specs.Script.{ScriptModel}
 use Rattle.history_rules.specs.State.{ReactorHalf}
 use Rattle.reactor_trait.specs.Reactor.{Outside, ReactorState}
@@ -10,14 +9,14 @@ use Rattle.proactor_core.specs.Proactor.{sent_to_peer, tells}
 use Rattle.lane_clock.specs.declared.found.Found.{Found}
 use Rattle.lane_clock.specs.Closing.{Closed}
 use Rattle.lane_clock.specs.Seats.{ClockId, SeatView, copy_seat}
-use Rattle.lane_turns.specs.declared.log.LogEntry.{LogEntry}
+use Rattle.lane_logs.specs.declared.log.LogEntry.{LogEntry}
+use Rattle.lane_logs.specs.Logs.{LogsView, entries_of}
+use Rattle.lane_logs.specs.Knowing.{lists_of}
+use Rattle.lane_logs.specs.SeatNumbers.{lane_count}
 use Rattle.lane_turns.specs.Batons.{BatonView, LaneView}
 use Rattle.lane_turns.specs.KnownFaults.{KnowsFault}
-use Rattle.lane_turns.specs.Logs.{LogsView, entries_of}
-use Rattle.lane_turns.specs.Meeting.{lists_of}
 use Rattle.lane_turns.specs.Openers.{IsOpener, OpenerView}
 use Rattle.lane_turns.specs.Pens.{PenView}
-use Rattle.lane_turns.specs.SeatNumbers.{lane_count}
 use Rattle.lane_turns.specs.TakingIn.{AreTakenIn}
 use Rattle.lane_turns.specs.Workers.{WorkerView}
 
@@ -44,23 +43,6 @@ lanes_in batons reactor = map (λ baton. baton.lane) batons ++ reactor ∷ []
 -- the pens of lanes and of workers, in the order of their numbers
 abbrev pub pens_of : List LaneView → List WorkerView → List PenView
 pens_of lanes workers = map (λ lane. lane.pen) lanes ++ map (λ worker. worker.pen) workers
-
--- the logs that a session leaves, with what was known of all steps
-pub record KeptLogs : Type 0 where
-  pub known : SeatView
-  pub last : Found
-  pub entries : List (List LogEntry)
-  pub missed : List (Option ℕ)
-  pub drops : List Event
-
-abbrev pub logs_in : KeptLogs → LogsView
-logs_in kept = record {
-  lists = lists_of kept.known;
-  last = kept.last;
-  entries = kept.entries;
-  missed = kept.missed;
-  drops = kept.drops;
-}
 
 -- the log of each worker is kept at its number
 abbrev pub KeepLogsOf : {T : Type 0} → (T → List LogEntry) → ScriptModel → LogsView → List T → Type 0

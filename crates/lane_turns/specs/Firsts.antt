@@ -8,13 +8,13 @@ use Rattle.strand_core.specs.Hands.{Held}
 use Rattle.reactor_turns.specs.Ahead.{most_turn_events}
 use Rattle.lane_clock.specs.Seats.{ClockId}
 use Rattle.lane_clock.specs.Steps.{most_draws}
+use Rattle.lane_logs.specs.Names.{SessionNames}
+use Rattle.lane_logs.specs.Stand.{base_at, first_stand}
+use Rattle.lane_logs.specs.SeatNumbers.{lane_count}
 use Rattle.lane_turns.specs.Batons.{BatonView, LaneView}
-use Rattle.lane_turns.specs.Names.{SessionNames}
-use Rattle.lane_turns.specs.Openers.{OpenerView, base_at, is_running_at, round_of}
+use Rattle.lane_turns.specs.Openers.{OpenerView, is_running_at, round_of}
 use Rattle.lane_turns.specs.Pens.{PenView}
 use Rattle.lane_turns.specs.Rooms.{IsNewPen, lane_room, opener_room, worker_room}
-use Rattle.lane_turns.specs.SeatNumbers.{lane_count}
-use Rattle.lane_turns.specs.Stand.{first_stand}
 use Rattle.lane_turns.specs.Workers.{WorkerView}
 
 -- a lane that has executed nothing, where the rounds stand as before the first event

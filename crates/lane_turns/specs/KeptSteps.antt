@@ -3,8 +3,8 @@
 use Rattle.std.specs.Prelude.{◌≡◌, ℕ, ◌+◌, List, IfSome, Some, slice_get}
 use Rattle.session_script.specs.Script.{ScriptModel}
 use Rattle.lane_clock.specs.Seats.{Remembers, SeatView, own}
-use Rattle.lane_turns.specs.Logs.{LogsView}
-use Rattle.lane_turns.specs.SeatNumbers.{lane_count}
+use Rattle.lane_logs.specs.Logs.{LogsView}
+use Rattle.lane_logs.specs.SeatNumbers.{lane_count}
 
 -- all steps of each worker are there, at its number
 abbrev pub KeepStepsOf : {T : Type 0} → (T → SeatView) → ScriptModel → LogsView → List T → Type 0

@@ -5,10 +5,10 @@ use Rattle.session_script.specs.Script.{ScriptModel}
 use Rattle.lane_clock.specs.declared.step.ClockStep.{ClockStep}
 use Rattle.lane_clock.specs.Seats.{SeatView, own}
 use Rattle.lane_map.specs.LaneNumbers.{reactor_lane}
+use Rattle.lane_logs.specs.Cuts.{is_stop_draw}
+use Rattle.lane_logs.specs.Knowing.{lists_of}
 use Rattle.lane_turns.specs.declared.run_end.RunEnd.{RunEnd}
 use Rattle.lane_turns.specs.declared.run_end.RunEnd.TheVariants as end
-use Rattle.lane_turns.specs.Cuts.{is_stop_draw}
-use Rattle.lane_turns.specs.Meeting.{lists_of}
 
 -- one of these steps stops the context
 abbrev pub SomeStop : List ClockStep → Type 0

@@ -4,11 +4,11 @@ use Rattle.std.specs.Prelude.{◌≡◌, ◌⊎◌, ℕ, zero, suc, ◌<◌, tru
 use Rattle.op_handlers.specs.Marks.{Marks}
 use Rattle.reactor_trait.specs.Reactor.{Outside, ReactorState}
 use Rattle.lane_clock.specs.Seats.{ClockId}
+use Rattle.lane_logs.specs.Names.{SessionNames}
 use Rattle.lane_turns.specs.declared.one.One.{One}
 use Rattle.lane_turns.specs.declared.one.One.TheVariants.{Nothing}
 use Rattle.lane_turns.specs.Answers.{is_done}
 use Rattle.lane_turns.specs.Batons.{BatonView, IsHandlerBaton}
-use Rattle.lane_turns.specs.Names.{SessionNames}
 use Rattle.lane_turns.specs.Polling.{CameTo}
 use Rattle.lane_turns.specs.ReactorPolling.{TurnCameTo}
 use Rattle.lane_turns.specs.Turning.{IsReactorBaton, ReactorView}

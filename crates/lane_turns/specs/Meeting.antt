@@ -1,15 +1,10 @@
 -- One seat takes in what another knew, and what two seats know after they met, this project's own.
-use Rattle.std.specs.Prelude.{◌≡◌, ◌≢◌, ℕ, ◌≤◌, List, [], ◌∷◌, ◌++◌, length}
-use Rattle.lane_clock.specs.declared.step.ClockStep.{ClockStep}
+use Rattle.std.specs.Prelude.{◌≡◌, ◌≢◌, ℕ, ◌≤◌, [], ◌∷◌, ◌++◌, length}
 use Rattle.lane_clock.specs.declared.step.ClockStep.TheVariants.{Join}
-use Rattle.lane_clock.specs.Knowledge.{counts, steps_at}
+use Rattle.lane_clock.specs.Knowledge.{counts}
 use Rattle.lane_clock.specs.Seats.{IsSourceOf, Keeps, Remembers, SeatView, after_join, own}
-use Rattle.lane_turns.specs.Knowing.{joined_count}
+use Rattle.lane_logs.specs.Knowing.{joined_count, lists_of}
 use Rattle.lane_turns.specs.Pens.{PenView}
-
--- of each number the steps that a seat knows
-abbrev pub lists_of : SeatView → ℕ → List ClockStep
-lists_of seat n = steps_at seat.known n
 
 -- what a seat knows of the other numbers its own joins took in; of its own number they took in no
 -- more than it did

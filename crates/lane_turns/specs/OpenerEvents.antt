@@ -6,12 +6,12 @@ use Rattle.session_script.specs.Script.{ScriptModel, opening_of}
 use Rattle.lane_clock.specs.declared.found.Change.TheVariants as change
 use Rattle.lane_clock.specs.declared.found.Found.{Found}
 use Rattle.lane_clock.specs.declared.step.ClockStep.TheVariants.{Load}
+use Rattle.lane_logs.specs.Labels.{Labelled, shows, silent}
+use Rattle.lane_logs.specs.OpenerLog.{Looked, closing_change, look_label}
+use Rattle.lane_logs.specs.Calls.{called_each}
 use Rattle.lane_turns.specs.declared.closing.Closing.{Closing}
 use Rattle.lane_turns.specs.Closing.{BearsOut, Refutes, closing_event}
-use Rattle.lane_turns.specs.Labels.{Labelled, shows, silent}
-use Rattle.lane_turns.specs.OpenerLog.{Looked, closing_change, look_label}
 use Rattle.lane_turns.specs.Openers.{OpenerView, round_of}
-use Rattle.lane_turns.specs.Opening.{called_each}
 use Rattle.lane_turns.specs.Pens.{HasDrawnCalls, HasGone}
 
 -- the calls of `open` were made

@@ -1,19 +1,20 @@
 -- The opener: who makes the calls of `open`, and closes and restarts rounds (Asio reference,
 -- io_context::run, ::poll, ::restart).
-use Rattle.std.specs.Prelude.{◌≡◌, ℕ, ◌+◌, ◌-◌, ◌*◌, Bool, List, length, if◌then◌else◌}
+use Rattle.std.specs.Prelude.{◌≡◌, Bool, List}
 use Rattle.session_script.specs.Script.{ScriptModel}
 use Rattle.history_rules.specs.Rounds.{runs}
 use Rattle.lane_clock.specs.declared.step.ClockStep.{ClockStep}
 use Rattle.lane_clock.specs.Knowledge.{StartOf}
 use Rattle.lane_clock.specs.Seats.{ClockId, Owns, SeatView, copy_seat, own}
+use Rattle.lane_logs.specs.Knowing.{lists_of}
+use Rattle.lane_logs.specs.OpenerLog.{IsOpenerLog}
+use Rattle.lane_logs.specs.SeatNumbers.{opener_seat}
+use Rattle.lane_logs.specs.Stand.{Stand, round_at, stand_of, base_at, draws_to_come}
 use Rattle.lane_turns.specs.declared.standing.RoundNow.{RoundNow}
 use Rattle.lane_turns.specs.declared.standing.RoundStanding.{RoundStanding}
 use Rattle.lane_turns.specs.Batons.{LaneView, opener_known}
-use Rattle.lane_turns.specs.Meeting.{HasMet, KnowsByJoins, PenHasMet, lists_of}
-use Rattle.lane_turns.specs.OpenerLog.{IsOpenerLog}
+use Rattle.lane_turns.specs.Meeting.{HasMet, KnowsByJoins, PenHasMet}
 use Rattle.lane_turns.specs.Pens.{MayGo, PenView}
-use Rattle.lane_turns.specs.SeatNumbers.{opener_seat}
-use Rattle.lane_turns.specs.Stand.{Stand, is_round_open, round_at, shut, stand_of}
 
 -- where the rounds stand, as it is kept
 abbrev pub stand_at : RoundStanding → Stand
@@ -27,16 +28,6 @@ stand_at at = record {
 pub record OpenerView : Type 0 where
   pub pen : PenView
   pub stand : Stand
-
--- how many draws of rounds are still to come at most: a restart and a closing of each that isn't
--- closed
-abbrev pub rounds_to_come : ScriptModel → Stand → ℕ
-rounds_to_come script stand =
-    let most = 2 * (length script.rounds - stand.closings) in
-    if stand.restarted then most - 1 else most
-
-abbrev pub draws_to_come : ScriptModel → Stand → ℕ
-draws_to_come script stand = stand.opening + rounds_to_come script stand
 
 -- The opener, whose log has the calls of `open` and the events of rounds
 pub record IsOpener (script : ScriptModel) (clock : ClockId) (view : OpenerView) : Type 0 where
@@ -62,10 +53,6 @@ pub record HaveMet (script : ScriptModel) (old new : OpenerView) (before after :
   pub told : HasMet (copy_seat old.pen.seat) before after
   pub heard : HasTakenIn script after old new
   pub stand_is : old.stand ≡ stand_of script (own old.pen.seat)
-
--- the stops with which a lane may begin something where the rounds stand so
-abbrev pub base_at : ScriptModel → Stand → ℕ
-base_at script stand = if is_round_open script stand then stand.base else shut
 
 abbrev pub is_running_at : ScriptModel → Stand → Bool
 is_running_at script stand = runs (round_at script stand)

@@ -7,8 +7,9 @@ use Rattle.lane_clock.specs.declared.note.Note.{Note}
 use Rattle.lane_clock.specs.declared.step.ClockStep.{ClockStep}
 use Rattle.lane_clock.specs.Seats.{SeatView, Keeps, after_step, own}
 use Rattle.lane_clock.specs.Steps.{draw_count, place_count, step_count, most_draws}
-use Rattle.lane_turns.specs.declared.log.LogEntry.{LogEntry}
-use Rattle.lane_turns.specs.Labels.{AreDrawn, IsDrawn, Labelled, allots, entries_in, put_within, steps_in}
+use Rattle.lane_logs.specs.declared.log.LogEntry.{LogEntry}
+use Rattle.lane_logs.specs.Names.{no_clock}
+use Rattle.lane_logs.specs.Labels.{AreDrawn, IsDrawn, Labelled, allots, entries_in, put_within, steps_in}
 
 pub record PenView : Type 0 where
   pub seat : SeatView
@@ -24,18 +25,7 @@ after_steps seat (step ∷ steps) = after_steps (after_step seat step) steps
 abbrev pub no_pen : PenView
 no_pen = record {
   seat = record {
-    clock = record {
-      table = record {
-        words = 0;
-        slots = 0;
-        views_name = 0;
-        atom = 0;
-        block = 0;
-        offset = 0;
-        slot_names = [];
-      };
-      plan = record { guards = 0; seats = 0; cells = [] };
-    };
+    clock = no_clock;
     number = 0;
     known = [];
   };

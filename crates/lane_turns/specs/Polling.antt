@@ -11,11 +11,11 @@ use Rattle.strand_core.specs.Room.{room_for}
 use Rattle.lane_clock.specs.declared.found.Found.{Found}
 use Rattle.lane_clock.specs.declared.note.Note.{Note}
 use Rattle.lane_clock.specs.declared.step.ClockStep.TheVariants.{Load}
+use Rattle.lane_logs.specs.Labels.{AreDrawn, Labelled, silent}
+use Rattle.lane_logs.specs.Parts.{ExecutedPart, executed, labels_in, looks_empty, looks_full}
 use Rattle.lane_turns.specs.declared.one.One.{One}
 use Rattle.lane_turns.specs.declared.one.One.TheVariants as one
 use Rattle.lane_turns.specs.Batons.{LaneView}
-use Rattle.lane_turns.specs.Labels.{AreDrawn, Labelled, silent}
-use Rattle.lane_turns.specs.Parts.{ExecutedPart, executed, labels_in, looks_empty, looks_full}
 use Rattle.lane_turns.specs.Pens.{HasGone, PenView}
 
 -- as many calls as no execution of a script makes more

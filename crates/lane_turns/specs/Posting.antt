@@ -1,12 +1,12 @@
 -- A poster of a lane: what it made since its execution began, and what it takes next.
-use Rattle.std.specs.Prelude.{◌≡◌, ℕ, ◌<◌, ◌≤◌, List, [], ◌∷◌, ◌++◌, length}
+use Rattle.std.specs.Prelude.{◌≡◌, ℕ, ◌<◌, ◌≤◌, List, ◌++◌, length}
 use Rattle.session_script.specs.Limits.{most_acts}
 use Rattle.session_script.specs.Script.{ScriptModel}
 use Rattle.strand_core.specs.declared.posted.Posted.{Posted}
-use Rattle.strand_core.specs.declared.posted.Posted.TheVariants as posted
 use Rattle.strand_core.specs.Execution.{events_of}
 use Rattle.lane_clock.specs.Seats.{ClockId}
 use Rattle.lane_map.specs.LaneNumbers.{asked_lane, cells_of}
+use Rattle.lane_logs.specs.Calls.{CallsActs}
 use Rattle.lane_turns.specs.Pens.{HasDrawnCalls, MayGo, PenView}
 
 pub record PosterView : Type 0 where
@@ -27,14 +27,6 @@ pub record IsPosting (clock : ClockId) (start : PenView) (view : PosterView) : T
   pub clock_is : view.pen.seat.clock ≡ clock
   pub fits : FitsClock view.script clock
   pub drawn : HasDrawnCalls view.script view.made start view.pen
-
--- the acts that are called are acts of the script
-abbrev pub CallsActs : ScriptModel → List Posted → Type 0
-CallsActs script [] = Unit {0}
-CallsActs script (posted.Begin op code size begun ∷ calls) = CallsActs script calls
-CallsActs script (posted.Call act ∷ calls) = (act < length script.acts) × CallsActs script calls
-CallsActs script (posted.Back act ∷ calls) = CallsActs script calls
-CallsActs script (posted.End op ran ∷ calls) = CallsActs script calls
 
 -- there is room for these calls, for the entries of their events, and for their steps
 pub record TakesCalls (script : ScriptModel) (pen : PenView) (spare : ℕ) (calls : List Posted)

@@ -9,16 +9,16 @@ use Rattle.proactor_core.specs.Proactor.{ProactorView}
 use Rattle.lane_clock.specs.declared.found.Found.{Found}
 use Rattle.lane_clock.specs.declared.note.Note.{Note}
 use Rattle.lane_clock.specs.declared.step.ClockStep.TheVariants.{Load}
+use Rattle.lane_logs.specs.Half.{held_guards}
+use Rattle.lane_logs.specs.Labels.{Labelled, silent}
+use Rattle.lane_logs.specs.Names.{SessionNames}
+use Rattle.lane_logs.specs.Parts.{FailedPart, TurnPart, TurnStart, failed, is_failing, labels_in, looks_empty, looks_full, takes_place, turned}
+use Rattle.lane_logs.specs.ReactorTurns.{EndsTurn, MayStartTurn, may_take, start_event}
 use Rattle.lane_turns.specs.declared.one.One.{One}
 use Rattle.lane_turns.specs.declared.one.One.TheVariants as one
 use Rattle.lane_turns.specs.Batons.{LaneView}
-use Rattle.lane_turns.specs.Half.{held_guards}
-use Rattle.lane_turns.specs.Labels.{Labelled, silent}
-use Rattle.lane_turns.specs.Names.{SessionNames}
-use Rattle.lane_turns.specs.Parts.{FailedPart, TurnPart, TurnStart, failed, is_failing, labels_in, looks_empty, looks_full, takes_place, turned}
 use Rattle.lane_turns.specs.Pens.{HasGone, PenView}
 use Rattle.lane_turns.specs.Polling.{left_labels, missed_too, place_on, with_pen}
-use Rattle.lane_turns.specs.ReactorTurns.{EndsTurn, MayStartTurn, may_take, start_event}
 use Rattle.lane_turns.specs.Turning.{log_half}
 
 -- the reactor's half to which the lane's log leads

@@ -1,17 +1,15 @@
 -- What a worker sees of an operation while others work: a receipt, which says how it completed, or
 -- that it was posted and is ready (Asio reference, Overview, "The Proactor Design Pattern":
 -- completion event queue; the cells are this project's own).
-use Rattle.std.specs.Prelude.{◌≡◌, ◌≢◌, ℕ, ◌+◌, Bool, false, ◌==◌, List, [], ◌∷◌, ◌++◌, Option, Some, None, length, slice_index}
+use Rattle.std.specs.Prelude.{◌≡◌, ℕ, ◌+◌, false, List, [], ◌∷◌, ◌++◌, Option, Some, None, length, slice_index}
 use Rattle.std.specs.List.{list_any}
-use lib.ListN.{get_elem?}
-use mathlib.Core.Option.{some}
 use Rattle.session_script.specs.Script.{ScriptModel}
 use Rattle.lane_clock.specs.declared.note.Note.{Note}
-use Rattle.lane_clock.specs.declared.step.ClockStep.{ClockStep}
 use Rattle.lane_clock.specs.declared.step.ClockStep.TheVariants.{Look}
-use Rattle.lane_map.specs.LaneNumbers.{cells_of, home_lane, reactor_lane}
-use Rattle.lane_turns.specs.declared.receipt.Receipt.{Receipt}
-use Rattle.lane_turns.specs.Labels.{Labelled, silent}
+use Rattle.lane_map.specs.LaneNumbers.{cells_of, home_lane}
+use Rattle.lane_logs.specs.declared.receipt.Receipt.{Receipt}
+use Rattle.lane_logs.specs.Labels.{Labelled, silent}
+use Rattle.lane_logs.specs.Receipts.{holds_op, note_of}
 use Rattle.lane_turns.specs.Pens.{HasGone}
 use Rattle.lane_turns.specs.Workers.{WorkerView}
 
@@ -21,15 +19,6 @@ pub record SeatHasGone (labels : List Labelled) (old new : WorkerView) : Type 0 
   pub round : new.round ≡ old.round
   pub drew : new.drew ≡ old.drew
   pub stopped : new.stopped ≡ old.stopped
-
--- the note of which it tells
-abbrev pub note_of : Receipt → Note
-note_of receipt = record { op = receipt.op; code = receipt.code; size = receipt.size }
-
--- whether a cell held a note of the operation
-abbrev pub holds_op : ℕ → Option Note → Bool
-holds_op op None = false
-holds_op op (Some note) = note.op == op
 
 -- looks at the cells of a lane one after another, from this place on, which held these
 abbrev pub looks_from : ℕ → ℕ → List (Option Note) → List Labelled
@@ -65,10 +54,3 @@ module _ {V : Type 0} (Gone : List Labelled → V → V → Type 0) where
 abbrev pub Finds : ScriptModel → ℕ → Option Receipt → WorkerView → WorkerView → Type 0
 Finds script op answer old new =
     FindsIn SeatHasGone (home_lane script op) (slice_index (cells_of script) (home_lane script op)) op answer old new
-
--- a receipt of whoever made these steps: one of its looks saw the note, on a lane where handlers execute
-pub record IsReceiptOf (script : ScriptModel) (steps : List ClockStep) (receipt : Receipt) : Type 0 where
-  pub at : ℕ
-  pub lane : ℕ
-  pub off : lane ≢ reactor_lane script
-  pub saw : get_elem? steps at ≡ some (Look lane receipt.place (Some (note_of receipt)))

@@ -1,17 +1,15 @@
 -- For how many entries the logs of a session need room, all of which is made before it begins, this
 -- project's own.
-use Rattle.std.specs.Prelude.{◌≡◌, ℕ, ◌+◌, ◌≤◌, List, [], length, map, slice_index, slice_get, vec_capacity, Some}
+use Rattle.std.specs.Prelude.{◌≡◌, ℕ, ◌+◌, ◌≤◌, List, [], length, map, slice_index, slice_get, vec_capacity, Some, Vec}
 use Rattle.std.specs.List.{range_with_len}
-use Rattle.std.specs.Prelude.{Vec}
 use Rattle.std.specs.Global.{Global}
 use Rattle.session_script.specs.Script.{ScriptModel}
 use Rattle.strand_core.specs.Room.{room_for}
 use Rattle.lane_clock.specs.Seats.{ClockId, Owns, SeatsLeft, new_clock_seat}
 use Rattle.lane_map.specs.LaneNumbers.{is_op_on, reactor_lane}
-use Rattle.lane_turns.specs.declared.log.LogEntry.{LogEntry}
-use Rattle.lane_turns.specs.Openers.{draws_to_come}
+use Rattle.lane_logs.specs.declared.log.LogEntry.{LogEntry}
+use Rattle.lane_logs.specs.Stand.{draws_to_come, first_stand}
 use Rattle.lane_turns.specs.Pens.{PenView}
-use Rattle.lane_turns.specs.Stand.{first_stand}
 
 -- all that the handlers of a lane may show
 abbrev pub lane_room : ScriptModel → ℕ → ℕ

@@ -4,13 +4,14 @@ use Rattle.std.specs.Prelude.{◌≡◌, List, All, length}
 use Rattle.session_script.specs.Script.{ScriptModel}
 use Rattle.lane_clock.specs.Knowledge.{StartOf}
 use Rattle.lane_clock.specs.Seats.{IsSourceOf, Keeps, Owns, Remembers, SeatView, own}
-use Rattle.lane_turns.specs.AtRest.{RestsFrom}
+use Rattle.lane_logs.specs.AtRest.{RestsFrom}
+use Rattle.lane_logs.specs.Cuts.{EventsAreCuts}
+use Rattle.lane_logs.specs.Knowing.{lists_of}
+use Rattle.lane_logs.specs.SeatNumbers.{opener_seat}
 use Rattle.lane_turns.specs.Batons.{opener_known}
-use Rattle.lane_turns.specs.Cuts.{EventsAreCuts}
-use Rattle.lane_turns.specs.Meeting.{PenHasMet, lists_of}
+use Rattle.lane_turns.specs.Meeting.{PenHasMet}
 use Rattle.lane_turns.specs.Openers.{OpenerView}
 use Rattle.lane_turns.specs.Pens.{PenView}
-use Rattle.lane_turns.specs.SeatNumbers.{opener_seat}
 
 -- the opener took in another's seat, and owns what that owned
 pub record HasJoined (script : ScriptModel) (other : SeatView) (old new : OpenerView)

@@ -6,9 +6,9 @@ use Rattle.lane_clock.specs.declared.found.Found.{Found}
 use Rattle.lane_clock.specs.declared.note.Note.{Note}
 use Rattle.lane_clock.specs.Seats.{own}
 use Rattle.lane_clock.specs.Steps.{has_drawn, has_put}
-use Rattle.lane_turns.specs.Labels.{allots}
+use Rattle.lane_logs.specs.Labels.{allots}
+use Rattle.lane_logs.specs.ReactorTurns.{done_labels}
 use Rattle.lane_turns.specs.Pens.{HasGone, PenView}
-use Rattle.lane_turns.specs.ReactorTurns.{done_labels}
 
 -- a place of a lane was drawn for an act, which has a cell that isn't put yet
 pub record HasPlace (cells : List ℕ) (lane place act : ℕ) (old new : PenView) : Type 0 where

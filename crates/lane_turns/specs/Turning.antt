@@ -13,14 +13,14 @@ use Rattle.lane_clock.specs.declared.found.Change.{Change}
 use Rattle.lane_clock.specs.declared.found.Found.{Found}
 use Rattle.lane_clock.specs.Seats.{ClockId}
 use Rattle.lane_map.specs.LaneNumbers.{reactor_lane}
-use Rattle.lane_turns.specs.declared.log.LogEntry.{LogEntry}
+use Rattle.lane_logs.specs.declared.log.LogEntry.{LogEntry}
+use Rattle.lane_logs.specs.Half.{half_of}
+use Rattle.lane_logs.specs.Labels.{Labelled, shows}
+use Rattle.lane_logs.specs.Names.{SessionNames}
+use Rattle.lane_logs.specs.Parts.{TurnEnd, end_labels, fault_label, is_failing}
+use Rattle.lane_logs.specs.ReactorTurns.{AreTold, EndsTurn}
 use Rattle.lane_turns.specs.Batons.{IsLane, LaneView}
-use Rattle.lane_turns.specs.Half.{half_of}
-use Rattle.lane_turns.specs.Labels.{Labelled, shows}
-use Rattle.lane_turns.specs.Names.{SessionNames}
-use Rattle.lane_turns.specs.Parts.{TurnEnd, end_labels, fault_label, is_failing}
 use Rattle.lane_turns.specs.Pens.{HasGone, MayGo, PenView}
-use Rattle.lane_turns.specs.ReactorTurns.{AreTold, EndsTurn}
 
 -- the reactor's half to which a log leads
 abbrev pub log_half : SessionNames → List LogEntry → ReactorHalf

@@ -9,15 +9,15 @@ use Rattle.lane_clock.specs.declared.step.ClockStep.{ClockStep}
 use Rattle.lane_clock.specs.declared.step.ClockStep.TheVariants.{Load}
 use Rattle.lane_clock.specs.Seats.{ClockId, Owns, SeatView, copy_seat, own}
 use Rattle.lane_clock.specs.Steps.{draw_count, most_draws, place_count, step_count}
+use Rattle.lane_logs.specs.Knowing.{joined_count}
+use Rattle.lane_logs.specs.Labels.{shows, silent}
+use Rattle.lane_logs.specs.SeatNumbers.{IsWorkerSeat, opener_seat}
+use Rattle.lane_logs.specs.Stand.{base_of, shut, stand_of}
+use Rattle.lane_logs.specs.WorkerLog.{IsWorkerLog, stops_drawn}
 use Rattle.lane_turns.specs.declared.standing.RoundNow.{RoundNow}
 use Rattle.lane_turns.specs.Batons.{opener_known}
-use Rattle.lane_turns.specs.Knowing.{joined_count}
-use Rattle.lane_turns.specs.Labels.{shows, silent}
 use Rattle.lane_turns.specs.Meeting.{PenHasMet}
 use Rattle.lane_turns.specs.Pens.{HasGone, PenView}
-use Rattle.lane_turns.specs.SeatNumbers.{IsWorkerSeat, opener_seat}
-use Rattle.lane_turns.specs.Stand.{base_of, shut, stand_of}
-use Rattle.lane_turns.specs.WorkerLog.{IsWorkerLog, stops_drawn}
 
 pub record WorkerView : Type 0 where
   pub pen : PenView

@@ -2,18 +2,18 @@
 ghost use Rattle.std.specs.Prelude.{◌≡◌, ℕ, Bool, IsFalse};
 ghost use Rattle.lane_clock.specs.Seats.{Owns, SeatView, copy_seat, own};
 ghost use Rattle.lane_map.specs.LaneNumbers.{reactor_lane};
+ghost use Rattle.lane_logs.specs.Cuts.{HaveStarted, NoneStops};
+ghost use Rattle.lane_logs.specs.SeatNumbers.{opener_seat};
 ghost use Rattle.lane_turns.specs.Attending.{IsHeard};
 ghost use Rattle.lane_turns.specs.Benches.{IsInRound};
 ghost use Rattle.lane_turns.specs.Besides.{Besides};
-ghost use Rattle.lane_turns.specs.Cuts.{HaveStarted, NoneStops};
 ghost use Rattle.lane_turns.specs.Meeting.{PenHasMet};
 ghost use Rattle.lane_turns.specs.Openers.{HasTakenIn, HaveMet, in_round, round_after};
-ghost use Rattle.lane_turns.specs.SeatNumbers.{opener_seat};
 
 use crate::lane::LaneState;
 use crate::opener::Opener;
-use crate::session::LaneSession;
 use lane_clock::LaneClock;
+use lane_logs::LaneSession;
 use session_script::Script;
 
 /// Who attends an event of the opener: the baton of a lane, or a worker's seat. Before the event the

@@ -1,16 +1,16 @@
 //! The opener's loops over lanes and workers.
 ghost use Rattle.std.specs.Prelude.{◌≡◌, length};
 ghost use Rattle.lane_map.specs.LaneNumbers.{reactor_lane};
+ghost use Rattle.lane_logs.specs.Cuts.{NoneStops};
+ghost use Rattle.lane_logs.specs.Knowing.{lists_of};
 ghost use Rattle.lane_turns.specs.Attending.{AreHeard, HasGoneOn, HaveAttended};
 ghost use Rattle.lane_turns.specs.Besides.{rests_of};
 ghost use Rattle.lane_turns.specs.Benches.{AreInRound, AreLanes, HaveAllStarted, ReactorGoesOn, places_of};
-ghost use Rattle.lane_turns.specs.Cuts.{NoneStops};
-ghost use Rattle.lane_turns.specs.Meeting.{lists_of};
 
 use crate::attendee::Attendee;
 use crate::opener::Opener;
-use crate::session::LaneSession;
 use lane_clock::LaneClock;
+use lane_logs::LaneSession;
 use session_script::Script;
 
 /// Hears what all did.

@@ -1,7 +1,7 @@
 //! How a round is closed.
 ghost use Rattle.std.specs.Prelude.{◌≡◌};
+ghost use Rattle.lane_logs.specs.OpenerLog.{closing_change};
 ghost use Rattle.lane_turns.specs.Closing.{closing_event};
-ghost use Rattle.lane_turns.specs.OpenerLog.{closing_change};
 
 use asio_types::Event;
 use lane_clock::Change;

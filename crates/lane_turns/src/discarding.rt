@@ -3,15 +3,14 @@ ghost use Rattle.std.specs.Prelude.{◌≡◌, ◌+◌, ◌<◌, ◌≤◌, All,
 ghost use Rattle.std.specs.List.{flat_map};
 ghost use Rattle.std.specs.Option.{option_map};
 ghost use Rattle.strand_core.specs.Hands.{CallerIsGone};
+ghost use Rattle.lane_logs.specs.Drops.{drops_of};
+ghost use Rattle.lane_logs.specs.Labels.{events_in};
 ghost use Rattle.lane_turns.specs.Discarding.{IsDiscarding, held_on, without};
-ghost use Rattle.lane_turns.specs.Drops.{drops_of};
-ghost use Rattle.lane_turns.specs.Labels.{events_in};
 
-use crate::log::LogEntry;
 use crate::op_lanes::operations_have_lanes;
 use crate::seeing::SeenActs;
-use crate::session::LaneSession;
 use asio_types::{Event, OpNo};
+use lane_logs::{LaneSession, LogEntry};
 use lane_map::LaneMap;
 use op_handlers::CompletionHandler;
 use session_script::{Script, parents_come_first};

@@ -2,12 +2,11 @@
 ghost use Rattle.std.specs.Prelude.{◌≡◌};
 
 use crate::handler_baton::HandlerBaton;
-use crate::log::LogEntry;
 use crate::log_rooms::worker_count;
 use crate::parting::LanesLeft;
-use crate::session::LaneSession;
 use crate::worker_seat::WorkerSeat;
 use asio_types::{Event, NoMemory};
+use lane_logs::{LaneSession, LogEntry};
 use lane_map::{LaneMap, lanes_have_cells};
 use op_handlers::{CompletionHandler, Handler};
 use session_script::Script;
@@ -35,7 +34,7 @@ pub struct EndingRoom<'a, H: CompletionHandler, N: LaneSession> {
 impl<'a, H: CompletionHandler, N: LaneSession> Model for EndingRoom<'a, H, N> {
     ghost use Rattle.std.specs.Prelude.{◌≡◌, ◌≤◌, [], vec_capacity};
     ghost use Rattle.lane_map.specs.LaneNumbers.{reactor_lane};
-    ghost use Rattle.lane_turns.specs.SeatNumbers.{worker_count};
+    ghost use Rattle.lane_logs.specs.SeatNumbers.{worker_count};
 
     ghost Value = { Unit {0} };
 

@@ -2,21 +2,21 @@
 //! event, and each takes that in (Asio reference, io_context::run, ::poll, ::restart; asio::post).
 ghost use Rattle.std.specs.Prelude.{◌≡◌, [], IsFalse, IsTrue, length, true};
 ghost use Rattle.lane_map.specs.LaneNumbers.{cells_of, reactor_lane};
+ghost use Rattle.lane_logs.specs.Cuts.{EventsAreCuts, NoneStops};
+ghost use Rattle.lane_logs.specs.Knowing.{lists_of};
+ghost use Rattle.lane_logs.specs.Stand.{first_stand, is_round_open, wants_restart};
 ghost use Rattle.lane_turns.specs.Attending.{AreHeard, HasGoneOn, KnowsAllOf};
 ghost use Rattle.lane_turns.specs.Benches.{AreInRound, AreLanes, AreStartedAt, AreWorkers, HasHeld, HaveAllMet, ReactorGoesOn, places_of};
 ghost use Rattle.lane_turns.specs.Besides.{rests_of};
-ghost use Rattle.lane_turns.specs.Cuts.{EventsAreCuts, NoneStops};
 ghost use Rattle.lane_turns.specs.KeptSteps.{AllRemember};
-ghost use Rattle.lane_turns.specs.Meeting.{lists_of};
 ghost use Rattle.lane_turns.specs.OpenerEvents.{HasClosed, HasOpened, HasRestarted, HasWaited};
-ghost use Rattle.lane_turns.specs.Stand.{first_stand, is_round_open, wants_restart};
 
 use crate::attendee::{Attendee, LaneAttendee};
 use crate::bench::{attend_all, hear_all, meet_reactor};
 use crate::closing::Closing;
 use crate::opener::Opener;
-use crate::session::LaneSession;
 use lane_clock::LaneClock;
+use lane_logs::LaneSession;
 use lane_map::LaneMap;
 use session_script::Script;
 

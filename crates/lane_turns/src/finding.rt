@@ -1,16 +1,16 @@
 //! Looking for an operation among the cells of a lane.
 ghost use Rattle.std.specs.Prelude.{◌≡◌, IfNone, IfSome, Some, false, slice_index};
+ghost use Rattle.lane_logs.specs.Receipts.{holds_op, note_of};
+ghost use Rattle.lane_logs.specs.SeatNumbers.{opener_seat};
 ghost use Rattle.lane_turns.specs.Pens.{HasGone};
-ghost use Rattle.lane_turns.specs.Receipts.{FindsIn, SeatHasGone, holds_op, note_of};
-ghost use Rattle.lane_turns.specs.SeatNumbers.{opener_seat};
+ghost use Rattle.lane_turns.specs.Receipts.{FindsIn, SeatHasGone};
 
 use crate::opener::Opener;
 use crate::pen::Pen;
-use crate::receipt::Receipt;
-use crate::session::LaneSession;
 use crate::worker_seat::WorkerSeat;
 use asio_types::OpNo;
 use lane_clock::{LaneClock, Note};
+use lane_logs::{LaneSession, Receipt};
 
 /// The receipt of an operation by what the cell at a place held, where that is its note.
 fn receipt_of(held: Option<Note>, place: u32, op: OpNo) -> Option<Receipt>

@@ -2,32 +2,32 @@
 ghost use Rattle.std.specs.Prelude.{◌≡◌, ◌+◌, ◌<◌, ◌≤◌, [], All, ℕ, IfSome, length, map, slice_get, slice_index_or, vec_capacity};
 ghost use Rattle.lane_clock.specs.Seats.{Owns, Remembers};
 ghost use Rattle.lane_map.specs.LaneNumbers.{reactor_lane};
-ghost use Rattle.lane_turns.specs.AtRest.{HasHeardPens, RestsFrom};
-ghost use Rattle.lane_turns.specs.Cuts.{EventsAreCuts};
+ghost use Rattle.lane_logs.specs.AtRest.{RestsFrom};
+ghost use Rattle.lane_logs.specs.Cuts.{EventsAreCuts};
+ghost use Rattle.lane_logs.specs.KeptLogs.{logs_in};
+ghost use Rattle.lane_logs.specs.Logs.{AreLogs, session_layout};
+ghost use Rattle.lane_logs.specs.Knowing.{lists_of};
+ghost use Rattle.lane_logs.specs.SeatNumbers.{lane_count, opener_seat, worker_count};
+ghost use Rattle.lane_turns.specs.AtRest.{HasHeardPens};
 ghost use Rattle.lane_turns.specs.EndingRooms.{HasLeavingRoom};
-ghost use Rattle.lane_turns.specs.Finishing.{AreClosed, IsGivenBack, IsOver, KeepLogsOf, lanes_in, logs_in, pens_of};
+ghost use Rattle.lane_turns.specs.Finishing.{AreClosed, IsGivenBack, IsOver, KeepLogsOf, lanes_in, pens_of};
 ghost use Rattle.lane_turns.specs.KeptSteps.{KeepStepsOf};
-ghost use Rattle.lane_turns.specs.Logs.{AreLogs, session_layout};
-ghost use Rattle.lane_turns.specs.Meeting.{lists_of};
 ghost use Rattle.lane_turns.specs.Openers.{IsOpener};
 ghost use Rattle.lane_turns.specs.Pens.{PenView};
-ghost use Rattle.lane_turns.specs.SeatNumbers.{lane_count, opener_seat, worker_count};
 ghost use Rattle.lane_turns.specs.Turning.{log_half};
 
 use crate::discarding::discard_left;
 use crate::ending_room::LeavingRoom;
 use crate::handler_baton::HandlerBaton;
-use crate::log::LogEntry;
-use crate::logs::Logs;
 use crate::op_lanes::operations_have_lanes;
 use crate::opener::Opener;
 use crate::parting::{LanesLeft, part_all};
 use crate::pen::Pen;
 use crate::reactor_baton::ReactorBaton;
-use crate::session::LaneSession;
 use crate::taking_in::take_in_all;
 use crate::worker_seat::WorkerSeat;
 use lane_clock::{Found, LaneClock, LaneCopy, LaneSeat};
+use lane_logs::{LaneSession, LogEntry, Logs};
 use lane_map::{LaneMap, lanes_have_cells};
 use op_handlers::CompletionHandler;
 use reactor_trait::Reactor;
@@ -174,12 +174,6 @@ pub fn finish<'a, X: Reactor, H: CompletionHandler, N: LaneSession>(
         begun,
         drops,
     );
-    let logs = Logs {
-        entries,
-        missed,
-        drops,
-        last,
-        known,
-    };
+    let logs = Logs::of(entries, missed, drops, last, known);
     (logs, proactor.into_reactor())
 }

@@ -21,7 +21,7 @@ pub trait PenStart {
 }
 
 impl PenStart for Brand {
-    ghost use Rattle.lane_turns.specs.Names.{no_script};
+    ghost use Rattle.lane_logs.specs.Names.{no_script};
     ghost use Rattle.lane_turns.specs.Pens.{no_pen};
 
     ghost script = { no_script };

@@ -2,13 +2,13 @@
 ghost use Rattle.std.specs.Prelude.{◌≡◌, ◌<◌, ◌≤◌, ◌∷◌, ◌++◌, [], Some, length, map, vec_capacity};
 ghost use Rattle.turn_table.specs.Laid.{AreAtHome};
 ghost use Rattle.lane_map.specs.LaneNumbers.{reactor_lane};
+ghost use Rattle.lane_logs.specs.SeatNumbers.{lane_count};
 ghost use Rattle.lane_turns.specs.LaneValues.{handlers, home_of, reactor};
-ghost use Rattle.lane_turns.specs.SeatNumbers.{lane_count};
 
 use crate::baton::{Baton, BatonKind};
 use crate::handler_baton::HandlerBaton;
 use crate::reactor_baton::ReactorBaton;
-use crate::session::LaneSession;
+use lane_logs::LaneSession;
 use op_handlers::CompletionHandler;
 use reactor_trait::Reactor;
 

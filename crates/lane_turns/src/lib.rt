@@ -1,11 +1,12 @@
 //! What is done with turns in hand, in a context without a lock: a lane's value is told what the round
 //! is, is polled and executes handlers; with all turns in one hand rounds are opened, closed and
 //! restarted, and a session ends. Each keeps a log of what it drew. It promises that these are the
-//! logs of a session (`specs/Logs.antt`), step by step. `lane_context`, which hands the turns out, and
-//! `history_merge`, which makes one history of the logs, stand on it.
+//! logs of a session (`lane_logs`), step by step. `lane_context`, which hands the turns out, stands on
+//! it.
 #![tactic(auto)]
 
 mod attendee;
+mod backoff;
 mod baton;
 mod baton_attendee;
 mod bench;
@@ -23,9 +24,7 @@ mod lane;
 mod lane_poster;
 mod lanes_parting;
 mod law;
-mod log;
 mod log_rooms;
-mod logs;
 mod lookout;
 mod one;
 mod op_lanes;
@@ -36,10 +35,8 @@ mod pen;
 mod polling;
 mod reactor_baton;
 mod reactor_polling;
-mod receipt;
 mod run_end;
 mod seeing;
-mod session;
 mod slot;
 mod standing;
 mod taking_in;
@@ -60,20 +57,16 @@ pub use handler_baton::HandlerBaton;
 pub use lane::{LaneStanding, LaneState};
 pub use lanes_parting::{LaneBatons, part_values};
 pub use law::rounds_are_few;
-pub use log::LogEntry;
 pub use log_rooms::{
     lane_rooms, opener_room, opening_draws, reactor_room, rooms_fit, worker_count,
 };
-pub use logs::Logs;
 pub use lookout::{Lookout, lookouts};
 pub use one::One;
 pub use op_lanes::operations_have_lanes;
 pub use opener::Opener;
 pub use pen::Pen;
 pub use reactor_baton::ReactorBaton;
-pub use receipt::Receipt;
 pub use run_end::RunEnd;
-pub use session::LaneSession;
 pub use slot::{Slot, empty_slots, free_slots};
 pub use standing::{RoundNow, RoundStanding};
 pub use worker_seat::WorkerSeat;

@@ -3,10 +3,10 @@ ghost use Rattle.std.specs.Prelude.{◌≡◌, ◌<◌, ◌≤◌, EachIndex, If
 ghost use Rattle.std.specs.List.{sum_by};
 ghost use Rattle.reactor_turns.specs.Ahead.{most_turn_events};
 ghost use Rattle.strand_core.specs.Room.{shown_by_handler};
+ghost use Rattle.lane_logs.specs.SeatNumbers.{worker_count};
+ghost use Rattle.lane_logs.specs.Stand.{draws_of_call, first_stand};
 ghost use Rattle.lane_turns.specs.Firsts.{RoomsFit};
 ghost use Rattle.lane_turns.specs.Rooms.{lane_rooms, opener_room};
-ghost use Rattle.lane_turns.specs.SeatNumbers.{worker_count};
-ghost use Rattle.lane_turns.specs.Stand.{draws_of_call, first_stand};
 
 use crate::op_lanes::operations_have_lanes;
 use asio_types::{ActNo, Class, NoMemory, OpNo};

@@ -1,8 +1,9 @@
-//! Where a worker looks first. No clause of the context rests on it.
+//! Where a worker looks first, and when. No clause of the context rests on it.
 ghost use Rattle.std.specs.Prelude.{◌≡◌, ◌<◌, IfOk, length};
 
-use crate::log::LogEntry;
+use crate::backoff::Backoff;
 use asio_types::{Event, NoMemory};
+use lane_logs::LogEntry;
 use lane_map::LaneMap;
 use ready_hints::{HintPass, ReadyHints};
 use session_script::Script;
@@ -11,7 +12,8 @@ use std::marker::Model;
 use std::sync::{Arc, Wait};
 use strand_core::Posted;
 
-/// A worker's place at the hints that all workers share, and the lane at which it looks next.
+/// A worker's place at the hints that all workers share, the lane at which it looks next, and whether it
+/// keeps out of the way of others.
 #[derive(Drop)]
 pub struct Lookout {
     hints: Arc<ReadyHints>,
@@ -26,6 +28,8 @@ pub struct Lookout {
     again: bool,
     // the other lanes into which notes were put in this turn, in order; full, it takes no more
     others: Vec<u32>,
+    // whether it takes part
+    backoff: Backoff,
 }
 
 impl Model for Lookout {
@@ -44,6 +48,22 @@ impl Lookout {
     /// The lane at which it looks first.
     pub fn first(&self) -> u32 {
         self.next
+    }
+
+    /// Whether it looks at lanes now that it read this clock. If not, others are quick without it, and it
+    /// waits before it reads again.
+    pub fn takes_part(&mut self, clock: u64) -> bool {
+        self.backoff.takes_part(clock)
+    }
+
+    /// It found nothing to do.
+    pub fn found_nothing(&mut self) {
+        self.backoff.found_nothing();
+    }
+
+    /// Lets other threads go first, for as long as it keeps out.
+    pub fn wait(&self) {
+        self.backoff.wait();
     }
 
     /// Hints at the lane in this place of its list. A hint that is refused is dropped.
@@ -109,6 +129,7 @@ impl Lookout {
         requires { map.now ≡ script.now }
     {
         self.again = false;
+        self.backoff.drew(calls.len() as u64);
         for call in calls {
             if let Posted::Call { act } = *call {
                 if act < script.acts() && !script.is_stop(act) && !script.is_inline(act) {
@@ -122,6 +143,7 @@ impl Lookout {
     pub fn note_told(&mut self, script: &Script, map: &LaneMap<'_>, added: &[LogEntry])
         requires { map.now ≡ script.now }
     {
+        self.backoff.drew(added.len() as u64);
         for entry in added {
             if let Event::Done { op, .. } = entry.event {
                 if op < script.acts() {
@@ -152,7 +174,8 @@ impl Lookout {
 
 /// The lookouts of so many workers, with the hints that they share and room for as many lanes as one
 /// attempt puts notes into. They begin to look apart, at equal distances from the last lane downwards;
-/// the first, which is the caller's own, behind all lanes.
+/// the first, which is the caller's own, behind all lanes. The first and the last take part from the
+/// beginning, the others look on first.
 pub fn lookouts(
     alloc: Global,
     script: &Script,
@@ -168,6 +191,7 @@ pub fn lookouts(
     let apart = lanes / (workers - 1).max(1);
     let mut start = lanes;
     while let Some(pass) = passes.next() {
+        let takes_part = all.is_empty() || all.len() as u64 + 1 == u64::from(workers);
         all.push_reserved(Lookout {
             hints: Arc::try_clone(&hints)?,
             pass,
@@ -176,6 +200,7 @@ pub fn lookouts(
             held: 0,
             again: false,
             others: Vec::with_capacity(alloc, script.acts() as usize)?,
+            backoff: Backoff::first(takes_part),
         });
         start = start.saturating_sub(apart);
     }

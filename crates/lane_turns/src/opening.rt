@@ -1,10 +1,10 @@
 //! The calls of `open`.
 ghost use Rattle.std.specs.Prelude.{◌≡◌};
 ghost use Rattle.session_script.specs.Script.{opening_of};
-ghost use Rattle.lane_turns.specs.Opening.{called_each};
+ghost use Rattle.lane_logs.specs.Calls.{called_each};
+ghost use Rattle.lane_logs.specs.Stand.{first_stand};
 ghost use Rattle.lane_turns.specs.Pens.{HasDrawnCalls, MayGo};
 ghost use Rattle.lane_turns.specs.Posting.{FitsClock};
-ghost use Rattle.lane_turns.specs.Stand.{first_stand};
 
 use crate::calls::draw_call;
 use crate::pen::Pen;

@@ -7,9 +7,9 @@ ghost use Rattle.lane_turns.specs.Workers.{IsWorker};
 use crate::handler_baton::HandlerBaton;
 use crate::lane::LaneState;
 use crate::pen::Pen;
-use crate::session::LaneSession;
 use crate::worker_seat::WorkerSeat;
 use asio_types::OpNo;
+use lane_logs::LaneSession;
 use op_handlers::{CompletionHandler, Handler};
 use strand_core::Hands;
 

@@ -4,14 +4,14 @@ ghost use Rattle.lane_clock.specs.ClockWord.{IsParted};
 ghost use Rattle.lane_clock.specs.Seats.{IsSourceOf, Keeps, copy_seat, own};
 ghost use Rattle.lane_clock.specs.Steps.{has_drawn, has_put};
 ghost use Rattle.lane_map.specs.LaneNumbers.{cells_of, home_lane};
-ghost use Rattle.lane_turns.specs.Labels.{shows, silent};
+ghost use Rattle.lane_logs.specs.Labels.{shows, silent};
 ghost use Rattle.lane_turns.specs.Meeting.{PenHasMet};
 ghost use Rattle.lane_turns.specs.Pens.{HasAllotted, HasGone, MayGo};
 ghost use Rattle.lane_turns.specs.Telling.{HasPlace, HasPlaceBeyond, HasToldDone};
 
-use crate::log::LogEntry;
 use asio_types::Event;
 use lane_clock::{Change, Found, LaneClock, LaneCopy, LaneSeat, Note};
+use lane_logs::LogEntry;
 use session_script::Script;
 use std::marker::Model;
 

@@ -1,12 +1,12 @@
 //! Which acts the logs of a session have called, and which operations began in them.
 ghost use Rattle.std.specs.Prelude.{◌≡◌, ◌||◌, ◌&&◌, ◌==◌, ◌<◌, ◌∷◌, [], ℕ, All, false, length, map, not, slice_index_or};
 ghost use Rattle.std.specs.List.{flat_map};
-ghost use Rattle.lane_turns.specs.Drops.{has_call};
-ghost use Rattle.lane_turns.specs.Labels.{events_in};
-ghost use Rattle.lane_turns.specs.LaneLog.{has_begun};
+ghost use Rattle.lane_logs.specs.Drops.{has_call};
+ghost use Rattle.lane_logs.specs.Labels.{events_in};
+ghost use Rattle.lane_logs.specs.LaneLog.{has_begun};
 
-use crate::log::LogEntry;
 use asio_types::{Event, OpNo};
+use lane_logs::LogEntry;
 use std::marker::Model;
 
 // Marks a number, if it is among those of the list.
@@ -77,7 +77,7 @@ impl<'l> Model for SeenActs<'l> {
     ghost use Rattle.std.specs.Prelude.{length, map};
     ghost use Rattle.std.specs.List.{flat_map};
     ghost use Rattle.lane_turns.specs.Discarding.{AreSeen, SeenView};
-    ghost use Rattle.lane_turns.specs.Labels.{events_in};
+    ghost use Rattle.lane_logs.specs.Labels.{events_in};
 
     ghost Value = { SeenView };
 

@@ -1,6 +1,6 @@
 ghost use Rattle.std.specs.Prelude.{◌≡◌};
-ghost use Rattle.lane_turns.specs.Openers.{base_at, is_running_at, round_of, stand_at};
-ghost use Rattle.lane_turns.specs.Stand.{is_round_open, wants_restart};
+ghost use Rattle.lane_logs.specs.Stand.{base_at, is_round_open, wants_restart};
+ghost use Rattle.lane_turns.specs.Openers.{is_running_at, round_of, stand_at};
 ghost use Rattle.lane_turns.specs.Workers.{restarts_since};
 
 use session_script::{Pace, Script};

@@ -1,14 +1,13 @@
 //! The opener takes in all seats when the context is finished.
 ghost use Rattle.std.specs.Prelude.{◌≡◌, ◌-◌, ◌<◌, ◌≤◌, ◌++◌, All, length, map, vec_capacity, vec_len};
 ghost use Rattle.lane_clock.specs.Seats.{Owns};
-ghost use Rattle.lane_turns.specs.SeatNumbers.{opener_seat};
+ghost use Rattle.lane_logs.specs.SeatNumbers.{opener_seat};
 ghost use Rattle.lane_turns.specs.TakingIn.{AreTakenIn, HasJoined};
 
-use crate::log::LogEntry;
 use crate::opener::Opener;
 use crate::pen::Pen;
-use crate::session::LaneSession;
 use lane_clock::{LaneClock, LaneSeat};
+use lane_logs::{LaneSession, LogEntry};
 
 impl<N: LaneSession> Opener<N> {
     /// Takes in the seat of a lane or a worker for good.

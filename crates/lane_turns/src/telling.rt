@@ -5,8 +5,8 @@ ghost use Rattle.lane_turns.specs.Posting.{FitsClock};
 ghost use Rattle.lane_turns.specs.Turning.{HasTold, IsMidTurn, log_half};
 
 use crate::pen::Pen;
-use crate::session::LaneSession;
 use lane_clock::{LaneClock, Note};
+use lane_logs::LaneSession;
 use lane_map::{LaneMap, lanes_have_cells};
 use proactor_core::Proactor;
 use reactor_trait::Reactor;

@@ -1,18 +1,18 @@
 //! What bears out how a round is to be closed.
 ghost use Rattle.std.specs.Prelude.{◌≡◌, IsFalse, IsTrue, length};
 ghost use Rattle.lane_map.specs.LaneNumbers.{cells_of};
+ghost use Rattle.lane_logs.specs.SeatNumbers.{lane_count};
 ghost use Rattle.lane_turns.specs.Benches.{AreLanes, places_of};
 ghost use Rattle.lane_turns.specs.Closing.{HasSeen, HasWeighed, HaveLooked};
 ghost use Rattle.lane_turns.specs.Posting.{FitsClock};
-ghost use Rattle.lane_turns.specs.SeatNumbers.{lane_count};
 
 use crate::attendee::LaneAttendee;
 use crate::closing::Closing;
 use crate::pen::Pen;
 use crate::polling::see_next;
-use crate::session::LaneSession;
 use crate::standing::RoundNow;
 use lane_clock::{Found, LaneClock};
+use lane_logs::LaneSession;
 use lane_map::LaneMap;
 
 /// Whether the next cell of each lane is empty where the lane has one: each is looked at, up to the

@@ -1,17 +1,17 @@
 ghost use Rattle.std.specs.Prelude.{◌≡◌, ◌&&◌, ◌==◌, not};
 ghost use Rattle.lane_clock.specs.declared.found.Found.{Found};
+ghost use Rattle.lane_logs.specs.Stand.{base_of};
 ghost use Rattle.lane_turns.specs.Batons.{opener_known};
-ghost use Rattle.lane_turns.specs.Stand.{base_of};
 ghost use Rattle.lane_turns.specs.Workers.{HasHeard, HasRead, Stops, heard_round, is_set, may_draw_stop, restarts_since};
 
 use crate::attendee::Attendee;
 use crate::lane::LaneState;
 use crate::opener::Opener;
 use crate::pen::Pen;
-use crate::session::LaneSession;
 use crate::standing::{RoundNow, SHUT};
 use asio_types::Event;
 use lane_clock::{Change, Found, LaneClock};
+use lane_logs::LaneSession;
 use session_script::Script;
 use std::marker::{Model, PhantomData};
 

@@ -6,7 +6,7 @@ use lib.ListN.{get_elem?}
 use mathlib.Core.Option.{some, some-injective, some-ne-none}
 use Rattle.atomic_table.proofs.Lists.{at_last, at_longer, at_snoc}
 use Rattle.asio_types.specs.declared.event.Event.{Event}
-use Rattle.lane_turns.specs.declared.log.LogEntry.{LogEntry}
+use Rattle.lane_logs.specs.declared.log.LogEntry.{LogEntry}
 use Rattle.history_merge.specs.Ordering.{ArePositioned, IsEntryIn}
 
 -- the entries of the logs

@@ -4,10 +4,10 @@ use Rattle.std.specs.Option.{option_or}
 use Rattle.lane_clock.specs.declared.step.ClockStep.{ClockStep}
 use Rattle.lane_clock.specs.declared.step.ClockStep.TheVariants.{Draw, Load, Place, Put, Look, Join}
 use Rattle.lane_map.specs.LaneNumbers.{reactor_lane}
-use Rattle.lane_turns.specs.Labels.{Labelled, step_of, steps_in}
-use Rattle.lane_turns.specs.LaneLog.{AreParts, MayFollow, steps_after}
-use Rattle.lane_turns.specs.Names.{SessionNames}
-use Rattle.lane_turns.specs.Parts.{Part, idle, executed, turned, failed, missing, labels_in, labels_of, next_place, places_used}
+use Rattle.lane_logs.specs.Labels.{Labelled, step_of, steps_in}
+use Rattle.lane_logs.specs.LaneLog.{AreParts, MayFollow, steps_after}
+use Rattle.lane_logs.specs.Names.{SessionNames}
+use Rattle.lane_logs.specs.Parts.{Part, idle, executed, turned, failed, missing, labels_in, labels_of, next_place, places_used}
 use Rattle.merge_tests.specs.Spoilt.{IsAtFirstPlace, IsStrandLog, OfEachStrand, draws_unseeing, exchanged_entries, exchanged_steps, first_look, two_names, two_postings, unlooked_entries, unlooked_steps}
 
 steps_on : (xs ys : List Labelled) → steps_in (xs ++ ys) ≡ steps_in xs ++ steps_in ys

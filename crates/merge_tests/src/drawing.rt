@@ -5,7 +5,7 @@ ghost use Rattle.history_merge.specs.Ordering.{ArePositioned};
 
 use crate::wanted::MEMORY;
 use asio_types::Event;
-use lane_turns::LogEntry;
+use lane_logs::LogEntry;
 use std::alloc::Global;
 use std::process::Abort;
 

@@ -5,7 +5,8 @@ use Rattle.std.specs.Option.{unwrap_or}
 use Rattle.asio_types.specs.declared.event.Event.{Event}
 use Rattle.session_script.specs.Script.{ScriptModel}
 use Rattle.lane_map.specs.LaneNumbers.{has_cell}
-use Rattle.lane_turns.specs.AtRest.{FoundNoneFrom, RestView, rest_lists}
+use Rattle.lane_logs.specs.AtRest.{FoundNoneFrom}
+use Rattle.lane_turns.specs.AtRest.{RestView, rest_lists}
 use Rattle.lane_turns.proofs.AllWorkersLemmas.{images_size, source_of}
 use Rattle.history_merge.specs.Receipts.{IsAbsent}
 use Rattle.op_future.specs.declared.task_end.TaskEnd.{TaskEnd}

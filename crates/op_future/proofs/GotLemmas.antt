@@ -4,8 +4,8 @@ use Rattle.std.proofs.lemmas.List.{append-nil, append_assoc}
 use Rattle.session_script.specs.Script.{ScriptModel}
 use Rattle.lane_clock.specs.declared.step.ClockStep.{ClockStep}
 use Rattle.lane_clock.specs.Knowledge.{StartOf}
-use Rattle.lane_turns.specs.declared.receipt.Receipt.{Receipt}
-use Rattle.lane_turns.specs.Receipts.{IsReceiptOf}
+use Rattle.lane_logs.specs.declared.receipt.Receipt.{Receipt}
+use Rattle.lane_logs.specs.Receipts.{IsReceiptOf}
 use Rattle.lane_turns.proofs.ReceiptLemmas.{receipt_stays}
 use Rattle.op_future.specs.Steps.{AreReceiptsOf, HasGotFrom}
 use Rattle.op_future.specs.Tasks.{HasGotThese, TaskState}

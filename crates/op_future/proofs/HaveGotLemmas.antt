@@ -7,9 +7,9 @@ use Rattle.asio_types.specs.declared.event.Event.{Event}
 use Rattle.session_script.specs.Script.{ScriptModel}
 use Rattle.lane_clock.specs.declared.step.ClockStep.{ClockStep}
 use Rattle.lane_clock.specs.Knowledge.{StartOf}
-use Rattle.lane_turns.specs.declared.receipt.Receipt.{Receipt}
-use Rattle.lane_turns.specs.Logs.{LogsView}
-use Rattle.lane_turns.specs.Receipts.{IsReceiptOf}
+use Rattle.lane_logs.specs.declared.receipt.Receipt.{Receipt}
+use Rattle.lane_logs.specs.Logs.{LogsView}
+use Rattle.lane_logs.specs.Receipts.{IsReceiptOf}
 use Rattle.lane_turns.proofs.ReceiptLemmas.{receipt_stays}
 use Rattle.history_merge.specs.Receipts.{ReceiptsHold}
 use Rattle.op_future.specs.Sessions.{HaveGot}

@@ -8,3 +8,4 @@ pub mod SeatedWorkerLemmas
 pub mod SeatLemmas
 pub mod SessionLemmas
 pub mod StepLemmas
+pub mod UnfoundLemmas

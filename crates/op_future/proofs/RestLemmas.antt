@@ -2,8 +2,9 @@
 use Rattle.std.proofs.Common.{Option, Some, None, refl, sym, subst, ◌∙◌}
 use Rattle.session_script.specs.Script.{ScriptModel}
 use Rattle.lane_clock.proofs.KeepLemmas.{start_same, start_trans}
-use Rattle.lane_turns.specs.AtRest.{FoundNoneFrom, HasOnlyLooked, RestView, rest_lists}
-use Rattle.lane_turns.specs.SeatNumbers.{opener_seat}
+use Rattle.lane_logs.specs.AtRest.{FoundNoneFrom}
+use Rattle.lane_logs.specs.SeatNumbers.{opener_seat}
+use Rattle.lane_turns.specs.AtRest.{HasOnlyLooked, RestView, rest_lists}
 use Rattle.lane_context.proofs.RestLemmas.{looked_start, none_stays}
 use Rattle.op_future.specs.declared.task_end.TaskEnd.{TaskEnd}
 use Rattle.op_future.specs.Gathering.{EndsAtRest, HasGotAtRest, RestsOn, WantsUnfound}

@@ -6,13 +6,13 @@ use Rattle.session_script.specs.declared.round.Round.{Round}
 use Rattle.history_rules.specs.Rounds.{restarts}
 use Rattle.lane_context.specs.declared.round_end.RoundEnd.{RoundEnd}
 use Rattle.lane_context.specs.declared.round_end.RoundEnd.TheVariants as end
+use Rattle.lane_logs.specs.Stand.{Stand}
 use Rattle.lane_turns.specs.ClosingTries.{HasClosedRound}
 use Rattle.lane_turns.specs.Finishing.{IsOver}
 use Rattle.lane_turns.specs.KnownFaults.{KnowsFault}
 use Rattle.lane_turns.specs.LaneValues.{Terms}
 use Rattle.lane_turns.specs.Openers.{OpenerView}
 use Rattle.lane_context.specs.RoundEnds.{EndsRound}
-use Rattle.lane_turns.specs.Stand.{Stand}
 use Rattle.op_future.specs.Sessions.{HasOneRun, run_round}
 use Rattle.session_run.specs.LaneRounds.{AreClosed, HasBegun}
 

@@ -10,13 +10,14 @@ use Rattle.lane_clock.specs.Knowledge.{StartOf}
 use Rattle.lane_clock.specs.Seats.{own}
 use Rattle.lane_clock.proofs.KeepLemmas.{start_same}
 use Rattle.lane_map.specs.LaneNumbers.{has_cell}
+use Rattle.lane_logs.specs.AtRest.{FoundNoneFrom, IsAtRest}
+use Rattle.lane_logs.specs.Logs.{AreLogs, LogsView}
+use Rattle.lane_logs.specs.Names.{SessionNames}
+use Rattle.lane_logs.specs.SeatNumbers.{lane_count, most_workers, opener_seat, worker_count}
 use Rattle.lane_turns.specs.AllWorkers.{clock_seat}
-use Rattle.lane_turns.specs.AtRest.{FoundNoneFrom, IsAtRest, RestView, rest_lists}
+use Rattle.lane_turns.specs.AtRest.{RestView, rest_lists}
 use Rattle.lane_turns.specs.Attempts.{WorkerState}
 use Rattle.lane_turns.specs.KeptSteps.{KeepStepsOf}
-use Rattle.lane_turns.specs.Logs.{AreLogs, LogsView}
-use Rattle.lane_turns.specs.Names.{SessionNames}
-use Rattle.lane_turns.specs.SeatNumbers.{lane_count, most_workers, opener_seat, worker_count}
 use Rattle.lane_context.proofs.RestLemmas.{none_stays}
 use Rattle.history_merge.specs.Merging.{IsMerging}
 use Rattle.history_merge.specs.Receipts.{IsAbsent, UnfoundAtRestAreAbsent}

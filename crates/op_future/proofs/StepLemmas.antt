@@ -4,12 +4,12 @@ use Rattle.std.specs.Prelude.{IfNone, IfSome}
 use Rattle.session_script.specs.Script.{ScriptModel}
 use Rattle.lane_clock.specs.Knowledge.{StartOf, steps_at}
 use Rattle.lane_clock.specs.Seats.{own}
+use Rattle.lane_logs.specs.declared.receipt.Receipt.{Receipt}
+use Rattle.lane_logs.specs.Receipts.{IsReceiptOf}
 use Rattle.lane_turns.specs.declared.one.One.{One}
 use Rattle.lane_turns.specs.declared.one.One.TheVariants as one
-use Rattle.lane_turns.specs.declared.receipt.Receipt.{Receipt}
 use Rattle.lane_turns.specs.Attempts.{WorkerState}
 use Rattle.lane_turns.specs.LaneValues.{Tries}
-use Rattle.lane_turns.specs.Receipts.{IsReceiptOf}
 use Rattle.lane_turns.specs.Runs.{HasPolled}
 use Rattle.lane_turns.specs.Scanning.{GoesOn, SeatGoesOn}
 use Rattle.lane_turns.specs.Workers.{WorkerView}

@@ -6,8 +6,9 @@ use Rattle.asio_types.specs.declared.event.Event.{Event}
 use Rattle.session_script.specs.Script.{ScriptModel}
 use Rattle.lane_clock.specs.Knowledge.{StartOf}
 use Rattle.lane_map.specs.LaneNumbers.{has_cell}
-use Rattle.lane_turns.specs.AtRest.{FoundNoneFrom, RestView, rest_lists}
-use Rattle.lane_turns.specs.SeatNumbers.{opener_seat}
+use Rattle.lane_logs.specs.AtRest.{FoundNoneFrom}
+use Rattle.lane_logs.specs.SeatNumbers.{opener_seat}
+use Rattle.lane_turns.specs.AtRest.{RestView, rest_lists}
 use Rattle.op_future.specs.declared.task_end.TaskEnd.{TaskEnd}
 use Rattle.op_future.specs.Sessions.{IsUnfoundEnd}
 use Rattle.op_future.specs.Steps.{HasGotFrom, IsOver}

@@ -2,12 +2,12 @@
 use Rattle.std.specs.Prelude.{◌≡◌, ℕ, ◌+◌, Option}
 use Rattle.session_script.specs.Script.{ScriptModel}
 use Rattle.turn_table.specs.Seated.{Lanes}
+use Rattle.lane_logs.specs.SeatNumbers.{lane_count}
 use Rattle.lane_turns.specs.AllWorkers.{clock_seat}
 use Rattle.lane_turns.specs.Attempts.{WorkerState}
 use Rattle.lane_turns.specs.Gathering.{IsSeatedAs}
 use Rattle.lane_turns.specs.LaneValues.{Tries}
 use Rattle.lane_turns.specs.Pens.{no_pen}
-use Rattle.lane_turns.specs.SeatNumbers.{lane_count}
 use Rattle.op_future.specs.declared.task_end.TaskEnd.{TaskEnd}
 use Rattle.op_future.specs.Futures.{HasStepped}
 use Rattle.op_future.specs.Steps.{party}

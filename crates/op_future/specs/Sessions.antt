@@ -7,7 +7,7 @@ use Rattle.session_script.specs.Script.{ScriptModel}
 use Rattle.session_script.specs.declared.round.Pace.TheVariants as pace
 use Rattle.session_script.specs.declared.round.Round.{Round}
 use Rattle.lane_map.specs.LaneNumbers.{has_cell}
-use Rattle.lane_turns.specs.declared.receipt.Receipt.{Receipt}
+use Rattle.lane_logs.specs.declared.receipt.Receipt.{Receipt}
 use Rattle.history_merge.specs.Receipts.{AreOfOneLane, CompletesBefore, HoldsIn, IsAbsent}
 use Rattle.op_future.specs.declared.task_end.TaskEnd.{TaskEnd}
 use Rattle.op_future.specs.declared.task_end.TaskEnd.TheVariants as end

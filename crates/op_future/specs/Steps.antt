@@ -6,12 +6,13 @@ use Rattle.lane_clock.specs.declared.found.Found.{Found}
 use Rattle.lane_clock.specs.declared.step.ClockStep.{ClockStep}
 use Rattle.lane_clock.specs.Seats.{own}
 use Rattle.lane_map.specs.LaneNumbers.{has_cell}
+use Rattle.lane_logs.specs.declared.receipt.Receipt.{Receipt}
+use Rattle.lane_logs.specs.Receipts.{IsReceiptOf}
 use Rattle.lane_turns.specs.declared.one.One.{One}
 use Rattle.lane_turns.specs.declared.one.One.TheVariants as one
-use Rattle.lane_turns.specs.declared.receipt.Receipt.{Receipt}
 use Rattle.lane_turns.specs.Attempts.{WorkerState}
 use Rattle.lane_turns.specs.LaneValues.{Tries}
-use Rattle.lane_turns.specs.Receipts.{Finds, IsReceiptOf}
+use Rattle.lane_turns.specs.Receipts.{Finds}
 use Rattle.lane_turns.specs.Runs.{HasPolled}
 use Rattle.lane_turns.specs.Scanning.{GoesOn, HasLooked}
 use Rattle.op_future.specs.declared.task_end.TaskEnd.{TaskEnd}

@@ -1,7 +1,7 @@
 -- A task: a state machine that wants the results of operations, one after another (Asio reference,
 -- Overview, "The Proactor Design Pattern"; that it is polled by hand is this project's own).
 use Rattle.std.specs.Prelude.{◌≡◌, ◌↔◌, ℕ, ◌+◌, List, ◌++◌, Option, None, length}
-use Rattle.lane_turns.specs.declared.receipt.Receipt.{Receipt}
+use Rattle.lane_logs.specs.declared.receipt.Receipt.{Receipt}
 
 pub record TaskState : Type 0 where
   -- the receipts that it got, in the order in which it got them

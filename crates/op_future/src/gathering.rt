@@ -7,7 +7,7 @@ use crate::collecting::has_cell;
 use crate::task::Task;
 use crate::task_end::TaskEnd;
 use lane_context::AtRest;
-use lane_turns::LaneSession;
+use lane_logs::LaneSession;
 use op_handlers::CompletionHandler;
 use reactor_trait::Reactor;
 use session_script::Script;

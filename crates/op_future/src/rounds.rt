@@ -9,7 +9,7 @@ ghost use Rattle.session_run.specs.LaneRounds.{AreClosed, HasBegun};
 use crate::seats::{SeatRoom, run_tasks};
 use crate::task::Task;
 use lane_context::{Context, Workers};
-use lane_turns::LaneSession;
+use lane_logs::LaneSession;
 use op_handlers::CompletionHandler;
 use reactor_trait::Reactor;
 use std::sync::Wait;

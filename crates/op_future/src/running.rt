@@ -8,7 +8,7 @@ use crate::stepping::step;
 use crate::task::Task;
 use crate::task_end::TaskEnd;
 use lane_context::{Context, Worker};
-use lane_turns::LaneSession;
+use lane_logs::LaneSession;
 use op_handlers::CompletionHandler;
 use reactor_trait::Reactor;
 use std::sync::Wait;

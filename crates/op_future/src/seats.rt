@@ -7,7 +7,7 @@ use crate::running::run_task;
 use crate::task::Task;
 use asio_types::NoMemory;
 use lane_context::{Context, Runner, Worker, Workers, WorkersApart, run_each};
-use lane_turns::LaneSession;
+use lane_logs::LaneSession;
 use op_handlers::CompletionHandler;
 use reactor_trait::Reactor;
 use std::alloc::Global;

@@ -1,9 +1,9 @@
 //! A session of tasks.
 ghost use Rattle.std.specs.Prelude.{◌≡◌, ◌↔◌, ◌≤◌, false, length, map, IfErr, IfOk, IsTrue};
-ghost use Rattle.book_context.specs.Finished.{IsFinished};
-ghost use Rattle.book_context.specs.Setup.{IsRefused};
+ghost use Rattle.execution_laws.specs.Finished.{IsFinished};
+ghost use Rattle.execution_laws.specs.Setup.{IsRefused};
 ghost use Rattle.history_merge.specs.Room.{most_merged};
-ghost use Rattle.lane_turns.specs.Logs.{session_layout};
+ghost use Rattle.lane_logs.specs.Logs.{session_layout};
 ghost use Rattle.op_future.specs.Seats.{IsRoomFor};
 ghost use Rattle.op_future.specs.Sessions.{AreEndsOf, HasOneRun, HaveGot};
 ghost use Rattle.op_handlers.specs.Rack.{IsWholeRack, handlers_in};
@@ -21,8 +21,8 @@ use crate::task_end::TaskEnd;
 use asio_types::SetupFault;
 use history_merge::{HistoryRoom, merge, receipts_hold, unfound_at_rest_are_absent};
 use lane_context::{Context, Parts};
+use lane_logs::LaneSession;
 use lane_map::LaneMap;
-use lane_turns::LaneSession;
 use op_handlers::{CompletionHandler, Rack};
 use reactor_trait::Reactor;
 use session_script::{Pace, Script, scripts_are_well_formed};

@@ -2,7 +2,7 @@ ghost use Rattle.std.specs.Prelude.{◌≡◌, ◌+◌, ◌++◌, ◌∷◌, [],
 ghost use Rattle.op_future.specs.Tasks.{TaskState, WantsWhileLeft};
 
 use asio_types::OpNo;
-use lane_turns::Receipt;
+use lane_logs::Receipt;
 
 /// A state machine that wants the results of operations, one after another: what an asynchronous
 /// function would be (Asio reference, Overview, "The Proactor Design Pattern"). It is asked and told

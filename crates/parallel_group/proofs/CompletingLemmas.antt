@@ -29,10 +29,10 @@ use Rattle.history_rules.specs.Legal.{IsLegal, IsLegalFrom, IsWhole, MayHappen, 
 use Rattle.history_rules.specs.Order.{was_taken}
 use Rattle.history_rules.specs.Rounds.{AllClosed, IsOver, is_act_outstanding, is_outstanding, restarts, runs, this_round}
 use Rattle.history_rules.specs.State.{ContextState, State, act_at, call_at, first_state, fresh, phase_at, with_call}
-use Rattle.book_context.proofs.CountLemmas.{one_more-is}
-use Rattle.book_context.proofs.PlaceLemmas.{few_acts}
-use Rattle.book_context.proofs.ScriptLemmas.{few_in}
-use Rattle.book_context.proofs.StateLemmas.{IsHandlers}
+use Rattle.execution_laws.proofs.CountLemmas.{one_more-is}
+use Rattle.execution_laws.proofs.PlaceLemmas.{few_acts}
+use Rattle.execution_laws.proofs.ScriptLemmas.{few_in}
+use Rattle.execution_laws.proofs.StateLemmas.{IsHandlers}
 use Rattle.reactor_turns.proofs.SummingLemmas.{one_if}
 use Rattle.group_script.proofs.AskedLemmas.{IsAsked, asked_further, not_begun, not_ended}
 use Rattle.group_script.proofs.PhaseLemmas.{begin-phase, call-phase, return-phase, set-phase}

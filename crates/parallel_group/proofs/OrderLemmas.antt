@@ -11,7 +11,7 @@ use Rattle.std.proofs.lemmas.Option.{get_or_from_slice_get, slice_get-map, slice
 use Rattle.asio_types.specs.declared.event.Event.{Event}
 use Rattle.asio_types.specs.declared.event.Event.TheVariants as event
 use Rattle.session_script.specs.Script.{ScriptModel}
-use Rattle.lane_turns.specs.declared.receipt.Receipt.{Receipt}
+use Rattle.lane_logs.specs.declared.receipt.Receipt.{Receipt}
 use Rattle.history_merge.specs.Receipts.{AreOfOneLane, HoldsIn}
 use Rattle.history_merge.proofs.AlikeLemmas.{never}
 use Rattle.op_future.specs.Sessions.{AreInOrder}

@@ -1,6 +1,6 @@
 -- The task that collects the members of a group, one after another by their numbers.
 use Rattle.std.specs.Prelude.{◌≡◌, ◌⊎◌, ◌≤◌, ◌-◌, ℕ, List, [], Some, length, map, slice_get}
-use Rattle.lane_turns.specs.declared.receipt.Receipt.{Receipt}
+use Rattle.lane_logs.specs.declared.receipt.Receipt.{Receipt}
 use Rattle.op_future.specs.Tasks.{TaskState}
 -- what was found of a member
 pub use Rattle.parallel_group.specs.declared.member_task.Collected.{Collected}

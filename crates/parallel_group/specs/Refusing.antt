@@ -3,7 +3,7 @@ use Rattle.std.specs.Prelude.{◌≡◌, ℕ, Bool, Option}
 use Rattle.asio_types.specs.declared.outside.SetupFault.{SetupFault}
 use Rattle.asio_types.specs.declared.outside.SetupFault.TheVariants as setup_fault
 use Rattle.reactor_trait.specs.Reactor.{Outside, ReactorState}
-use Rattle.book_context.specs.Setup.{IsRefused}
+use Rattle.execution_laws.specs.Setup.{IsRefused}
 use Rattle.group_script.specs.declared.member.GroupFault.{GroupFault}
 use Rattle.group_script.specs.declared.member.GroupFault.TheVariants as fault
 use Rattle.group_script.specs.Group.{Group}

@@ -3,7 +3,7 @@ ghost use Rattle.std.specs.Prelude.{◌≡◌, ℕ, List, [], IfOk};
 ghost use Rattle.parallel_group.specs.Collecting.{IsCollecting, none_found};
 
 use asio_types::{NoMemory, OpNo};
-use lane_turns::Receipt;
+use lane_logs::Receipt;
 use op_future::Task;
 use std::alloc::Global;
 use std::marker::{Brand, Model, PhantomData};

@@ -1,7 +1,7 @@
 //! Running a group.
 ghost use Rattle.std.specs.Prelude.{◌≡◌, ◌≤◌, [], false, Some, length, slice_get, vec_capacity, IfErr, IfOk};
-ghost use Rattle.book_context.specs.Finished.{IsFinished};
-ghost use Rattle.book_context.specs.Setup.{IsRefused};
+ghost use Rattle.execution_laws.specs.Finished.{IsFinished};
+ghost use Rattle.execution_laws.specs.Setup.{IsRefused};
 ghost use Rattle.group_script.specs.Group.{group_of, script_of};
 ghost use Rattle.group_script.specs.Limits.{IsGroup};
 ghost use Rattle.op_handlers.specs.Rack.{IsWholeRack, drop_marks, handlers_in};

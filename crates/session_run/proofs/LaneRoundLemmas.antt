@@ -2,7 +2,7 @@
 use Rattle.std.proofs.Common.{◌≡◌, ℕ, zero, suc, ◌≤◌, List, [], ◌∷◌, Some, arith, subst}
 use Rattle.std.specs.Prelude.{max, slice_get}
 use Rattle.session_script.specs.declared.round.Round.{Round}
-use Rattle.lane_turns.specs.SeatNumbers.{most_workers}
+use Rattle.lane_logs.specs.SeatNumbers.{most_workers}
 
 -- a round has no more workers than the greatest one
 pub within_most : (rounds : List Round) (at : ℕ) (round : Round) → slice_get rounds at ≡ Some round →

@@ -2,13 +2,13 @@
 use Rattle.std.proofs.Common.{◌≡◌, ◌∙◌, ℕ, zero, suc, ◌+◌, ◌-◌, ◌<◌, ◌≤◌, List, [], ◌∷◌, Option, Some, None, ap, arith, length, map, refl, subst, sym}
 use Rattle.std.specs.Prelude.{◌≢◌, IfSome, slice_get}
 use Rattle.session_script.specs.Script.{ScriptModel}
-use Rattle.lane_turns.specs.declared.log.LogEntry.{LogEntry}
+use Rattle.lane_logs.specs.declared.log.LogEntry.{LogEntry}
+use Rattle.lane_logs.specs.Logs.{LogsView, entries_of}
+use Rattle.lane_logs.specs.SeatNumbers.{IsWorkerSeat, lane_count, opener_seat, worker_count}
 use Rattle.lane_turns.specs.declared.run_end.RunEnd.{RunEnd}
 use Rattle.lane_turns.specs.declared.run_end.RunEnd.TheVariants as end
 use Rattle.lane_turns.specs.AllWorkers.{NoneFaulted, last_of, log_of}
 use Rattle.lane_turns.specs.Attempts.{WorkerState}
-use Rattle.lane_turns.specs.Logs.{LogsView, entries_of}
-use Rattle.lane_turns.specs.SeatNumbers.{IsWorkerSeat, lane_count, opener_seat, worker_count}
 use Rattle.lane_context.specs.SessionRooms.{AreFresh}
 use Rattle.history_merge.specs.Merging.{NoWorkerStops}
 

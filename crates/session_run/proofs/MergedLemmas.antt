@@ -11,12 +11,12 @@ use Rattle.reactor_trait.specs.Reactor.{Outside, ReactorState}
 use Rattle.op_handlers.specs.Marks.{Marks}
 use Rattle.op_handlers.specs.Rack.{IsWholeRack, handlers_in}
 use Rattle.op_handlers.specs.declared.rack.Rack.{Rack}
-use Rattle.book_context.specs.Finished.{IsFinished}
+use Rattle.execution_laws.specs.Finished.{IsFinished}
 use Rattle.book_context.proofs.FinishLemmas.{no_fault, no_stop, some_fault}
 use Rattle.lane_map.specs.LaneNumbers.{reactor_lane}
+use Rattle.lane_logs.specs.Logs.{LogsView, entries_of}
+use Rattle.lane_logs.specs.Names.{SessionNames}
 use Rattle.lane_turns.specs.Finishing.{IsGivenBack}
-use Rattle.lane_turns.specs.Logs.{LogsView, entries_of}
-use Rattle.lane_turns.specs.Names.{SessionNames}
 use Rattle.lane_context.specs.Setup.{HoldsNamed}
 use Rattle.lane_turns.specs.Turning.{log_half}
 use Rattle.history_merge.specs.Merging.{IsLegalMerging, NoWorkerStops}

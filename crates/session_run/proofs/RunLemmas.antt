@@ -1,12 +1,16 @@
 -- What a context gives back is a run of its script.
 use Rattle.std.proofs.Common.{◌≡◌, ℕ, Bool, false, List, Option, Some, None, refl, subst, sym, ◌∙◌}
-use Rattle.std.specs.Prelude.{IfSome, MatchOption, is_some, map, ⊤}
+use Rattle.std.specs.Prelude.{IfOk, IfSome, MatchOption, Result, is_some, map, ⊤}
+use Rattle.std.proofs.lemmas.Result.{IfOk-weaker}
 use Rattle.std.specs.Option.{option_map}
 use Rattle.asio_types.specs.declared.event.Event.{Event}
 use Rattle.session_script.specs.Script.{ScriptModel}
+use Rattle.session_script.specs.WellFormed.{IsWellFormed}
+use Rattle.history_laws.specs.Promise.{KeepsPromise}
+use Rattle.history_laws.proofs.PromiseLemmas.{keeps}
 use Rattle.reactor_trait.specs.Reactor.{Outside, ReactorState}
 use Rattle.history_book.specs.Trace.{AreEvents}
-use Rattle.book_context.specs.Finished.{IsFinished}
+use Rattle.execution_laws.specs.Finished.{IsFinished}
 use Rattle.history_rules.specs.Legal.{IsLegal, state_of}
 use Rattle.history_rules.specs.State.{State}
 use Rattle.op_handlers.specs.Marks.{Marks}
@@ -45,14 +49,15 @@ seen_of first outside before after state =
 -- what a context gives back that was made for the script, the reactor and the rack
 pub run_of : {H : Type 0} (marks : H → Marks) (script : ScriptModel) (told : Bool) (before after : ℕ)
     (events : List Event) (state : ReactorState) (first outside : Option Outside) (old new : Rack H) →
-    AllTaken old new → AreEvents events →
+    AllTaken old new → AreEvents events → IsWellFormed script →
     IsFinished script told (rack_run_mark marks old) (drop_mark marks old) false before after events state outside →
     IsRunOf marks script (seen_of first outside before after state) old new events
-run_of marks script told before after events state first outside old new spent numbers f =
+run_of marks script told before after events state first outside old new spent numbers well f =
     let told_is : told ≡ is_some (option_map sent_outside outside) =
     sym f.still_told ∙ sym (seen_to_tell outside) in
     record {
       legal = subst (λ told. IsLegal script told events) told_is f.legal;
+      promise = keeps script told events well f.legal;
       numbers = numbers;
       marked = f.marked;
       spent = spent;
@@ -64,3 +69,14 @@ run_of marks script told before after events state first outside old new spent n
       sent = λ quiet. subst (λ told. MatchOption (option_map sent_outside outside) ⊤
           (λ sent. sent ≡ sent_by (state_of script told events))) told_is (seen_sent outside (state_of script told events) (f.sent quiet));
     }
+
+-- and so is its promise, whatever else comes back
+pub promised : {X E : Type 0} (script : ScriptModel) (told : Bool) (run drop : ℕ → ℕ) (before : ℕ) (after : X → ℕ)
+    (events : X → List Event) (state : X → ReactorState) (outside : X → Option Outside) (r : Result X E) →
+    IsWellFormed script →
+    IfOk r (λ ran. IsFinished script told run drop false before (after ran) (events ran) (state ran) (outside ran)) →
+    IfOk r (λ ran. KeepsPromise script (events ran))
+promised script told run drop before after events state outside r well ended =
+    IfOk-weaker r
+    (λ ran. IsFinished script told run drop false before (after ran) (events ran) (state ran) (outside ran))
+    (λ ran. KeepsPromise script (events ran)) (λ ran f. keeps script told (events ran) well f.legal) ended

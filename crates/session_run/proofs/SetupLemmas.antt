@@ -5,6 +5,8 @@ use Rattle.std.proofs.lemmas.List.Elements.{All-replicate}
 use Rattle.asio_types.specs.Faults.{Rose}
 use Rattle.asio_types.specs.declared.event.Event.TheVariants as event
 use Rattle.session_script.specs.Script.{ScriptModel}
+use Rattle.session_script.specs.WellFormed.{IsWellFormed}
+use Rattle.history_laws.proofs.PromiseLemmas.{keeps}
 use Rattle.history_rules.specs.Legal.{IsLegal}
 use Rattle.history_rules.specs.Rounds.{is_unspent}
 use Rattle.history_rules.specs.State.{fresh}
@@ -32,11 +34,12 @@ not_stopped (suc k, below, same) = absurd (omega arith)
 
 -- a run of a script whose reactor couldn't be set up
 pub broken_run : {H : Type 0} (marks : H → Marks) (script : ScriptModel) (reactor : SeenReactor) (old new : Rack H)
-    → AllTaken old new → reactor.up ≡ false → Rose reactor.sent.faults_before reactor.sent.faults_after
+    → IsWellFormed script → AllTaken old new → reactor.up ≡ false → Rose reactor.sent.faults_before reactor.sent.faults_after
     → IsRunOf marks script reactor old new (event.Fault ∷ [])
-broken_run marks script reactor old new spent down rose =
+broken_run marks script reactor old new well spent down rose =
     record {
       legal = fault_is_legal script (tells_bytes reactor);
+      promise = keeps script (tells_bytes reactor) (event.Fault ∷ []) well (fault_is_legal script (tells_bytes reactor));
       numbers = (tt, tt);
       marked = (tt, tt);
       spent = spent;

@@ -3,7 +3,7 @@ use Rattle.std.specs.Prelude.{Bool}
 use Rattle.session_script.specs.Script.{ScriptModel}
 use Rattle.op_handlers.specs.Marks.{Marks}
 use Rattle.op_handlers.specs.declared.rack.Rack.{Rack}
-use Rattle.lane_turns.specs.Names.{SessionNames}
+use Rattle.lane_logs.specs.Names.{SessionNames}
 use Rattle.session_run.specs.RackMarks.{drop_mark, rack_run_mark}
 
 -- the script, whether bytes are told, and the marks that the handlers of the rack have

@@ -2,7 +2,7 @@
 -- ::restart).
 use Rattle.std.specs.Prelude.{◌≡◌, ℕ, true, false}
 use Rattle.session_script.specs.Script.{ScriptModel}
-use Rattle.lane_turns.specs.Stand.{Stand, is_round_open}
+use Rattle.lane_logs.specs.Stand.{Stand, is_round_open}
 
 -- the calls of `open` were made, so many rounds are closed, and nothing of the next has come
 pub record AreClosed (count : ℕ) (stand : Stand) : Type 0 where

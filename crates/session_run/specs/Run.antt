@@ -5,6 +5,7 @@ use Rattle.asio_types.specs.declared.event.Event.{Event}
 use Rattle.asio_types.specs.declared.event.Event.TheVariants as event
 use Rattle.session_script.specs.Script.{ScriptModel}
 use Rattle.history_book.specs.Trace.{AreEvents}
+use Rattle.history_laws.specs.Promise.{KeepsPromise}
 use Rattle.history_rules.specs.Legal.{IsLegal, state_of}
 use Rattle.history_rules.specs.Marks.{HasMarks}
 use Rattle.history_rules.specs.State.{State}
@@ -34,6 +35,8 @@ pub record IsRunOf {H : Type 0} (marks : H → Marks) (script : ScriptModel) (re
     (old new : Rack H) (events : List Event) : Type 0 where
   -- each event may come where it comes, and none is missing
   pub legal : IsLegal script (tells_bytes reactor) events
+  -- so handlers run once and behind their completion, those of a strand one at a time and in order
+  pub promise : KeepsPromise script events
   -- their numbers fit their types, so that a trace of them fixes them
   pub numbers : AreEvents events
   -- the events show the marks that the handlers had

@@ -1,19 +1,20 @@
-//! A script is run on one io_context, without a lock or with one.
+//! A script is run on one io_context: without a lock, with one, or by one thread alone.
 ghost use Rattle.std.specs.Prelude.{◌≡◌, false, length, IfErr, IfOk, OnErr, OnOk};
-ghost use Rattle.book_context.specs.Finished.{IsFinished};
-ghost use Rattle.book_context.specs.Setup.{IsRefused, TakesHandlers};
+ghost use Rattle.execution_laws.specs.Finished.{IsFinished};
+ghost use Rattle.execution_laws.specs.Setup.{IsRefused, TakesHandlers};
+ghost use Rattle.history_laws.specs.Promise.{KeepsPromise};
 ghost use Rattle.op_handlers.specs.Rack.{IsWholeRack, handlers_in};
 ghost use Rattle.proactor_core.specs.Proactor.{tells};
 ghost use Rattle.session_run.specs.RackMarks.{drop_mark, rack_run_mark};
 ghost use Rattle.session_script.specs.Limits.{most_acts};
 
-use crate::one_lock::run_locked;
+use crate::one_lock::{Sharing, run_locked};
 use crate::without_lock::run_unlocked;
 use asio_types::SetupFault;
 use history_book::History;
 use op_handlers::{CompletionHandler, Rack};
 use reactor_trait::Reactor;
-use session_script::Script;
+use session_script::{Script, scripts_are_well_formed};
 use std::alloc::Global;
 use std::marker::Brand;
 use std::sync::Wait;
@@ -22,6 +23,10 @@ use std::thread::Threads;
 /// The io_context that a session runs on.
 #[derive(Clone, Copy, Debug, PartialEq, Eq)]
 pub enum ContextKind {
+    /// Chosen by the script's workers, as `io_context(concurrency_hint)` is told of them (Asio
+    /// overview, "Concurrency hints"): where every round names one worker, the calling thread does
+    /// all of it, with no lock taken and no thread started; else it is the context without a lock.
+    Hinted,
     /// Without a lock: handlers of different lanes execute at the same time.
     WithoutLock,
     /// One lock round it: a handler executes inside one hold of the lock.
@@ -65,9 +70,20 @@ pub fn run_script<R: Threads + Wait + Sync, X: Reactor + Send, H: CompletionHand
     ensures ended { IfOk result (λ ran. IsFinished script.now (tells (X.told reactor))
         (rack_run_mark H.marks rack.old) (drop_mark H.marks rack.old) false (X.faults reactor)
         (X.faults ran.1) ran.0.events (X.state ran.1) (X.told ran.1)) }
+    ensures promise { IfOk result (λ ran. KeepsPromise script.now ran.0.events) }
 {
-    match kind {
-        ContextKind::WithoutLock => run_unlocked(rt, alloc, script, reactor, rack),
-        ContextKind::OneLock => run_locked::<Brand, R, X, H>(rt, alloc, script, reactor, rack),
-    }
+    scripts_are_well_formed(script);
+    let sharing = match kind {
+        ContextKind::Hinted if has_one_worker(script) => Sharing::Alone,
+        ContextKind::OneLock => Sharing::Workers,
+        ContextKind::Hinted | ContextKind::WithoutLock => {
+            return run_unlocked(rt, alloc, script, reactor, rack);
+        }
+    };
+    run_locked::<Brand, R, X, H>(rt, alloc, sharing, script, reactor, rack)
+}
+
+/// Whether each round of the script names one worker.
+fn has_one_worker(script: &Script) -> bool {
+    script.rounds().iter().all(|round| round.workers == 1)
 }

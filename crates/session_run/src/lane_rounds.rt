@@ -7,7 +7,7 @@ ghost use Rattle.lane_turns.specs.KnownFaults.{KnowsFault};
 ghost use Rattle.session_run.specs.LaneRounds.{AreClosed, HasBegun};
 
 use lane_context::{Context, RoundEnd, Workers, run_side_by_side};
-use lane_turns::LaneSession;
+use lane_logs::LaneSession;
 use op_handlers::CompletionHandler;
 use reactor_trait::Reactor;
 use session_script::{Round, Script};

@@ -1,7 +1,7 @@
 //! A script on the io_context with one lock.
 ghost use Rattle.std.specs.Prelude.{◌≡◌, length, IfErr, IfOk, OnErr, OnOk};
-ghost use Rattle.book_context.specs.Finished.{IsFinished};
-ghost use Rattle.book_context.specs.Setup.{IsRefused, TakesHandlers};
+ghost use Rattle.execution_laws.specs.Finished.{IsFinished};
+ghost use Rattle.execution_laws.specs.Setup.{IsRefused, TakesHandlers};
 ghost use Rattle.op_handlers.specs.Rack.{IsWholeRack, handlers_in};
 ghost use Rattle.proactor_core.specs.Proactor.{tells};
 ghost use Rattle.session_run.specs.RackMarks.{drop_mark, rack_run_mark};
@@ -18,6 +18,15 @@ use std::alloc::Global;
 use std::sync::Wait;
 use std::thread::Threads;
 
+/// Who takes turns at the context.
+#[derive(Clone, Copy, Debug, PartialEq, Eq)]
+pub(crate) enum Sharing {
+    /// The workers that the rounds name, each turn under the lock.
+    Workers,
+    /// The thread that runs the script, which has the context to itself and takes no lock.
+    Alone,
+}
+
 /// Runs a script on a context with one lock; the names are those of this session.
 pub(crate) fn run_locked<
     N: Session + Send + Sync,
@@ -27,6 +36,7 @@ pub(crate) fn run_locked<
 >(
     rt: &R,
     alloc: Global,
+    sharing: Sharing,
     script: &Script,
     reactor: X,
     rack: &mut Rack<H>,
@@ -48,6 +58,9 @@ pub(crate) fn run_locked<
     // The rack has a number for each act.
     prove!(script.acts() <= rack.count());
     let mut context = BookContext::<X, H, N>::make(alloc, script, rack, reactor)?;
-    run_rounds(rt, script, &mut context);
+    if sharing == Sharing::Workers {
+        run_rounds(rt, script, &mut context);
+    }
+    // Closes each round behind its work, with the context out of its lock.
     Ok(context.finish(rt))
 }

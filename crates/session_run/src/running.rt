@@ -16,7 +16,7 @@ use asio_types::{SetupFault, Sink};
 use history_book::History;
 use op_handlers::{CompletionHandler, Rack};
 use reactor_trait::Reactor;
-use session_script::Script;
+use session_script::{Script, scripts_are_well_formed};
 use std::alloc::Global;
 use std::sync::Wait;
 use std::thread::Threads;
@@ -41,6 +41,7 @@ fn run_to_history<R: Threads + Wait + Sync, X: Reactor + Send, H: CompletionHand
     ensures kept { OnErr result (handlers_in rack.new ≡ handlers_in rack.old) }
     ensures counts { IfErr result (λ back. X.faults back ≡ X.faults reactor) }
 {
+    scripts_are_well_formed(script);
     let Ok(broken) = broken_history(alloc) else {
         return Err(reactor);
     };

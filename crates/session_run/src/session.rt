@@ -21,8 +21,9 @@ use std::thread::Threads;
 /// Does what the words say, which are those behind the program's name. `run` reads a script from
 /// the source and runs it on one io_context over the reactor, with the handlers of the rack: each
 /// round by as many threads as it names, as far as the system has them, so that handlers of
-/// different strands may execute at the same time; and it writes its trace to out. `run --net` does
-/// the same; whoever makes the reactor sees by it what is asked for (`asks_for_sockets`). `gen START
+/// different strands may execute at the same time; and it writes its trace to out. A session that
+/// names one worker in every round stays in the calling thread, without a lock, as an io_context made
+/// with a `concurrency_hint` of 1 does. `run --net` does the same; whoever makes the reactor sees by it what is asked for (`asks_for_sockets`). `gen START
 /// SIZE` makes a script from two numbers, START to 65,536 and SIZE from 1 to 1,024, both without
 /// leading zeros; it reads nothing, runs the script so, and writes the summary of its history.
 /// `upgrade` reads a script and writes its text in version 2 to out, its words with one space between
@@ -95,7 +96,7 @@ pub fn asio_session<
     session_on(
         rt,
         alloc,
-        ContextKind::WithoutLock,
+        ContextKind::Hinted,
         words,
         source,
         out,

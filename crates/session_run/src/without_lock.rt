@@ -1,9 +1,9 @@
 //! A script on the io_context without a lock.
 ghost use Rattle.std.specs.Prelude.{◌≡◌, ◌≤◌, false, length, IfErr, IfOk, OnErr, OnOk};
-ghost use Rattle.book_context.specs.Finished.{IsFinished};
-ghost use Rattle.book_context.specs.Setup.{IsRefused, TakesHandlers};
+ghost use Rattle.execution_laws.specs.Finished.{IsFinished};
+ghost use Rattle.execution_laws.specs.Setup.{IsRefused, TakesHandlers};
 ghost use Rattle.history_merge.specs.Room.{most_merged};
-ghost use Rattle.lane_turns.specs.Logs.{session_layout};
+ghost use Rattle.lane_logs.specs.Logs.{session_layout};
 ghost use Rattle.op_handlers.specs.Rack.{IsWholeRack, handlers_in};
 ghost use Rattle.proactor_core.specs.Proactor.{tells};
 ghost use Rattle.session_run.specs.LaneNames.{names_of};
@@ -15,8 +15,8 @@ use asio_types::SetupFault;
 use history_book::History;
 use history_merge::{HistoryRoom, merge};
 use lane_context::{Context, Parts};
+use lane_logs::LaneSession;
 use lane_map::LaneMap;
-use lane_turns::LaneSession;
 use op_handlers::{CompletionHandler, Rack};
 use reactor_trait::Reactor;
 use session_script::Script;

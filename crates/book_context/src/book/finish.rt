@@ -1,7 +1,7 @@
 ghost use Rattle.std.specs.Prelude.{◌≡◌, ◌<◌, ◌+◌, length};
+ghost use Rattle.execution_laws.specs.Finished.{IsFinished};
 ghost use Rattle.book_context.specs.BookSteps.{IsBookOver};
 ghost use Rattle.book_context.specs.Finish.{GoesOnByDrops, IsEnding};
-ghost use Rattle.book_context.specs.Finished.{IsFinished};
 ghost use Rattle.book_context.specs.InTurn.{KeepsFaults};
 ghost use Rattle.book_context.specs.Recorded.{recorded_half};
 

@@ -5,10 +5,10 @@ ghost use Rattle.history_rules.specs.Calls.{accepted};
 ghost use Rattle.history_rules.specs.Order.{is_request};
 ghost use Rattle.strand_core.specs.Execution.{events_of};
 ghost use Rattle.strand_core.specs.declared.posted.Posted.{Posted};
-ghost use Rattle.book_context.specs.Called.{are_stopping};
+ghost use Rattle.execution_laws.specs.Called.{are_stopping};
+ghost use Rattle.execution_laws.specs.Order.{postings_of, requests_of};
+ghost use Rattle.execution_laws.specs.Ready.{is_ready};
 ghost use Rattle.book_context.specs.Listed.{with_events, with_listed};
-ghost use Rattle.book_context.specs.Order.{postings_of, requests_of};
-ghost use Rattle.book_context.specs.Ready.{is_ready};
 
 use crate::record::lists::Lists;
 use asio_types::{ActNo, Code, Event};

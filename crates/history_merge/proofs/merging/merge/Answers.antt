@@ -1,6 +1,6 @@
 use Rattle.std.proofs.Common.{ap, arith, length, subst, sym}
 use Rattle.session_script.specs.WellFormed.{IsWellFormed}
-use Rattle.lane_turns.specs.Finishing.{logs_in}
+use Rattle.lane_logs.specs.KeptLogs.{logs_in}
 use Rattle.history_merge.specs.Ordering.{ArePositioned}
 use Rattle.history_merge.specs.Room.{most_merged}
 use Rattle.history_merge.proofs.OrderingLemmas.{put_as}

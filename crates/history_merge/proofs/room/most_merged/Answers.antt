@@ -1,5 +1,5 @@
 use Rattle.std.proofs.Common.{◌≤◌, length, ap, arith}
-use Rattle.book_context.proofs.RecordRoomLemmas.{lines-below, rounds-below}
+use Rattle.execution_laws.proofs.RecordRoomLemmas.{lines-below, rounds-below}
 use Rattle.history_merge.proofs.room.most_merged.Goals as goal
 use Rattle.history_merge.proofs.room.most_merged.Goals.{After-as_slice, After-rounds}
 

@@ -1,13 +1,14 @@
 use Rattle.std.proofs.Common.{◌≡◌, ◌+◌, List, ap, length, subst, sym, arith, ◌∙◌}
 use Rattle.std.specs.Prelude.{IfSome, slice_get}
 use Rattle.lane_clock.specs.Seats.{SeatView, own}
-use Rattle.lane_turns.specs.AtRest.{HasHeardPens, IsAtRest}
+use Rattle.lane_logs.specs.AtRest.{IsAtRest}
+use Rattle.lane_logs.specs.Knowing.{lists_of}
+use Rattle.lane_logs.specs.SeatNumbers.{lane_count, opener_seat}
+use Rattle.lane_turns.specs.AtRest.{HasHeardPens}
 use Rattle.lane_turns.specs.Attending.{HasGoneOn}
 use Rattle.lane_turns.specs.Batons.{BatonView}
 use Rattle.lane_turns.specs.Finishing.{lanes_in, pens_of}
-use Rattle.lane_turns.specs.Meeting.{lists_of}
 use Rattle.lane_turns.specs.Openers.{OpenerView}
-use Rattle.lane_turns.specs.SeatNumbers.{lane_count, opener_seat}
 use Rattle.lane_turns.specs.Turning.{ReactorView}
 use Rattle.lane_turns.specs.Workers.{WorkerView}
 use Rattle.lane_turns.proofs.EventCutLemmas.{cuts_go_on}

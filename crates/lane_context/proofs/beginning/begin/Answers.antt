@@ -3,12 +3,12 @@ use Rattle.strand_core.specs.Hands.{Held}
 use Rattle.reactor_turns.specs.Ahead.{most_turn_events}
 use Rattle.lane_map.specs.LaneNumbers.{reactor_lane}
 use Rattle.lane_map.proofs.NumberLemmas.{lane_count as lanes_listed}
+use Rattle.lane_logs.specs.SeatNumbers.{opener_seat}
 use Rattle.lane_turns.specs.Batons.{HaveHands, LaneView}
 use Rattle.lane_turns.specs.Firsts.{first_opener}
 use Rattle.lane_turns.specs.Openers.{OpenerView, round_of}
 use Rattle.lane_turns.specs.Pens.{PenView}
 use Rattle.lane_turns.specs.Rooms.{IsNewPen, opener_room}
-use Rattle.lane_turns.specs.SeatNumbers.{opener_seat}
 use Rattle.lane_turns.proofs.LogRoomLemmas.{few_lanes}
 use Rattle.lane_context.proofs.StartLemmas.{baton_listed, each_front, lane_itself}
 use Rattle.lane_context.proofs.beginning.begin.Goals as goal

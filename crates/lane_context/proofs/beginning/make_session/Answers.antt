@@ -1,8 +1,8 @@
 use Rattle.std.proofs.Common.{ap, subst, ◌∙◌}
 use Rattle.lane_clock.specs.Seats.{ClockId, SeatsLeft}
 use Rattle.lane_context.specs.Making.{worker_rooms}
+use Rattle.lane_logs.specs.SeatNumbers.{lane_count}
 use Rattle.lane_turns.specs.Rooms.{AreNewPens, lane_rooms}
-use Rattle.lane_turns.specs.SeatNumbers.{lane_count}
 use Rattle.lane_context.proofs.beginning.make_session.Goals as goal
 
 pub begin-made-requires-clause-lane_pens : goal.begin-made-requires-clause-lane_pens

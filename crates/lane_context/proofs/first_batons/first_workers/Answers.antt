@@ -1,9 +1,9 @@
 use Rattle.std.proofs.Common.{◌≡◌, ◌<◌, ◌+◌, ◌++◌, ◌∷◌, [], length, sym, ap, subst, arith, ◌∙◌, append_assoc, length-append}
 use Rattle.std.specs.Vec.Iter.{into_iter_items}
 use Rattle.std.proofs.lemmas.List.{length-replicate}
+use Rattle.lane_logs.specs.SeatNumbers.{lane_count, worker_count}
 use Rattle.lane_turns.specs.Firsts.{IsFirstWorker}
 use Rattle.lane_turns.specs.Rooms.{IsNewPen, worker_room}
-use Rattle.lane_turns.specs.SeatNumbers.{lane_count, worker_count}
 use Rattle.lane_turns.proofs.NewPenLemmas.{each_pushed}
 use Rattle.lane_context.proofs.StartLemmas.{worker_first, worker_pen, worker_pen_new, worker_seat}
 use Rattle.lane_context.proofs.first_batons.first_workers.Given.{Over}

@@ -1,10 +1,10 @@
 use Rattle.std.proofs.Common.{◌≤◌, ap, subst, sym, ◌∙◌}
 use Rattle.session_script.specs.Script.{ScriptModel}
 use Rattle.lane_clock.specs.Steps.{most_draws}
+use Rattle.lane_logs.specs.SeatNumbers.{opener_seat}
+use Rattle.lane_logs.specs.Stand.{Stand, first_stand}
 use Rattle.lane_turns.specs.Openers.{IsOpener}
 use Rattle.lane_turns.specs.Rooms.{IsNewPen, opener_room}
-use Rattle.lane_turns.specs.SeatNumbers.{opener_seat}
-use Rattle.lane_turns.specs.Stand.{Stand, first_stand}
 use Rattle.lane_context.proofs.FirstLemmas.{opener_begins}
 use Rattle.lane_context.proofs.first_seats.first_opener.Goals as goal
 

@@ -1,11 +1,11 @@
 use Rattle.std.proofs.Common.{◌≤◌, false, arith, ap, subst, sym, ◌∙◌}
 use Rattle.session_script.specs.Script.{ScriptModel}
 use Rattle.lane_clock.specs.Steps.{most_draws}
+use Rattle.lane_logs.specs.SeatNumbers.{IsWorkerSeat}
+use Rattle.lane_logs.specs.Stand.{first_stand}
 use Rattle.lane_turns.specs.declared.standing.RoundNow.{RoundNow}
 use Rattle.lane_turns.specs.Openers.{round_of}
 use Rattle.lane_turns.specs.Rooms.{IsNewPen, worker_room}
-use Rattle.lane_turns.specs.SeatNumbers.{IsWorkerSeat}
-use Rattle.lane_turns.specs.Stand.{first_stand}
 use Rattle.lane_turns.specs.Workers.{IsWorker}
 use Rattle.lane_context.proofs.FirstLemmas.{worker_begins}
 use Rattle.lane_context.proofs.first_seats.first_worker.Goals as goal

@@ -6,8 +6,8 @@ use Rattle.reactor_turns.specs.Ahead.{most_turn_events}
 use Rattle.lane_map.specs.LaneNumbers.{reactor_lane}
 use Rattle.lane_map.proofs.NumberLemmas.{lane_count as lanes_listed}
 use Rattle.lane_context.specs.Making.{worker_rooms}
+use Rattle.lane_logs.specs.SeatNumbers.{lane_count, opener_seat, worker_count}
 use Rattle.lane_turns.specs.Rooms.{AreNewPens, lane_rooms, opener_room, worker_room}
-use Rattle.lane_turns.specs.SeatNumbers.{lane_count, opener_seat, worker_count}
 use Rattle.lane_turns.proofs.NewPenLemmas.{pens_new}
 use Rattle.lane_context.proofs.StartLemmas.{given_pen, lane_pens_count, left_lanes, left_reactor, left_workers}
 use Rattle.lane_context.proofs.making.first_pens.Goals as goal

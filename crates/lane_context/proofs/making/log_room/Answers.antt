@@ -2,8 +2,8 @@ use Rattle.std.proofs.Common.{◌≡◌, ℕ, List, ap, arith, length, replicate
 use Rattle.session_script.specs.declared.round.Round.{Round}
 use Rattle.std.proofs.lemmas.List.{length-replicate}
 use Rattle.lane_context.specs.Making.{worker_rooms}
+use Rattle.lane_logs.specs.SeatNumbers.{worker_count}
 use Rattle.lane_turns.specs.Rooms.{AreNewLogs, worker_room}
-use Rattle.lane_turns.specs.SeatNumbers.{worker_count}
 use Rattle.lane_context.proofs.StartLemmas.{lane_pens_count}
 use Rattle.lane_context.proofs.making.log_room.Goals as goal
 

@@ -2,7 +2,7 @@ use Rattle.std.proofs.Common.{◌≡◌, ◌≤◌, ◌+◌, ◌++◌, List, get
 use Rattle.std.specs.Prelude.{Vec, vec_capacity}
 use Rattle.std.specs.Global.{Global}
 use Rattle.std.specs.Vec.Iter.{into_iter_items, into_iter_len}
-use Rattle.lane_turns.specs.declared.log.LogEntry.{LogEntry}
+use Rattle.lane_logs.specs.declared.log.LogEntry.{LogEntry}
 use Rattle.lane_turns.specs.Rooms.{EachAt, IsNewPen, seats_on}
 use Rattle.lane_context.proofs.new_pens.new_pens.Given as goal
 

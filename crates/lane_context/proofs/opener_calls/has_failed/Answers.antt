@@ -4,7 +4,7 @@ use Rattle.std.proofs.lemmas.Option.{slice_get-get_or}
 use Rattle.lane_clock.specs.Seats.{own}
 use Rattle.lane_map.specs.LaneNumbers.{reactor_lane}
 use Rattle.lane_map.proofs.NumberLemmas.{lane_count as lanes_and_reactor}
-use Rattle.lane_turns.specs.Cuts.{NoneStops}
+use Rattle.lane_logs.specs.Cuts.{NoneStops}
 use Rattle.lane_turns.specs.KnownFaults.{SomeStop}
 use Rattle.lane_turns.specs.LaneOf.{seat_of}
 use Rattle.lane_turns.specs.LaneValues.{terms}

@@ -3,9 +3,9 @@ use Rattle.std.specs.Prelude.{slice_get}
 use Rattle.std.proofs.lemmas.Option.{slice_get-get_or}
 use Rattle.lane_map.specs.LaneNumbers.{reactor_lane}
 use Rattle.lane_map.proofs.NumberLemmas.{lane_count as lanes_and_reactor}
-use Rattle.lane_turns.specs.Cuts.{NoneStops}
-use Rattle.lane_turns.specs.Meeting.{lists_of}
-use Rattle.lane_turns.specs.SeatNumbers.{lane_count}
+use Rattle.lane_logs.specs.Cuts.{NoneStops}
+use Rattle.lane_logs.specs.Knowing.{lists_of}
+use Rattle.lane_logs.specs.SeatNumbers.{lane_count}
 use Rattle.lane_turns.proofs.AttendingLemmas.{on_heard}
 use Rattle.lane_turns.proofs.MeetReactorLemmas.{heard_met, none_met, places_set, row_met, started_met}
 use Rattle.lane_turns.proofs.bench.meet_reactor.Goals as goal

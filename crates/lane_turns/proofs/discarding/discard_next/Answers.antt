@@ -3,8 +3,8 @@ use Rattle.std.specs.Prelude.{not}
 use Rattle.session_script.specs.Script.{ScriptModel, is_op, parent_of}
 use Rattle.session_script.specs.WellFormed.{HasParent}
 use Rattle.lane_map.specs.LaneNumbers.{home_lane, reactor_lane}
-use Rattle.lane_turns.specs.Drops.{has_call, is_left}
-use Rattle.lane_turns.specs.LaneLog.{has_begun}
+use Rattle.lane_logs.specs.Drops.{has_call, is_left}
+use Rattle.lane_logs.specs.LaneLog.{has_begun}
 use Rattle.lane_turns.proofs.DiscardingLemmas.{caller_gone, discarded_noted, discarded_silently, few_noted, left_if, left_not, passed}
 use Rattle.lane_turns.proofs.discarding.discard_next.Given.{Over}
 use Rattle.lane_turns.proofs.discarding.discard_next.Goals as goal

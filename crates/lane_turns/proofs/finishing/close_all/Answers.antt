@@ -2,7 +2,7 @@ use Rattle.std.proofs.Common.{◌≡◌, ◌∷◌, [], ap, arith, map, subst, s
 use Rattle.std.proofs.lemmas.List.{map-append}
 use Rattle.lane_clock.specs.Closing.{Closed}
 use Rattle.lane_clock.specs.Seats.{ClockId, Owns, SeatView, copy_seat}
-use Rattle.lane_turns.specs.Meeting.{lists_of}
+use Rattle.lane_logs.specs.Knowing.{lists_of}
 use Rattle.lane_turns.specs.Pens.{PenView}
 use Rattle.lane_turns.proofs.ShuttingLemmas.{all_apart, owns_all, put_first, put_last}
 use Rattle.lane_turns.proofs.finishing.close_all.Goals as goal

@@ -2,17 +2,20 @@ use Rattle.std.proofs.Common.{◌≡◌, ◌<◌, [], ℕ, List, Option, length,
 use Rattle.std.specs.Prelude.{All, slice_index_or}
 use Rattle.std.specs.List.{flat_map}
 use Rattle.session_script.specs.Script.{ScriptModel, is_op}
-use Rattle.lane_clock.specs.Seats.{ClockId, Owns}
+use Rattle.lane_clock.specs.Seats.{ClockId, Owns, Remembers}
 use Rattle.lane_map.specs.LaneNumbers.{home_lane, reactor_lane}
 use Rattle.strand_core.specs.Hands.{Held}
-use Rattle.lane_turns.specs.declared.log.LogEntry.{LogEntry}
+use Rattle.lane_logs.specs.declared.log.LogEntry.{LogEntry}
+use Rattle.lane_logs.specs.Drops.{drops_of}
+use Rattle.lane_logs.specs.Labels.{events_in}
+use Rattle.lane_logs.specs.Logs.{AreLogs}
+use Rattle.lane_logs.specs.Knowing.{lists_of}
+use Rattle.lane_logs.specs.KeptLogs.{KeptLogs, logs_in}
+use Rattle.lane_logs.specs.AtRest.{RestsFrom}
+use Rattle.lane_logs.specs.SeatNumbers.{opener_seat}
 use Rattle.lane_turns.specs.AtRest.{HasHeardPens}
 use Rattle.lane_turns.specs.Discarding.{IsDiscarding}
-use Rattle.lane_turns.specs.Drops.{drops_of}
-use Rattle.lane_turns.specs.Finishing.{AreClosed, IsGivenBack, lanes_in, pens_of}
-use Rattle.lane_turns.specs.Labels.{events_in}
-use Rattle.lane_turns.specs.Logs.{AreLogs}
-use Rattle.lane_turns.specs.Meeting.{lists_of}
+use Rattle.lane_turns.specs.Finishing.{AreClosed, IsGivenBack, lanes_in, pens_of, KeepLogsOf}
 use Rattle.lane_turns.specs.Pens.{PenView}
 use Rattle.lane_turns.specs.Turning.{ReactorView, log_half}
 use Rattle.lane_turns.proofs.EndingLemmas.{baton_entry, baton_number, have_left, pens_clocks, pens_numbers, pens_own, reactor_entry}
@@ -23,6 +26,8 @@ use Rattle.lane_turns.proofs.LeftLemmas.{none_discarded}
 use Rattle.lane_turns.proofs.finishing.finish.Given.{Over}
 use Rattle.lane_turns.proofs.finishing.finish.Goals as goal
 use Rattle.lane_turns.proofs.finishing.finish.Goals.{After-close_all-entries, After-part_all-pens}
+use Rattle.lane_turns.specs.KeptSteps.{KeepStepsOf}
+use Rattle.lane_turns.specs.Workers.{WorkerView}
 
 -- what the lanes and the workers left
 left_of : (g : Over) (c : After-part_all-pens g) →
@@ -119,7 +124,10 @@ pub returns-clause-logs : goal.returns-clause-logs
 returns-clause-logs g c =
     let first = (goal.at.returns-clause-logs g c).After-part_all-pens in
     let at = (goal.at.returns-clause-logs g c).After-close_all-entries in
-    subst (λ (missed : List (Option ℕ)).
+    subst (λ (kept : KeptLogs).
+    AreLogs g.N.LaneSession.names (logs_in kept))
+    (sym c.of-logs.ensures)
+    (subst (λ (missed : List (Option ℕ)).
     AreLogs g.N.LaneSession.names (record {
       lists = lists_of c.close_all-entries.result.known;
       last = c.close_all-entries.result.last;
@@ -137,64 +145,89 @@ returns-clause-logs g c =
     c.requires.over
     (c.discard_left-drops.ensures
     ∙ ap (λ logs. drops_of g.N.LaneSession.names (flat_map events_in (map (λ log. log.items) logs)))
-    c.as_slice.ensures.value))
+    c.as_slice.ensures.value)))
 
 pub returns-clause-reactor : goal.returns-clause-reactor
 returns-clause-reactor g c =
     let at = (goal.at.returns-clause-reactor g c).After-close_all-entries in
-    subst (λ (log : List LogEntry).
+    subst (λ (kept : KeptLogs).
+    IsGivenBack g.N.LaneSession.names.told (log_half g.N.LaneSession.names
+    (slice_index_or kept.entries (reactor_lane g.N.LaneSession.names.script) [])) g.N.LaneSession.faults
+    (g.X.Reactor.faults c.into_reactor.result) (g.X.Reactor.state c.into_reactor.result)
+    (g.X.Reactor.told c.into_reactor.result))
+    (sym c.of-logs.ensures)
+    (subst (λ (log : List LogEntry).
     IsGivenBack g.N.LaneSession.names.told (log_half g.N.LaneSession.names log) g.N.LaneSession.faults
     (g.X.Reactor.faults c.into_reactor.result) (g.X.Reactor.state c.into_reactor.result)
     (g.X.Reactor.told c.into_reactor.result)) (sym (last_log g at))
     (given_back g.N.LaneSession.names g.X.Reactor.state g.X.Reactor.told g.X.Reactor.faults g.N.LaneSession.faults
     (log_half g.N.LaneSession.names c.reactor.inside.lane.pen.log) c.reactor.inside.proactor c.into_reactor.result
-    c.reactor.invariant.keeps c.into_reactor.ensures.reactor c.into_reactor.ensures.stands)
+    c.reactor.invariant.keeps c.into_reactor.ensures.reactor c.into_reactor.ensures.stands))
 
 pub returns-clause-worker_logs : goal.returns-clause-worker_logs
 returns-clause-worker_logs g c =
     let first = (goal.at.returns-clause-worker_logs g c).After-part_all-pens in
     let at = (goal.at.returns-clause-worker_logs g c).After-close_all-entries in
-    worker_logs g.N.LaneSession.names g.N.LaneSession.clock (lanes_in c.args.ending.batons.items c.reactor.inside.lane)
+    subst (λ (kept : KeptLogs).
+    KeepLogsOf (λ (worker : WorkerView). worker.pen.log) g.N.LaneSession.names.script (logs_in kept)
+    c.args.ending.workers.items)
+    (sym c.of-logs.ensures)
+    (worker_logs g.N.LaneSession.names g.N.LaneSession.clock (lanes_in c.args.ending.batons.items c.reactor.inside.lane)
     c.args.ending.workers.items (left_of g first) c.args.ending.opener
     (map (λ log. log.items) c.close_all-entries.result.entries.items) c.close_all-entries.result.known
-    c.close_all-entries.result.last (shut_of g at)
+    c.close_all-entries.result.last (shut_of g at))
 
 pub returns-clause-worker_steps : goal.returns-clause-worker_steps
 returns-clause-worker_steps g c =
     let first = (goal.at.returns-clause-worker_steps g c).After-part_all-pens in
     let at = (goal.at.returns-clause-worker_steps g c).After-close_all-entries in
-    worker_steps g.N.LaneSession.names g.N.LaneSession.clock (lanes_in c.args.ending.batons.items c.reactor.inside.lane)
+    subst (λ (kept : KeptLogs).
+    KeepStepsOf (λ (worker : WorkerView). worker.pen.seat) g.N.LaneSession.names.script (logs_in kept)
+    c.args.ending.workers.items)
+    (sym c.of-logs.ensures)
+    (worker_steps g.N.LaneSession.names g.N.LaneSession.clock (lanes_in c.args.ending.batons.items c.reactor.inside.lane)
     c.args.ending.workers.items (left_of g first) c.args.ending.opener
     (map (λ log. log.items) c.close_all-entries.result.entries.items) c.close_all-entries.result.known
-    c.close_all-entries.result.last (shut_of g at)
+    c.close_all-entries.result.last (shut_of g at))
 
 pub returns-clause-remembers : goal.returns-clause-remembers
 returns-clause-remembers g c =
     let first = (goal.at.returns-clause-remembers g c).After-part_all-pens in
     let at = (goal.at.returns-clause-remembers g c).After-close_all-entries in
-    opener_remembers g.N.LaneSession.names g.N.LaneSession.clock (lanes_in c.args.ending.batons.items c.reactor.inside.lane)
+    subst (λ (kept : KeptLogs).
+    Remembers c.args.ending.opener.pen.seat kept.known)
+    (sym c.of-logs.ensures)
+    (opener_remembers g.N.LaneSession.names g.N.LaneSession.clock (lanes_in c.args.ending.batons.items c.reactor.inside.lane)
     c.args.ending.workers.items (left_of g first) c.args.ending.opener
     (map (λ log. log.items) c.close_all-entries.result.entries.items) c.close_all-entries.result.known
-    c.close_all-entries.result.last (shut_of g at)
+    c.close_all-entries.result.last (shut_of g at))
 
 pub returns-clause-all : goal.returns-clause-all
 returns-clause-all g c =
     let first = (goal.at.returns-clause-all g c).After-part_all-pens in
     let at = (goal.at.returns-clause-all g c).After-close_all-entries in
-    nothing_since g.N.LaneSession.names g.N.LaneSession.clock (lanes_in c.args.ending.batons.items c.reactor.inside.lane)
+    subst (λ (kept : KeptLogs).
+    (n : ℕ) → n < opener_seat g.N.LaneSession.names.script →
+    lists_of kept.known n ≡ lists_of c.args.ending.opener.pen.seat n)
+    (sym c.of-logs.ensures)
+    (nothing_since g.N.LaneSession.names g.N.LaneSession.clock (lanes_in c.args.ending.batons.items c.reactor.inside.lane)
     c.args.ending.workers.items (left_of g first) c.args.ending.opener
     (map (λ log. log.items) c.close_all-entries.result.entries.items) c.close_all-entries.result.known
     c.close_all-entries.result.last (shut_of g at)
     (subst (λ (reactor : ReactorView g.row.X.Denot).
     HasHeardPens c.args.ending.opener
     (pens_of (lanes_in c.args.ending.batons.items reactor.lane) c.args.ending.workers.items)) (sym c.reactor.view_is)
-    c.requires.heard)
+    c.requires.heard))
 
 pub returns-clause-resting : goal.returns-clause-resting
 returns-clause-resting g c =
     let first = (goal.at.returns-clause-resting g c).After-part_all-pens in
     let at = (goal.at.returns-clause-resting g c).After-close_all-entries in
-    rested_since g.N.LaneSession.names g.N.LaneSession.clock (lanes_in c.args.ending.batons.items c.reactor.inside.lane)
+    subst (λ (kept : KeptLogs).
+    RestsFrom g.N.LaneSession.names.script (lists_of kept.known)
+    (length (lists_of c.args.ending.opener.pen.seat (opener_seat g.N.LaneSession.names.script))))
+    (sym c.of-logs.ensures)
+    (rested_since g.N.LaneSession.names g.N.LaneSession.clock (lanes_in c.args.ending.batons.items c.reactor.inside.lane)
     c.args.ending.workers.items (left_of g first) c.args.ending.opener
     (map (λ log. log.items) c.close_all-entries.result.entries.items) c.close_all-entries.result.known
-    c.close_all-entries.result.last (shut_of g at)
+    c.close_all-entries.result.last (shut_of g at))

@@ -1,6 +1,6 @@
 use Rattle.std.proofs.Common.{◌≡◌, ◌≤◌, drop}
 use Rattle.std.specs.Prelude.{max}
-use Rattle.lane_turns.specs.SeatNumbers.{most_workers}
+use Rattle.lane_logs.specs.SeatNumbers.{most_workers}
 use Rattle.lane_turns.proofs.log_rooms.worker_count.Given as goal
 
 abbrev pub invariant-loop-round : goal.invariant-loop-round

@@ -1,5 +1,5 @@
 use Rattle.std.proofs.Common.{take}
-use Rattle.lane_turns.specs.Opening.{called_each}
+use Rattle.lane_logs.specs.Calls.{called_each}
 use Rattle.lane_turns.specs.Pens.{HasDrawnCalls}
 use Rattle.lane_turns.proofs.opening.draw_opening.Given as goal
 

@@ -1,7 +1,7 @@
 use Rattle.std.proofs.Common.{◌⊎◌, false, true, inl, inr, refl, subst, sym, ◌∙◌}
 use Rattle.session_script.specs.WellFormed.{IsWellFormed}
+use Rattle.lane_logs.specs.Parts.{looks_empty}
 use Rattle.lane_turns.specs.Batons.{LaneView}
-use Rattle.lane_turns.specs.Parts.{looks_empty}
 use Rattle.lane_turns.specs.Pens.{HasGone}
 use Rattle.lane_turns.specs.Polling.{with_pen}
 use Rattle.lane_turns.specs.ReactorPolling.{FailedNext, FoundOtherWork, LeftTime, TurnedNext}

@@ -1,7 +1,7 @@
 use Rattle.std.proofs.Common.{ap, subst, sym, ◌∙◌}
 use Rattle.session_script.specs.Script.{ScriptModel}
+use Rattle.lane_logs.specs.Parts.{looks_empty, looks_full}
 use Rattle.lane_turns.specs.Batons.{LaneView}
-use Rattle.lane_turns.specs.Parts.{looks_empty, looks_full}
 use Rattle.lane_turns.specs.Pens.{HasGone, PenView}
 use Rattle.lane_turns.specs.Polling.{with_pen}
 use Rattle.lane_turns.specs.ReactorPolling.{TurnCameTo}

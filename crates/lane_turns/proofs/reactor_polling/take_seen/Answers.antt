@@ -1,11 +1,11 @@
 use Rattle.std.proofs.Common.{false, true, inl, not, subst, sym}
 use Rattle.asio_types.specs.declared.event.Event.TheVariants as event
+use Rattle.lane_logs.specs.Parts.{looks_full}
+use Rattle.lane_logs.specs.ReactorTurns.{take_change}
 use Rattle.lane_turns.specs.Batons.{LaneView}
-use Rattle.lane_turns.specs.Parts.{looks_full}
 use Rattle.lane_turns.specs.Pens.{HasGone}
 use Rattle.lane_turns.specs.Polling.{with_pen}
 use Rattle.lane_turns.specs.ReactorPolling.{TurnedNext}
-use Rattle.lane_turns.specs.ReactorTurns.{take_change}
 use Rattle.lane_turns.specs.Turning.{HasTurned, HasTurnRoom, KeepsTurns, log_half}
 use Rattle.lane_turns.proofs.PollingLemmas.{standing}
 use Rattle.lane_turns.proofs.ReactorPollingLemmas.{half_works, loaded_room, request_is, taken_next}

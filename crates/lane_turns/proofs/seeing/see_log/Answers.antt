@@ -1,9 +1,9 @@
 use Rattle.std.proofs.Common.{subst}
 use Rattle.std.proofs.lemmas.List.{take_all}
 use Rattle.asio_types.specs.declared.event.Event.TheVariants as event
-use Rattle.lane_turns.specs.Drops.{is_call_of}
-use Rattle.lane_turns.specs.Labels.{events_in}
-use Rattle.lane_turns.specs.LaneLog.{is_begin_of}
+use Rattle.lane_logs.specs.Drops.{is_call_of}
+use Rattle.lane_logs.specs.Labels.{events_in}
+use Rattle.lane_logs.specs.LaneLog.{is_begin_of}
 use Rattle.lane_turns.proofs.SeeingLemmas.{Marks, marks_entry, marks_none}
 use Rattle.lane_turns.proofs.seeing.see_log.Goals as goal
 

@@ -1,7 +1,7 @@
 use Rattle.std.proofs.Common.{take}
-use Rattle.lane_turns.specs.Drops.{is_call_of}
-use Rattle.lane_turns.specs.Labels.{events_in}
-use Rattle.lane_turns.specs.LaneLog.{is_begin_of}
+use Rattle.lane_logs.specs.Drops.{is_call_of}
+use Rattle.lane_logs.specs.Labels.{events_in}
+use Rattle.lane_logs.specs.LaneLog.{is_begin_of}
 use Rattle.lane_turns.proofs.SeeingLemmas.{Marks}
 use Rattle.lane_turns.proofs.seeing.see_log.Given as goal
 

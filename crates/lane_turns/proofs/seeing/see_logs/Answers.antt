@@ -1,5 +1,5 @@
-use Rattle.lane_turns.specs.Drops.{is_call_of}
-use Rattle.lane_turns.specs.LaneLog.{is_begin_of}
+use Rattle.lane_logs.specs.Drops.{is_call_of}
+use Rattle.lane_logs.specs.LaneLog.{is_begin_of}
 use Rattle.lane_turns.proofs.SeeingLemmas.{marks_item}
 use Rattle.lane_turns.proofs.seeing.see_logs.Goals as goal
 

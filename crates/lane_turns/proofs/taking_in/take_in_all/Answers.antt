@@ -1,7 +1,7 @@
 use Rattle.std.proofs.Common.{◌≡◌, ◌∷◌, ◌++◌, [], List, arith, map, ap, refl, subst, ◌∙◌}
 use Rattle.std.specs.Vec.Iter.{into_iter_items}
 use Rattle.std.proofs.lemmas.List.{length-map, map-append}
-use Rattle.lane_turns.specs.declared.log.LogEntry.{LogEntry}
+use Rattle.lane_logs.specs.declared.log.LogEntry.{LogEntry}
 use Rattle.lane_turns.specs.Pens.{PenView}
 use Rattle.lane_turns.specs.TakingIn.{HasJoined}
 use Rattle.lane_turns.proofs.TakingInLemmas.{next_fits, next_holds, taking_more, taking_none}

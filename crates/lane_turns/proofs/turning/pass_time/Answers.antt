@@ -3,7 +3,7 @@ use Rattle.history_rules.specs.State.{ReactorHalf}
 use Rattle.history_rules.specs.Time.{next_time}
 use Rattle.proactor_core.specs.Proactor.{Follows}
 use Rattle.lane_clock.specs.declared.found.Change.TheVariants as change
-use Rattle.lane_turns.specs.Labels.{shows}
+use Rattle.lane_logs.specs.Labels.{shows}
 use Rattle.lane_turns.specs.Pens.{HasGone}
 use Rattle.lane_turns.proofs.PassingLemmas.{broken_keeps, broken_may, broken_passed, broken_room, moved_of, pass_fault_keeps, pass_fault_may, pass_fault_room, pass_keeps, pass_may, pass_mid, pass_turned, point_of}
 use Rattle.lane_turns.proofs.turning.pass_time.Goals as goal

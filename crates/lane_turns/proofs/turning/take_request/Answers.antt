@@ -1,8 +1,9 @@
 use Rattle.std.proofs.Common.{ap, subst, sym, ◌∙◌, arith, length}
 use Rattle.session_script.specs.Script.{ScriptModel, act_of}
 use Rattle.session_script.specs.WellFormed.{IsWellFormed}
+use Rattle.lane_logs.proofs.RequestLemmas.{request_within}
 use Rattle.lane_turns.specs.Turning.{log_half}
-use Rattle.lane_turns.proofs.TakingLemmas.{change_is, request_within, take_fault_keeps, take_fault_may, take_fault_room, take_fault_turned, take_keeps, take_may, take_mid, take_turned, untaken_now}
+use Rattle.lane_turns.proofs.TakingLemmas.{change_is, take_fault_keeps, take_fault_may, take_fault_room, take_fault_turned, take_keeps, take_may, take_mid, take_turned, untaken_now}
 use Rattle.lane_turns.proofs.turning.take_request.Goals as goal
 
 pub act-act-requires : goal.act-act-requires

@@ -1,8 +1,8 @@
 use Rattle.std.proofs.Common.{◌≡◌, Some, length, refl, sym, ◌∙◌, arith}
 use Rattle.std.specs.Prelude.{map, slice_get}
 use Rattle.std.proofs.lemmas.Option.{slice_get_read}
+use Rattle.lane_logs.specs.OpenerLog.{look_label}
 use Rattle.lane_turns.specs.Benches.{places_of}
-use Rattle.lane_turns.specs.OpenerLog.{look_label}
 use Rattle.lane_turns.proofs.BenchLemmas.{place_at}
 use Rattle.lane_turns.proofs.LookLemmas.{more_looked, none_looked, seen_full}
 use Rattle.lane_turns.proofs.PenLemmas.{gone_clock}

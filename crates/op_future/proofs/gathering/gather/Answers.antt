@@ -1,5 +1,5 @@
+use Rattle.lane_logs.specs.SeatNumbers.{opener_seat}
 use Rattle.lane_turns.specs.AtRest.{rest_lists}
-use Rattle.lane_turns.specs.SeatNumbers.{opener_seat}
 use Rattle.op_future.proofs.GotLemmas.{from_none, from_one}
 use Rattle.op_future.proofs.RestLemmas.{got_behind, got_still, looked_on, rests_on, rests_still}
 use Rattle.op_future.proofs.gathering.gather.Goals as goal

@@ -1,11 +1,12 @@
 use Rattle.std.proofs.Common.{◌≡◌, ◌∙◌, List, ap, arith, length, map, subst, sym}
 use Rattle.session_script.specs.Script.{ScriptModel}
 use Rattle.session_script.specs.WellFormed.{IsWellFormed}
+use Rattle.lane_logs.specs.KeptLogs.{logs_in}
+use Rattle.lane_logs.specs.Names.{SessionNames}
+use Rattle.lane_logs.specs.SeatNumbers.{opener_seat}
 use Rattle.lane_turns.specs.Attempts.{WorkerState}
-use Rattle.lane_turns.specs.Finishing.{KeepLogsOf, logs_in}
+use Rattle.lane_turns.specs.Finishing.{KeepLogsOf}
 use Rattle.lane_turns.specs.KeptSteps.{KeepStepsOf}
-use Rattle.lane_turns.specs.Names.{SessionNames}
-use Rattle.lane_turns.specs.SeatNumbers.{opener_seat}
 use Rattle.lane_turns.specs.Workers.{WorkerView}
 use Rattle.lane_turns.proofs.AllWorkersLemmas.{images_size}
 use Rattle.lane_turns.proofs.ContextEndLemmas.{kept_of}

@@ -2,7 +2,7 @@ use Rattle.std.proofs.Common.{ℕ, Bool, Option, sym, subst}
 use Rattle.asio_types.specs.declared.outside.SetupFault.{SetupFault}
 use Rattle.asio_types.specs.declared.outside.SetupFault.TheVariants as setup_fault
 use Rattle.reactor_trait.specs.Reactor.{Outside, ReactorState}
-use Rattle.book_context.specs.Setup.{IsRefused}
+use Rattle.execution_laws.specs.Setup.{IsRefused}
 use Rattle.proactor_core.specs.Proactor.{tells}
 use Rattle.group_script.specs.declared.member.GroupFault.{GroupFault}
 use Rattle.group_script.specs.Group.{Group, group_of}

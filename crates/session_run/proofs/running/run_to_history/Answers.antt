@@ -11,6 +11,7 @@ returns-in-Err-Failed-default-clause-ran g c =
     let spent = c.discard_rest-in-Err-Failed-default in
     rw c.in-Ok.ensures
     (broken_run g.H.CompletionHandler.marks c.args.script.now _ c.args.rack.now spent.new.self
+    c.scripts_are_well_formed.ensures
     (all_taken_kept c.args.rack.now c.run_script.new.rack spent.new.self back.ensures.kept spent.ensures.taken)
     (back.ensures.refused.refused back.field-0-0-is)
     (subst (λ fault. CountsRefusal fault (g.X.Reactor.faults c.args.reactor) (g.X.Reactor.faults back.reactor))
@@ -23,4 +24,4 @@ returns-in-Ok-run_script-clause-ran g c =
     (g.X.Reactor.faults ran.ran.1) ran.ran.0.events (g.X.Reactor.state ran.ran.1)
     (g.X.Reactor.told c.args.reactor) (g.X.Reactor.told ran.ran.1) c.args.rack.now c.discard_rest.new.self
     (all_taken c.args.rack.now c.run_script.new.rack c.discard_rest.new.self ran.ensures.taken.count c.discard_rest.ensures.taken)
-    c.holds_events.ensures ran.ensures.ended
+    c.holds_events.ensures c.scripts_are_well_formed.ensures ran.ensures.ended

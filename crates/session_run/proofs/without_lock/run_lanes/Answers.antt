@@ -1,5 +1,5 @@
 use Rattle.std.proofs.Common.{◌∙◌, arith}
-use Rattle.lane_turns.specs.Finishing.{logs_in}
+use Rattle.lane_logs.specs.KeptLogs.{logs_in}
 use Rattle.session_run.proofs.LaneWorkerLemmas.{fresh_unfaulted, none_faulted, none_stopped}
 use Rattle.session_run.proofs.MergedLemmas.{finished, holds_named}
 use Rattle.session_run.proofs.without_lock.run_lanes.Goals as goal

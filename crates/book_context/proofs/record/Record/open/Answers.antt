@@ -2,9 +2,9 @@ use Rattle.std.proofs.Common.{◌≡◌, ◌++◌, List, length, ap, subst, ◌�
 use Rattle.session_script.specs.Script.{ScriptModel, opening_of}
 use Rattle.strand_core.specs.Execution.{AnyMark, AreCalls}
 use Rattle.strand_core.specs.declared.posted.Posted.{Posted}
+use Rattle.execution_laws.proofs.ScriptLemmas.{few_in}
 use Rattle.book_context.specs.Recording.{Recording, outside_calls, with_calls}
 use Rattle.book_context.proofs.RecordLemmas.{calls_made, opening_calls, opening_ready, opening_requests, opening_spare}
-use Rattle.book_context.proofs.ScriptLemmas.{few_in}
 use Rattle.std.specs.Prelude.{None}
 use Rattle.book_context.proofs.record.Record.open.Goals as goal
 use Rattle.book_context.proofs.record.Record.open.Goals.{After-as_slice}

@@ -1,8 +1,9 @@
 use Rattle.std.proofs.Common.{length, subst}
 use Rattle.lane_clock.specs.Seats.{Remembers, own}
-use Rattle.lane_turns.specs.AtRest.{IsAtRest, RestView}
-use Rattle.lane_turns.specs.Meeting.{lists_of}
-use Rattle.lane_turns.specs.SeatNumbers.{opener_seat}
+use Rattle.lane_logs.specs.AtRest.{IsAtRest}
+use Rattle.lane_logs.specs.Knowing.{lists_of}
+use Rattle.lane_logs.specs.SeatNumbers.{opener_seat}
+use Rattle.lane_turns.specs.AtRest.{RestView}
 use Rattle.lane_context.proofs.RestLemmas.{rest_on}
 use Rattle.lane_context.proofs.at_rest.AtRest.finish.Goals as goal
 

@@ -3,10 +3,10 @@ use Rattle.std.specs.Prelude.{IfSome, slice_index}
 use Rattle.session_script.specs.Script.{is_op}
 use Rattle.lane_clock.specs.Seats.{own}
 use Rattle.lane_map.specs.LaneNumbers.{cells_of, home_lane, reactor_lane}
+use Rattle.lane_logs.specs.Knowing.{lists_of}
+use Rattle.lane_logs.specs.Receipts.{IsReceiptOf}
+use Rattle.lane_logs.specs.SeatNumbers.{opener_seat}
 use Rattle.lane_turns.specs.AtRest.{HasOnlyLooked, RestView}
-use Rattle.lane_turns.specs.Meeting.{lists_of}
-use Rattle.lane_turns.specs.Receipts.{IsReceiptOf}
-use Rattle.lane_turns.specs.SeatNumbers.{opener_seat}
 use Rattle.lane_turns.proofs.EventCutLemmas.{cuts_go_on}
 use Rattle.lane_turns.proofs.MeetingLemmas.{start_length}
 use Rattle.lane_turns.proofs.ReceiptLemmas.{cell_op, finds_op, finds_receipt}

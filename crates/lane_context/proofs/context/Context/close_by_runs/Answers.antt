@@ -1,10 +1,10 @@
 use Rattle.std.proofs.Common.{◌≡◌, ◌≤◌, true, ap, refl, subst, sym, ◌∙◌, arith}
 use Rattle.std.specs.Prelude.{IfNone, IfSome, vec_capacity}
+use Rattle.lane_logs.specs.SeatNumbers.{lane_count}
+use Rattle.lane_logs.specs.Stand.{Stand, is_round_open}
 use Rattle.lane_turns.specs.LaneValues.{terms, tries}
 use Rattle.lane_turns.specs.OwnRuns.{HasRunInVain}
 use Rattle.lane_context.specs.RoundEnds.{HasEndedRound}
-use Rattle.lane_turns.specs.SeatNumbers.{lane_count}
-use Rattle.lane_turns.specs.Stand.{Stand, is_round_open}
 use Rattle.lane_turns.proofs.AllWorkersLemmas.{counted}
 use Rattle.lane_context.proofs.RoundEndLemmas.{ended_behind, more_in_vain, none_in_vain}
 use Rattle.lane_context.proofs.context.Context.close_by_runs.Goals as goal

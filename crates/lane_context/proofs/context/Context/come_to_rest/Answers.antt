@@ -1,7 +1,7 @@
 use Rattle.std.proofs.Common.{◌≡◌, ap, length, subst, sym, ◌∙◌}
 use Rattle.turn_table.specs.Laid.{AreAtHome}
+use Rattle.lane_logs.specs.SeatNumbers.{lane_count}
 use Rattle.lane_turns.specs.LaneValues.{home_of}
-use Rattle.lane_turns.specs.SeatNumbers.{lane_count}
 use Rattle.lane_turns.proofs.ContextEndLemmas.{lanes_counted, lanes_numbered, seats_numbered}
 use Rattle.lane_context.proofs.GatheringLemmas.{stands_for_all}
 use Rattle.lane_context.proofs.context.Context.come_to_rest.Goals as goal

@@ -1,7 +1,8 @@
 use Rattle.std.proofs.Common.{List, subst}
 use Rattle.lane_clock.proofs.KeepLemmas.{start_trans}
+use Rattle.lane_logs.specs.KeptLogs.{logs_in}
 use Rattle.lane_turns.specs.Attempts.{WorkerState}
-use Rattle.lane_turns.specs.Finishing.{KeepLogsOf, logs_in}
+use Rattle.lane_turns.specs.Finishing.{KeepLogsOf}
 use Rattle.lane_turns.specs.KeptSteps.{KeepStepsOf}
 use Rattle.lane_turns.specs.Workers.{WorkerView}
 use Rattle.lane_turns.proofs.ContextEndLemmas.{kept_of}

@@ -1,6 +1,6 @@
 use Rattle.std.proofs.Common.{◌≡◌, ap, sym, ◌∙◌}
 use Rattle.turn_table.specs.Seated.{Lanes}
-use Rattle.lane_turns.specs.SeatNumbers.{lane_count}
+use Rattle.lane_logs.specs.SeatNumbers.{lane_count}
 use Rattle.lane_context.proofs.context.Context.lane_total.Goals as goal
 
 pub returns-clause-lanes : goal.returns-clause-lanes

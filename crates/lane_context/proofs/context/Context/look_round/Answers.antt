@@ -1,8 +1,8 @@
 use Rattle.std.proofs.Common.{◌≡◌, ap, arith, subst, sym, ◌∙◌}
 use Rattle.turn_table.specs.Seated.{Lanes}
+use Rattle.lane_logs.specs.SeatNumbers.{lane_count}
 use Rattle.lane_turns.specs.LaneValues.{terms, tries}
 use Rattle.lane_turns.specs.Scanning.{HasScanned, HavePassed}
-use Rattle.lane_turns.specs.SeatNumbers.{lane_count}
 use Rattle.lane_turns.proofs.ScanLemmas.{has_passed, on_and_on, round_at_once, round_of_two, scanned_on}
 use Rattle.lane_context.proofs.context.Context.look_round.Goals as goal
 

@@ -1,8 +1,8 @@
 use Rattle.std.proofs.Common.{◌≡◌, ◌<◌, ◌+◌, refl, subst, sym, ◌∙◌, arith}
+use Rattle.lane_logs.specs.SeatNumbers.{lane_count}
 use Rattle.lane_turns.specs.Benches.{IsRow}
 use Rattle.lane_turns.specs.Gathering.{with_turns_below}
 use Rattle.lane_turns.specs.LaneOf.{seat_of}
-use Rattle.lane_turns.specs.SeatNumbers.{lane_count}
 use Rattle.lane_context.proofs.GatheringLemmas.{none_taken, row_next, row_none, taker_fits, taker_has_all, taker_lacks, taker_next}
 use Rattle.lane_context.proofs.context.Context.take_turns.Goals as goal
 

@@ -1,6 +1,6 @@
 use Rattle.std.proofs.Common.{ap, subst, ◌∙◌}
 use Rattle.session_script.specs.Script.{ScriptModel}
-use Rattle.lane_turns.specs.SeatNumbers.{lane_count, worker_count}
+use Rattle.lane_logs.specs.SeatNumbers.{lane_count, worker_count}
 use Rattle.lane_context.specs.SessionRooms.{AreCallRooms}
 use Rattle.lane_context.proofs.session_room.SessionRoom.make.Goals as goal
 

@@ -4,8 +4,8 @@ use Rattle.std.proofs.lemmas.List.{length-replicate}
 use Rattle.std.proofs.lemmas.List.Elements.{All-replicate}
 use Rattle.session_script.specs.Script.{ScriptModel}
 use Rattle.lane_map.specs.LaneNumbers.{lane_list, reactor_lane}
+use Rattle.lane_logs.specs.SeatNumbers.{worker_count}
 use Rattle.lane_turns.specs.EndingRooms.{AreUnset}
-use Rattle.lane_turns.specs.SeatNumbers.{worker_count}
 use Rattle.lane_turns.proofs.ending_room.EndingRoom.make.Goals as goal
 
 -- as many marks as there are acts, none of which is set

@@ -1,10 +1,10 @@
 use Rattle.std.proofs.Common.{◌≡◌, ◌+◌, false, length, subst, sym, ap, ◌∙◌}
 use Rattle.std.proofs.lemmas.List.{length-map}
 use Rattle.session_script.specs.Script.{ScriptModel}
+use Rattle.lane_logs.specs.SeatNumbers.{lane_count}
 use Rattle.lane_turns.specs.Benches.{places_of}
 use Rattle.lane_turns.specs.OpenerEvents.{HasClosed, HasWaited}
 use Rattle.lane_turns.specs.Openers.{OpenerView, round_of, stand_at}
-use Rattle.lane_turns.specs.SeatNumbers.{lane_count}
 use Rattle.lane_turns.proofs.OpenerClosingLemmas.{closed_opener, closing_room, has_closed, has_waited, still_opener}
 use Rattle.lane_turns.proofs.opener.Opener.close.Goals as goal
 

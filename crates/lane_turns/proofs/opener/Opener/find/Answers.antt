@@ -1,5 +1,5 @@
 use Rattle.std.proofs.Common.{List, subst}
-use Rattle.lane_turns.specs.Labels.{Labelled}
+use Rattle.lane_logs.specs.Labels.{Labelled}
 use Rattle.lane_turns.specs.Openers.{stand_at}
 use Rattle.lane_turns.specs.Pens.{HasGone}
 use Rattle.lane_turns.proofs.LookedLemmas.{as_looked, looked_from}

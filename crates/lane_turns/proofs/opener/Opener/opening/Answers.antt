@@ -1,10 +1,10 @@
 use Rattle.std.proofs.Common.{subst, sym}
 use Rattle.std.specs.Prelude.{◌≡◌, []}
 use Rattle.session_script.specs.Script.{opening_of}
+use Rattle.lane_logs.specs.Calls.{called_each}
+use Rattle.lane_logs.specs.Stand.{first_stand}
 use Rattle.lane_turns.specs.Openers.{OpenerView, stand_at}
-use Rattle.lane_turns.specs.Opening.{called_each}
 use Rattle.lane_turns.specs.Pens.{HasDrawnCalls}
-use Rattle.lane_turns.specs.Stand.{first_stand}
 use Rattle.lane_turns.proofs.OpenerEventLemmas.{opened_after}
 use Rattle.lane_turns.proofs.opener.Opener.opening.Goals as goal
 

@@ -1,10 +1,10 @@
 use Rattle.std.proofs.Common.{subst, sym}
 use Rattle.std.specs.Prelude.{◌≡◌, true}
 use Rattle.lane_map.specs.LaneNumbers.{reactor_lane}
-use Rattle.lane_turns.specs.Cuts.{NoneStops}
-use Rattle.lane_turns.specs.Meeting.{lists_of}
+use Rattle.lane_logs.specs.Cuts.{NoneStops}
+use Rattle.lane_logs.specs.Knowing.{lists_of}
+use Rattle.lane_logs.specs.Stand.{wants_restart}
 use Rattle.lane_turns.specs.Openers.{OpenerView, stand_at}
-use Rattle.lane_turns.specs.Stand.{wants_restart}
 use Rattle.lane_turns.proofs.OpenerEventLemmas.{restarted_after}
 use Rattle.lane_turns.proofs.opener.Opener.restart.Goals as goal
 

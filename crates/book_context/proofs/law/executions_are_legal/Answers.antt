@@ -1,5 +1,0 @@
-use Rattle.book_context.proofs.ExecutedLemmas.{is_legal_execution}
-use Rattle.book_context.proofs.law.executions_are_legal.Goals as goal
-
-pub returns : goal.returns
-returns c = is_legal_execution

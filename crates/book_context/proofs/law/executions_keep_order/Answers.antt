@@ -1,9 +1,0 @@
-use Rattle.book_context.proofs.ExecutedLemmas.{is_order_kept}
-use Rattle.book_context.proofs.OpenedLemmas.{is_order_begun}
-use Rattle.book_context.proofs.law.executions_keep_order.Goals as goal
-
-pub returns-clause-executions : goal.returns-clause-executions
-returns-clause-executions c = is_order_kept
-
-pub returns-clause-openings : goal.returns-clause-openings
-returns-clause-openings c = is_order_begun

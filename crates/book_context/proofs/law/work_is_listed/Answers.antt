@@ -1,5 +1,0 @@
-use Rattle.book_context.proofs.WorkLemmas.{is_work_listed}
-use Rattle.book_context.proofs.law.work_is_listed.Goals as goal
-
-pub returns : goal.returns
-returns c = is_work_listed

@@ -1,0 +1,14 @@
+pub mod Accounted
+pub mod Called
+pub mod Executed
+pub mod Finished
+pub mod Kinds
+pub mod Lanes
+pub mod Opened
+pub mod Order
+pub mod Ready
+pub mod Rest
+pub mod Setup
+pub mod Shown
+pub mod Standing
+pub mod Work

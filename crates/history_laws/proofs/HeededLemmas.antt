@@ -1,0 +1,438 @@
+-- A wait that is pending when its timer is cancelled begins as aborted, if at all.
+use Rattle.std.proofs.Common.{◌≡◌, ◌≢◌, ◌⊎◌, ℕ, ◌+◌, ◌<◌, ◌≤◌, ◌==◌, zero, suc, Bool, true, false, cond, not, List, [], ◌∷◌, ◌++◌, Option, Some, None, filter, map, set, length, take, inl, inr, refl, sym, ap, subst, ◌∙◌, arith}
+use Rattle.std.specs.List.{All, count_by, slice_index_or}
+use Rattle.std.specs.Prelude.{slice_get}
+use Rattle.std.proofs.lemmas.Bool.{cases_lt, cases_order, eqb-true, not-true}
+use Rattle.std.proofs.lemmas.List.Elements.{All-append, All-map, All-nil, All-weaker}
+use Rattle.std.proofs.lemmas.List.Sums.{sum_by-cons}
+use Rattle.asio_types.specs.declared.code.Code.{Code}
+use Rattle.asio_types.specs.declared.code.Code.TheVariants as code
+use Rattle.asio_types.specs.declared.event.Event.{Event}
+use Rattle.asio_types.specs.declared.event.Event.TheVariants as event
+use Rattle.session_script.specs.declared.act.Act.{Act}
+use Rattle.session_script.specs.declared.act.Act.TheVariants as act
+use Rattle.session_script.specs.Script.{ScriptModel, act_of, is_op}
+use Rattle.session_script.specs.WellFormed.{IsWellFormed}
+use Rattle.stream_rules.specs.declared.queue.Completion.{Completion}
+use Rattle.stream_rules.specs.Queue.{Pending}
+use Rattle.stream_rules.specs.Serving.{Reading, Writing}
+use Rattle.history_rules.specs.Kinds.{is_act, is_posting}
+use Rattle.history_rules.specs.Legal.{IsLegalSoFar, MayHappen, after_event}
+use Rattle.history_rules.specs.Order.{was_taken}
+use Rattle.history_rules.specs.Performing.{aborted, is_wait_of, performed, performed_act, performed_by, queues_at, with_taken}
+use Rattle.history_rules.specs.Requests.{MayComplete, MayTake}
+use Rattle.history_rules.specs.Settling.{settled}
+use Rattle.history_rules.specs.State.{ReactorHalf, State, act_at, call_at, no_queues, phase_at}
+use Rattle.history_rules.specs.Time.{at_last, at_time}
+use Rattle.history_rules.specs.Untold.{MayGiveUntold}
+use Rattle.history_rules.specs.declared.phase.ActPhase.{ActPhase}
+use Rattle.history_rules.specs.declared.phase.ActPhase.TheVariants as phase
+use Rattle.history_rules.specs.declared.phase.ActState.{ActState}
+use Rattle.history_rules.specs.declared.phase.CallPhase.{CallPhase}
+use Rattle.history_rules.specs.declared.phase.CallPhase.TheVariants as call
+use Rattle.history_rules.specs.declared.phase.Cause.{Cause}
+use Rattle.history_rules.specs.declared.phase.Cause.TheVariants as cause
+use Rattle.history_rules.specs.declared.wait.Wait.{Wait}
+use Rattle.history_rules.proofs.PerformingLemmas.{All-passing}
+use Rattle.history_laws.specs.Cancelled.{cancels_waits, may_cancel}
+use Rattle.history_laws.specs.Clock.{IsWaitOf}
+use Rattle.history_laws.specs.Events.{StandsAt, calls_of, completions_of, is_call_of, is_completion_of, takes_of}
+use Rattle.history_laws.proofs.CountLemmas.{one_if, same-is}
+use Rattle.history_laws.proofs.HeldLemmas.{Holds, IsOn, IsPerformed, IsSettled, settles}
+use Rattle.history_laws.proofs.HistoryLemmas.{moves_after, taken_after}
+use Rattle.history_laws.proofs.KeptLemmas.{IsKept, Streamed, Timed, no_wait, one_timer, told_due, told_held}
+use Rattle.history_laws.proofs.KindLemmas.{inline_posts}
+use Rattle.history_laws.proofs.LaterLemmas.{at, counted_at, happens, later_on, next}
+use Rattle.history_laws.proofs.LawLemmas.{asked, begins_first, completed, count_first, shown_at, stands_before}
+use Rattle.history_laws.proofs.Moves.{Moves, comes_back, completes, destroys, enters, finishes, further, halts, initiates, starts, stays}
+use Rattle.history_laws.proofs.PerformedLemmas.{AreConnected, performs}
+use Rattle.history_laws.proofs.ShownLemmas.{begins_shown, calls_shown}
+use Rattle.history_laws.proofs.Sound.{IsPhaseOf, IsSound}
+use Rattle.history_laws.proofs.TakingLemmas.{untaken}
+use Rattle.history_laws.proofs.TimerLawLemmas.{first_due, kept_at, told_code}
+
+-- an operation that was to complete as aborted may have come to this
+abbrev IsPast : ActPhase → Type 0
+IsPast (phase.Ready given size why) = given ≡ code.Aborted
+IsPast (phase.Running class progress) = Unit {0}
+IsPast phase.Ended = Unit {0}
+IsPast phase.Dropped = Unit {0}
+IsPast _ = ⊥
+
+abbrev AbortsOnly : ℕ → Completion → Type 0
+AbortsOnly n done = done.op ≡ n → done.outcome.0 ≡ code.Aborted
+
+abbrev IsOther : ℕ → ℕ → Type 0
+IsOther n op = op ≢ n
+
+abbrev OtherTimed : ScriptModel → ℕ → ℕ → ℕ → Type 0
+OtherTimed script n timer op = IsWaitOf script timer op × IsOther n op
+
+abbrev OtherStreamed : ScriptModel → ℕ → ℕ → ℕ → Type 0
+OtherStreamed script n stream op = IsOn script stream op × IsOther n op
+
+-- nothing of it is pending but a completion that aborts it
+record IsAborting (script : ScriptModel) (n : ℕ) (r : ReactorHalf) : Type 0 where
+  held : Holds (OtherTimed script n) (OtherStreamed script n) r
+  due : All (AbortsOnly n) r.due
+
+record IsWaiting (script : ScriptModel) (n : ℕ) (s : State) : Type 0 where
+  asks : phase_at s.context n ≡ phase.Requested
+  taken : was_taken s.reactor n ≡ true
+  half : IsAborting script n s.reactor
+
+abbrev IsDoomed : ScriptModel → ℕ → State → Type 0
+IsDoomed script n s = IsWaiting script n s ⊎ IsPast (phase_at s.context n)
+
+module _ (script : ScriptModel) (n : ℕ) where
+  past_moved : (e : Event) (old new : ActState) → Moves script n e old new → IsPast old.phase → IsPast new.phase
+  past_moved e old new (stays isnt) past = past
+  past_moved e old new (further isnt calling more) past = tt
+  past_moved e old new initiates past = absurd past
+  past_moved e old new (comes_back at opened never) past = past
+  past_moved e old new halts past = past
+  past_moved e old new starts past = tt
+  past_moved e old new enters past = absurd past
+  past_moved e old new (finishes all) past = tt
+  past_moved e old new completes past = absurd past
+  past_moved e old new (destroys is isnt never) past = tt
+
+  -- it completes just now
+  record CompletesBy (e : Event) (p : ActPhase) : Type 0 where
+    given : Code
+    size : ℕ
+    why : Cause
+    shown : e ≡ event.Done n given size
+    is : p ≡ phase.Ready given size why
+
+  asked_moved : (e : Event) (old new : ActState) → Moves script n e old new → old.phase ≡ phase.Requested →
+      (new.phase ≡ phase.Requested) ⊎ (IsPast new.phase ⊎ CompletesBy e new.phase)
+  asked_moved e old new (stays isnt) asks = inl asks
+  asked_moved e old new (further isnt calling more) asks = absurd (cc)
+  asked_moved e old new initiates asks = absurd (cc)
+  asked_moved e old new (comes_back at opened never) asks = inl asks
+  asked_moved e old new halts asks = inl asks
+  asked_moved e old new starts asks = absurd (cc)
+  asked_moved e old new enters asks = absurd (cc)
+  asked_moved e old new (finishes all) asks = absurd (cc)
+  asked_moved e old new (completes {code = given} {size = size} {done = done} {turn = turn}) asks =
+      inr (inr (record { given = given; size = size; why = cause.Completed done turn; shown = refl; is = refl }))
+  asked_moved e old new (destroys is isnt never) asks = inr (inl tt)
+
+module _ (script : ScriptModel) (told : Bool) (timer n : ℕ) (wait : IsWaitOf script timer n) where
+  other_stream : (stream op : ℕ) → IsOn script stream op → IsOther n op
+  other_stream stream op on same = no_wait script stream timer n (subst (IsOn script stream) same on) wait
+
+  -- a turn that settles
+  settles_aborting : (r : ReactorHalf) → IsAborting script n r → IsAborting script n (settled told r)
+  settles_aborting r half =
+      let all = settles (OtherTimed script n) (OtherStreamed script n) (AbortsOnly n)
+      (λ stream op outcome of never same. absurd (of.1 same)) told r
+      (λ wait of due same. absurd (of.1 same)) (record { held = half.held; due = half.due }) in
+      record { held = all.held; due = all.due }
+
+  marked : (a : ℕ) (r : ReactorHalf) → IsAborting script n r → IsAborting script n (with_taken a r)
+  marked a r half = record { held = record { waits = half.held.waits; queues = half.held.queues }; due = half.due }
+
+  -- another act is taken
+  takes_aborting : (a : ℕ) (r : ReactorHalf) → a ≢ n → AreConnected script r → IsAborting script n r → (given : Option Act) →
+      act_of script a ≡ given → IsAborting script n (settled told (with_taken a (performed_by script a given r)))
+  takes_aborting a r other slots half None is =
+      settles_aborting (with_taken a r) (marked a r half)
+  takes_aborting a r other slots half (Some given) is =
+      let by : ReactorHalf = performed_act script a given r in
+      let all = performs script (IsOther n) (AbortsOnly n) a given is other (λ same. absurd (other same))
+      (λ op moved target of may held same. refl) r slots (record { held = half.held; due = half.due }) in
+      settles_aborting (with_taken a by) (marked a by (record { held = all.held; due = all.due }))
+
+  -- its timer is cancelled
+  waits_gone : (other : ℕ) (r u : ReactorHalf) → (other == timer) ≡ true → (before : List Event) → IsKept script before r →
+      r.due ≡ [] → u.waits ≡ r.waits → u.queues ≡ r.queues → u.due ≡ r.due →
+      IsAborting script n (record u {
+        due = u.due ++ map (λ (wait : Wait). aborted wait.op 0) (filter (is_wait_of other) u.waits);
+        waits = filter (λ wait. not (is_wait_of other wait)) u.waits;
+      })
+  waits_gone other r u same before kept none waits queues due =
+      let timers : other ≡ timer = eqb-true other timer same in
+      record {
+        held = record {
+          waits =
+              All-passing (λ wait. not (is_wait_of other wait)) (λ wait. Timed script before wait.timer wait.op)
+              (λ wait. OtherTimed script n wait.timer wait.op) u.waits
+              (λ found of passes. (
+                of.0,
+                λ is.
+                    let one = one_timer script found.timer timer n (subst (IsWaitOf script found.timer) is of.0) wait in
+                    let here : (found.timer == other) ≡ true =
+                    ap (λ t. t == other) (one ∙ sym timers) ∙ same-is other in
+                    absurd (let wrong : true ≡ false = sym here ∙ not-true (found.timer == other) passes in cc),
+              ))
+              (subst (λ (waits : List Wait). All (λ wait. Timed script before wait.timer wait.op) waits) (sym waits)
+              kept.held.waits);
+          queues = λ stream. (
+            All-weaker (λ (pending : Pending Reading). Streamed script before stream pending.op)
+                (λ pending. OtherStreamed script n stream pending.op)
+                (λ pending of. (of.0, other_stream stream pending.op of.0)) (queues_at u stream).reads
+                (subst (λ queues. All (λ (pending : Pending Reading). Streamed script before stream pending.op)
+                (slice_index_or queues stream no_queues).reads)
+                (sym queues) (kept.held.queues stream).0),
+            All-weaker (λ (pending : Pending Writing). Streamed script before stream pending.op)
+                (λ pending. OtherStreamed script n stream pending.op)
+                (λ pending of. (of.0, other_stream stream pending.op of.0)) (queues_at u stream).writes
+                (subst (λ queues. All (λ (pending : Pending Writing). Streamed script before stream pending.op)
+                (slice_index_or queues stream no_queues).writes)
+                (sym queues) (kept.held.queues stream).1),
+          );
+        };
+        due =
+            All-append (AbortsOnly n) u.due (map (λ (wait : Wait). aborted wait.op 0) (filter (is_wait_of other) u.waits))
+            (subst (λ (due : List Completion). All (AbortsOnly n) due) (sym (due ∙ none)) (All-nil (AbortsOnly n)))
+            (All-map (AbortsOnly n) (λ (wait : Wait). aborted wait.op 0) (filter (is_wait_of other) u.waits)
+            (λ k d within same. refl));
+      }
+
+  cancels_aborting : (a : ℕ) (by : Act) (r : ReactorHalf) → cancels_waits timer by ≡ true → (before : List Event) →
+      IsKept script before r → r.due ≡ [] → IsAborting script n (performed_act script a by r)
+  cancels_aborting a (act.Expires other after) r cancels before kept none =
+      waits_gone other r (record r { expiries = set r.expiries other (r.now + after) }) cancels before kept none refl refl refl
+  cancels_aborting a (act.ExpiresAt other at) r cancels before kept none =
+      waits_gone other r (record r { expiries = set r.expiries other at }) cancels before kept none refl refl refl
+  cancels_aborting a (act.Cancel other) r cancels before kept none = waits_gone other r r cancels before kept none refl refl refl
+  cancels_aborting a _ r cancels before kept none = absurd (cc)
+
+  cancel_taken : (a : ℕ) (by : Act) (r : ReactorHalf) (given : Option Act) → given ≡ Some by → cancels_waits timer by ≡ true →
+      (before : List Event) → IsKept script before r → r.due ≡ [] →
+      IsAborting script n (settled told (with_taken a (performed_by script a given r)))
+  cancel_taken a by r None is cancels before kept none = absurd (cc)
+  cancel_taken a by r (Some given) is cancels before kept none =
+      let same : given ≡ by = cc in
+      let it : ReactorHalf = performed_act script a given r in
+      settles_aborting (with_taken a it)
+      (marked a it
+      (cancels_aborting a given r (subst (λ (by : Act). cancels_waits timer by ≡ true) (sym same) cancels) before kept none))
+
+  wait_kind : (is_op script n ≡ true) × (is_act is_posting script n ≡ false)
+  wait_kind = (rw wait.act refl, rw wait.act refl)
+
+completion_counted : (n : ℕ) (events : List Event) (place k : ℕ) (given : Code) (size : ℕ) → k < place →
+    slice_get events k ≡ Some (event.Done n given size) → 1 ≤ completions_of n (take place events)
+completion_counted n [] place k given size less stands = absurd (cc)
+completion_counted n (first ∷ events) zero k given size less stands = absurd (omega (arith, less))
+completion_counted n (first ∷ events) (suc place) zero given size less stands =
+    let same : first ≡ event.Done n given size = cc in
+    let one = sum_by-cons (λ e. cond (is_completion_of n e) 1 0) first (take place events) in
+    let here : one_if (is_completion_of n first) ≡ 1 = ap (λ e. one_if (is_completion_of n e)) same ∙ ap one_if (same-is n) in
+    omega (arith, one, here)
+completion_counted n (first ∷ events) (suc place) (suc k) given size less stands =
+    let one = sum_by-cons (λ e. cond (is_completion_of n e) 1 0) first (take place events) in
+    let rest = completion_counted n events place k given size (omega (arith, less)) stands in omega (arith, one, rest)
+
+call_counted : (n : ℕ) (events : List Event) (place k : ℕ) → k < place → slice_get events k ≡ Some (event.Call n) →
+    1 ≤ calls_of n (take place events)
+call_counted n [] place k less stands = absurd (cc)
+call_counted n (first ∷ events) zero k less stands = absurd (omega (arith, less))
+call_counted n (first ∷ events) (suc place) zero less stands =
+    let same : first ≡ event.Call n = cc in
+    let one = sum_by-cons (λ e. cond (is_call_of n e) 1 0) first (take place events) in
+    let here : one_if (is_call_of n first) ≡ 1 = ap (λ e. one_if (is_call_of n e)) same ∙ ap one_if (same-is n) in
+    omega (arith, one, here)
+call_counted n (first ∷ events) (suc place) (suc k) less stands =
+    let one = sum_by-cons (λ e. cond (is_call_of n e) 1 0) first (take place events) in
+    let rest = call_counted n events place k (omega (arith, less)) stands in omega (arith, one, rest)
+
+module _ (script : ScriptModel) (well : IsWellFormed script) (told : Bool) (events : List Event)
+    (legal : IsLegalSoFar script told events) (timer n : ℕ) (wait : IsWaitOf script timer n) where
+  abbrev s : ℕ → State
+  s place = at script well told events legal place
+
+  sound : (place : ℕ) → IsSound script (s place)
+  sound place = (counted_at script well told events legal place).shown.sound
+
+  kept : (place : ℕ) → IsKept script (take place events) (s place).reactor
+  kept place = kept_at script well told events legal place
+
+  half_after : (place : ℕ) (e : Event) → MayHappen script told (s place) e → was_taken (s place).reactor n ≡ true →
+      IsAborting script n (s place).reactor → IsAborting script n (after_event script told (s place) e).reactor
+  half_after place (event.Take a) may taken half =
+      takes_aborting script told timer n wait a (s place).reactor
+      (λ same.
+      let was = untaken script well told (s place) (sound place) a may in
+      absurd (let wrong : false ≡ true = sym was ∙ (ap (was_taken (s place).reactor) same ∙ taken) in cc))
+      (kept place).slots half (act_of script a) refl
+  half_after place (event.Done o given size) may taken half = record {
+    held =
+        told_held script told (take place events) (s place).reactor (kept place) (OtherTimed script n) (OtherStreamed script n) o
+        half.held;
+    due = told_due script told (take place events) (s place).reactor (kept place) (AbortsOnly n) o half.due;
+  }
+  half_after place (event.Tick now) may taken half =
+      settles_aborting script told timer n wait (at_time script told now (s place).reactor)
+      (record { held = record { waits = half.held.waits; queues = half.held.queues }; due = half.due })
+  half_after place event.Last may taken half =
+      settles_aborting script told timer n wait (at_last told (s place).reactor)
+      (record { held = record { waits = half.held.waits; queues = half.held.queues }; due = half.due })
+  half_after place event.Fault may taken half =
+      record { held = record { waits = half.held.waits; queues = half.held.queues }; due = All-nil (AbortsOnly n) }
+  half_after place (event.Stop (Some a)) may taken half = half
+  half_after place (event.Stop None) may taken half = half
+  half_after place _ may taken half = half
+
+  stays_taken : (place : ℕ) (e : Event) → MayHappen script told (s place) e → was_taken (s place).reactor n ≡ true →
+      was_taken (after_event script told (s place) e).reactor n ≡ true
+  stays_taken place e may taken =
+      let rose = taken_after script well told (s place) (sound place) e may n in
+      let one = ap one_if taken in
+      one_true (was_taken (after_event script told (s place) e).reactor n) (omega (arith, rose, one))
+    where
+      one_true : (b : Bool) → 1 ≤ one_if b → b ≡ true
+      one_true true is = refl
+      one_true false is = absurd (omega (arith, is))
+
+  -- it completes as aborted
+  aborts : (place : ℕ) (given : Code) (size : ℕ) → MayComplete script told (s place) n given size →
+      IsAborting script n (s place).reactor → given ≡ code.Aborted
+  aborts place given size may half = elim may.next [
+    | inl next ↦
+        let only = first_due (AbortsOnly n) (s place).reactor.due next.head next.due half.due in
+        sym (told_code told (act_of script n) next.head.outcome given size next.outcome) ∙ only next.is_op
+    | inr untold ↦
+        absurd (subst (λ (found : Option Act). MayGiveUntold (s place).reactor n found given size) wait.act untold.given)
+  ]
+
+  doomed_step : (place : ℕ) (e : Event) → MayHappen script told (s place) e → IsDoomed script n (s place) →
+      IsDoomed script n (after_event script told (s place) e)
+  doomed_step place e may doomed = elim doomed [
+    | inr past ↦ inr (past_moved script n e (act_at (s place).context n)
+        (act_at (after_event script told (s place) e).context n) (moves place e may) past)
+    | inl waits ↦
+        elim (asked_moved script n e (act_at (s place).context n) (act_at (after_event script told (s place) e).context n)
+        (moves place e may) waits.asks) [
+          | inl asks ↦ inl (record {
+            asks = asks;
+            taken = stays_taken place e may waits.taken;
+            half = half_after place e may waits.taken waits.half;
+          })
+          | inr rest ↦ elim rest [
+            | inl past ↦ inr past
+            | inr by ↦
+                let it : MayComplete script told (s place) n by.given by.size =
+                subst (MayHappen script told (s place)) by.shown may in
+                let is = aborts place by.given by.size it waits.half in
+                inr (subst IsPast (sym by.is) is)
+          ]
+        ]
+  ]
+    where
+      moves : (place : ℕ) (e : Event) → MayHappen script told (s place) e →
+          Moves script n e (act_at (s place).context n) (act_at (after_event script told (s place) e).context n)
+      moves place e may = moves_after script well told (s place) (sound place) e may n
+
+  -- a wait that was taken and neither completed nor was destroyed
+  asked_by : (place : ℕ) (made : CallPhase) (p : ActPhase) → IsPhaseOf script n made p → begins_shown p ≡ 0 → p ≢ phase.Dropped →
+      ((given : Code) (size done turn : ℕ) → p ≡ phase.Ready given size (cause.Completed done turn) → ⊥) →
+      p ≡ phase.Requested
+  asked_by place made phase.Requested of unbegun stands never = refl
+  asked_by place made phase.Absent of unbegun stands never =
+      absurd (let op = (wait_kind script told timer n wait).0 in let wrong : true ≡ false = sym op ∙ of in cc)
+  asked_by place made phase.Asked of unbegun stands never =
+      absurd (let op = (wait_kind script told timer n wait).0 in let wrong : true ≡ false = sym op ∙ of in cc)
+  asked_by place made phase.Inside of unbegun stands never =
+      absurd (let posts = inline_posts script n of.0 in
+      let wrong : true ≡ false = sym posts ∙ (wait_kind script told timer n wait).1 in cc)
+  asked_by place made (phase.Ready given size cause.Posted) of unbegun stands never =
+      absurd (let wrong : true ≡ false = sym of.0 ∙ (wait_kind script told timer n wait).1 in cc)
+  asked_by place made (phase.Ready given size (cause.Completed done turn)) of unbegun stands never =
+      absurd (never given size done turn refl)
+  asked_by place made (phase.Running class progress) of unbegun stands never = absurd (omega (arith, unbegun))
+  asked_by place made phase.Ended of unbegun stands never = absurd (omega (arith, unbegun))
+  asked_by place made phase.Dropped of unbegun stands never = absurd (stands refl)
+
+  module _ (canceller place later : ℕ) (by : Act) (given : Code) (size : ℕ) (is_by : act_of script canceller ≡ Some by)
+      (cancels : cancels_waits timer by ≡ true) (takes : StandsAt events place (event.Take canceller))
+      (once : takes_of n (take place events) ≡ 1) (never : completions_of n (take place events) ≡ 0)
+      (begins : StandsAt events later (event.Begin n given size)) where
+    may : MayTake script (s place) canceller
+    may = happens script well told events legal place (event.Take canceller) takes
+
+    was_taken_here : was_taken (s place).reactor n ≡ true
+    was_taken_here = one_true (was_taken (s place).reactor n)
+        (omega (arith, once, (shown_at script well told events legal place).takes n))
+      where
+        one_true : (b : Bool) → 1 ≤ one_if b → b ≡ true
+        one_true true is = refl
+        one_true false is = absurd (omega (arith, is))
+
+    behind_it : place < later
+    behind_it = elim (cases_order place later) [
+      | inl same ↦
+          let both : Some (event.Take canceller) ≡ Some (event.Begin n given size) =
+          sym takes ∙ (ap (slice_get events) same ∙ begins) in
+          absurd (cc)
+      | inr apart ↦ elim apart [
+        | inl less ↦ less
+        | inr more ↦
+            let kind = wait_kind script told timer n wait in
+            let done = completed script well told events legal n later given size
+            (record { operation = kind.0; unposted = kind.1 }) begins in
+            let counted = completion_counted n events place done.earlier given size (omega (arith, done.before, more))
+            done.stands in
+            absurd (omega (arith, counted, never))
+      ]
+    ]
+
+    asks : phase_at (s place).context n ≡ phase.Requested
+    asks =
+        let shown = shown_at script well told events legal place in
+        let few = count_first n events place later (omega (arith, behind_it)) in
+        let none = begins_first script well told events legal n later given size begins in
+        let kind = (sound place).kinds n in
+        asked_by place (call_at (s place).context n) (phase_at (s place).context n)
+        (kind.made (λ uncalled. never_taken (kind.uncalled uncalled) uncalled))
+        (omega (arith, few, none, shown.begins n))
+        (λ dropped.
+        let over = (sound place).dropped n dropped in
+        absurd (let wrong : true ≡ false = sym over.1 ∙ may.turn.round.alive in cc))
+        (λ code most done turn ready.
+        let stands = shown.completed n code most done turn ready in
+        let within = stands_before events place stands.0 (event.Done n code most) stands.1 in
+        let counted = completion_counted n events place stands.0 code most within.0 within.1 in
+        absurd (omega (arith, counted, never)))
+      where
+        -- what was taken was called
+        never_taken : phase_at (s place).context n ≡ phase.Absent → call_at (s place).context n ≡ call.Uncalled → ⊥
+        never_taken absent uncalled =
+            let shown = shown_at script well told events legal place in
+            let takes_it = shown.taken n was_taken_here in
+            let within = stands_before events place takes_it.0 (event.Take n) takes_it.1 in
+            let called = asked script well told events legal n takes_it.0 within.1 in
+            let counted = call_counted n events place called.earlier (omega (arith, called.before, within.0)) called.stands in
+            let none = ap calls_shown uncalled in
+            absurd (omega (arith, counted, none, shown.calls n))
+
+    doomed_here : IsDoomed script n (s (suc place))
+    doomed_here =
+        subst (IsDoomed script n) (sym (next script well told events legal place (event.Take canceller) takes))
+        (inl (record {
+          asks = asks;
+          taken = stays_taken place (event.Take canceller) may was_taken_here;
+          half =
+              cancel_taken script told timer n wait canceller by (s place).reactor (act_of script canceller) is_by cancels
+              (take place events) (kept place) may.turn.told;
+        }))
+
+    pub heeds : given ≡ code.Aborted
+    heeds =
+        let doomed = later_on script well told events legal (IsDoomed script n) doomed_step (suc place) later
+        (omega (arith, behind_it)) doomed_here in
+        elim (happens script well told events legal later (event.Begin n given size) begins) [
+          | inl outside ↦ elim doomed [
+            | inl waits ↦
+                absurd (let wrong : phase.Requested ≡ phase.Ready given size outside.ready.0 = sym waits.asks ∙
+                outside.ready.1 in cc)
+            | inr past ↦ subst IsPast outside.ready.1 past
+          ]
+          | inr inside ↦ elim doomed [
+            | inl waits ↦ absurd (let wrong : phase.Requested ≡ phase.Inside = sym waits.asks ∙ inside.inside in cc)
+            | inr past ↦ absurd (subst IsPast inside.inside past)
+          ]
+        ]

@@ -1,0 +1,11 @@
+pub mod AfterCompletion
+pub mod AfterStop
+pub mod Alone
+pub mod Cancelled
+pub mod Clock
+pub mod Events
+pub mod InOrder
+pub mod Length
+pub mod Once
+pub mod Promise
+pub mod Timers

@@ -1,0 +1,4 @@
+pub mod LabelLemmas
+pub mod OpeningLemmas
+pub mod RequestLemmas
+pub mod StandLemmas
