@@ -1,7 +1,8 @@
 #!/usr/bin/env bash
 # Runs every example over sockets ('run --net') with 1, 2 and 4 workers in each round, and has its trace judged with bytes untold.
-# Then it lets system calls fail: each call on sockets, at its n-th use, for n until none is hit. Such a session ends with 0, or
-# with 5 and a legal trace that shows the fault. Ends with 'net: N passed, M failed'.
+# Then it lets system calls fail: each call on sockets, at its n-th use, for n until none is hit. Such a session ends with 5 and a
+# legal trace that shows the fault. Last, what the system sees: a closed stream's socket is closed, and a connection that another
+# process makes isn't taken for one of the session's. Ends with 'net: N passed, M failed'.
 set -u
 cd "$(dirname "$0")/.." || exit 1
 . examples/common.sh net asio_run asio_check
@@ -78,8 +79,8 @@ else
   for call in socket bind listen connect accept4 epoll_create1 epoll_ctl sendto recvfrom shutdown setsockopt getsockname; do
     hit=1
     for ((use = 1; hit > 0 && use < 60; use++)); do
-      injected "$call" ENOBUFS "$use"
-      count $? "$call failing at use $use"
+      injected "$call" ENOBUFS "$use" && { [ "$hit" = 0 ] || [ "$status" = 5 ]; }
+      count $? "$call failing at use $use: status $status"
     done
   done
   # What only asks to try again changes nothing.
@@ -100,5 +101,31 @@ else
     injected recvfrom EAGAIN "$use" && [ "$status" = 0 ] && grep -qx 'done 0 ok 3' "$room/trace" && ! grep -qx last "$room/trace"
     count $? "a read that waits for bytes under way at uses $use"
   done
+
+  # A closed stream gives its socket back at once: the near end of stream 0 is closed before stream 1 is read for the last time.
+  printf '%s\n' 'session 1 strands 1 timers 1 streams 2 at 5 feed 1 x616263' \
+    'open { close 0 expires 0 2 wait 0 0 - { readsome 1 4 0 - { } } } run 1' > "$room/script"
+  timeout 60 strace -f -o "$room/calls" -e trace=connect,close,recvfrom "$room/asio_run" run --net < "$room/script" > "$room/trace"
+  [ $? = 0 ] && is_legal && awk '
+    /connect\(/ { gsub(/.*connect\(|,.*/, ""); near[n++] = $0; next }
+    /close\(/ { gsub(/.*close\(|\).*/, ""); if ($0 == near[0] && n == 2) closed = NR }
+    /recvfrom\(/ { fd = $0; gsub(/.*recvfrom\(|,.*/, "", fd); if (fd == near[1]) last = NR }
+    END { exit !(n == 2 && closed && closed < last) }
+  ' "$room/calls"
+  count $? "a closed stream gives its socket back"
+
+  # The listener's port is there for all. Another process connects before the session does, and is turned away.
+  printf '%s\n' 'session 1 streams 1 at 1 feed 0 x616263 open { readsome 0 4 - - { } } run 1' > "$room/script"
+  timeout 60 strace -f -o "$room/calls" -e trace=getsockname,connect -e inject=connect:delay_enter=2000000:when=1 \
+    "$room/asio_run" run --net < "$room/script" > "$room/trace" 2> "$room/notes" &
+  session=$!
+  for ((waited = 0; waited < 100; waited++)); do
+    port=$(sed -nE 's/.*getsockname\(.*sin_port=htons\(([1-9][0-9]*)\).*/\1/p' "$room/calls" 2> /dev/null | head -n 1)
+    [ -n "$port" ] && break
+    sleep 0.02
+  done
+  said=$(timeout 20 bash -c 'exec 3<> "/dev/tcp/127.0.0.1/$0" && cat <&3 && echo turned away' "${port:-0}" 2> "$room/none")
+  wait "$session" && is_legal && grep -qx 'done 0 ok 3' "$room/trace" && [ "$said" = "turned away" ]
+  count $? "a connection of another process: '$said'"
 fi
 say_counts
