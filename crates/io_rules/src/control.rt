@@ -2,7 +2,7 @@ use crate::name::{Kind, Name};
 use asio_types::Types;
 
 /// A call that changes the context at once, and has no handler.
-#[derive(Clone, Copy, Debug, PartialEq, Eq)]
+#[derive(Clone, Copy)]
 pub enum Control {
     /// Makes a strand, a timer, a slot, a stream or a listener.
     Make { kind: Kind, name: Name },

@@ -7,7 +7,7 @@ use crate::spares::Spares;
 use asio_types::Code;
 
 /// What happens on an io_context. Operations go by their numbers, from 0 in the order of their calls.
-#[derive(Clone, Copy, Debug, PartialEq, Eq)]
+#[derive(Clone, Copy)]
 pub enum Event {
     /// An operation is initiated: by the handler of this operation, or from outside of all handlers.
     Called {

@@ -1,7 +1,7 @@
 use asio_types::Code;
 
 /// What a system call on a socket gave.
-#[derive(Clone, Copy, Debug, PartialEq, Eq)]
+#[derive(Clone, Copy)]
 pub enum Gave {
     /// It would block.
     WouldBlock,

@@ -5,7 +5,7 @@ use crate::spares::Spares;
 use asio_types::Code;
 
 /// How far an operation has come.
-#[derive(Clone, Copy, Debug, PartialEq, Eq)]
+#[derive(Clone, Copy)]
 pub enum Phase {
     /// It waits for the outside: the bytes that it moved so far, and whether it was cancelled during
     /// a system call.
@@ -33,7 +33,7 @@ pub enum Phase {
 }
 
 /// An operation that was accepted, and whose handler was neither executed to its end nor discarded.
-#[derive(Clone, Copy, Debug, PartialEq, Eq)]
+#[derive(Clone, Copy)]
 pub struct Op {
     /// Its number.
     pub number: u64,
@@ -50,7 +50,7 @@ pub struct Op {
 }
 
 /// A wait that is pending.
-#[derive(Clone, Copy, Debug, PartialEq, Eq)]
+#[derive(Clone, Copy)]
 pub struct Wait {
     /// The number of its operation.
     pub op: u64,

@@ -2,7 +2,7 @@ use crate::name::Name;
 use asio_types::Types;
 
 /// What an operation does.
-#[derive(Clone, Copy, Debug, PartialEq, Eq)]
+#[derive(Clone, Copy)]
 pub enum Operation {
     /// `post`.
     Post,
@@ -29,7 +29,7 @@ pub enum Operation {
 }
 
 /// A part of a stream whose operations are served one after another.
-#[derive(Clone, Copy, Debug, PartialEq, Eq)]
+#[derive(Clone, Copy)]
 pub enum Side {
     /// Reads, and a listener's accepts.
     Read,
@@ -40,7 +40,7 @@ pub enum Side {
 }
 
 /// What `bind_cancellation_slot` binds to an operation.
-#[derive(Clone, Copy, Debug, PartialEq, Eq)]
+#[derive(Clone, Copy)]
 pub struct Binding {
     /// The slot.
     pub slot: Name,

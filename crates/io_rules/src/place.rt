@@ -1,5 +1,5 @@
 /// What is at a place.
-#[derive(Clone, Copy, Debug, PartialEq, Eq)]
+#[derive(Clone, Copy)]
 pub enum Life {
     /// Nothing: its next name is free.
     Free,
@@ -15,7 +15,7 @@ pub enum Life {
 }
 
 /// A place for strands, timers, slots or streams, one after another.
-#[derive(Clone, Copy, Debug, PartialEq, Eq)]
+#[derive(Clone, Copy)]
 pub struct Place {
     /// How many names of it are gone.
     pub generation: u32,

@@ -2,7 +2,7 @@ use crate::name::Lane;
 use crate::operation::{Binding, Operation};
 
 /// What a handler returns when it is called, and when it is discarded: two numbers of the program's.
-#[derive(Clone, Copy, Debug, PartialEq, Eq)]
+#[derive(Clone, Copy)]
 pub struct Marks {
     /// When it is called.
     pub run: u64,
@@ -11,7 +11,7 @@ pub struct Marks {
 }
 
 /// A call of an initiating function.
-#[derive(Clone, Copy, Debug, PartialEq, Eq)]
+#[derive(Clone, Copy)]
 pub struct Request {
     /// Where its handler is to execute.
     pub lane: Lane,
@@ -24,7 +24,7 @@ pub struct Request {
 }
 
 /// Whether a name of a request is gone.
-#[derive(Clone, Copy, Debug, PartialEq, Eq)]
+#[derive(Clone, Copy)]
 pub enum Gone {
     /// None is.
     Nothing,

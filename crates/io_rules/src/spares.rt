@@ -1,7 +1,7 @@
 use crate::name::Name;
 
 /// The names that the handler of an operation may make something under, one of each kind.
-#[derive(Clone, Copy, Debug, PartialEq, Eq)]
+#[derive(Clone, Copy)]
 pub struct Spares {
     /// For a strand.
     pub strand: Option<Name>,
