@@ -11,7 +11,7 @@ use std::marker::Model;
 /// The slots of a session (Asio reference, `cancellation_slot`; Overview, "Per-Operation
 /// Cancellation"), numbered from 0. Contracts see the list that has for each slot what is connected
 /// to it, if anything is. Every call but `with_room` takes constant time and no memory.
-#[derive(Debug, Drop)]
+#[derive(Drop)]
 pub struct CancelSlots {
     // at the number of each slot what is connected to it, if anything is
     slots: Vec<Option<Connection>>,

@@ -12,7 +12,7 @@ use session_script::Act;
 
 /// An operation on a stream under way, with what its act asks for and the bytes that it moved so
 /// far. It is asked what it wants, and told what it got. No call takes memory.
-#[derive(Clone, Copy, Debug)]
+#[derive(Clone, Copy)]
 pub enum Machine<'a> {
     /// `async_read_some`: at most `size` bytes.
     ReadSome {

@@ -16,7 +16,7 @@ const FRESH: ActState = ActState {
 pub(crate) const NO_PROGRESS: Progress = Progress { made: 0, back: 0 };
 
 /// What has become of each act and of the context.
-#[derive(Debug, Drop)]
+#[derive(Drop)]
 pub(crate) struct ContextReplay {
     pub(crate) acts: Vec<ActState>,
     pub(crate) opening: Progress,

@@ -14,7 +14,7 @@ use std::marker::Model;
 use stream_rules::Completion;
 
 /// The reactor's half of a state as it is replayed.
-#[derive(Debug, Drop)]
+#[derive(Drop)]
 pub(crate) struct ReactorWorks<'a> {
     pub(crate) script: &'a Script,
     pub(crate) taken: Vec<bool>,

@@ -11,7 +11,7 @@ use std::alloc::Global;
 use std::marker::Model;
 
 /// The reactor's half of a replay, between its turns.
-#[derive(Debug, Drop)]
+#[derive(Drop)]
 pub(crate) struct ReactorReplay<'a> {
     works: ReactorWorks<'a>,
 }

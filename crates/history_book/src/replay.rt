@@ -13,7 +13,7 @@ use std::marker::Model;
 
 /// A history of a script as it is replayed, event by event. A step takes no memory, looks at each
 /// act and stream at most a few times, and never at the events before it.
-#[derive(Debug, Drop)]
+#[derive(Drop)]
 pub struct Replay<'a> {
     pub(crate) context: ContextReplay,
     pub(crate) reactor: ReactorReplay<'a>,

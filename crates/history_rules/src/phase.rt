@@ -2,7 +2,7 @@ use asio_types::{Class, Code};
 
 /// How far the initiating call of an act has come. Places of events are counted without stops from
 /// outside.
-#[derive(Clone, Copy, Debug, PartialEq, Eq)]
+#[derive(Clone, Copy, PartialEq, Eq)]
 pub enum CallPhase {
     /// It wasn't made.
     Uncalled,
@@ -15,7 +15,7 @@ pub enum CallPhase {
 }
 
 /// What made an operation ready.
-#[derive(Clone, Copy, Debug, PartialEq, Eq)]
+#[derive(Clone, Copy, PartialEq, Eq)]
 pub enum Cause {
     /// It was posted.
     Posted,
@@ -42,7 +42,7 @@ pub enum Step {
 }
 
 /// What has become of an act beyond its call.
-#[derive(Clone, Copy, Debug, PartialEq, Eq)]
+#[derive(Clone, Copy, PartialEq, Eq)]
 pub enum ActPhase {
     /// Nothing: it wasn't called, or it is a stop.
     Absent,
@@ -63,7 +63,7 @@ pub enum ActPhase {
 }
 
 /// What has become of one act.
-#[derive(Clone, Copy, Debug, PartialEq, Eq)]
+#[derive(Clone, Copy, PartialEq, Eq)]
 pub struct ActState {
     /// Its initiating call.
     pub call: CallPhase,

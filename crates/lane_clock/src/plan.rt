@@ -6,14 +6,14 @@ use std::alloc::Global;
 use std::marker::Model;
 
 // Where the cells of a lane begin among all cells, and how many they are.
-#[derive(Clone, Copy, Debug)]
+#[derive(Clone, Copy)]
 pub(crate) struct Row {
     pub(crate) start: usize,
     pub(crate) cells: u32,
 }
 
 /// How a clock is laid out: the work at its start, its seats and how many cells each lane has.
-#[derive(Debug, Drop)]
+#[derive(Drop)]
 pub struct ClockPlan {
     guards: u32,
     seats: u32,

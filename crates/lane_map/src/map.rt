@@ -15,7 +15,7 @@ use std::marker::Model;
 /// and takes no memory.
 ///
 /// Contracts see the script that it was made for.
-#[derive(Debug, Drop)]
+#[derive(Drop)]
 pub struct LaneMap<'a> {
     script: &'a Script,
     // the number of the last lane

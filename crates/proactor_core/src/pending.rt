@@ -17,7 +17,7 @@ use std::collections::VecDeque;
 use stream_rules::Completion;
 
 /// An operation on a stream that hasn't completed.
-#[derive(Clone, Copy, Debug)]
+#[derive(Clone, Copy)]
 pub(crate) struct PendingOp<'a> {
     /// Its number.
     pub(crate) op: OpNo,

@@ -6,7 +6,7 @@ use asio_types::{Bytes, GuardNo, SlotNo, StrandNo, StreamNo, TimerNo, Types};
 
 /// One act of a script: a posting, an asynchronous operation, a control act, or a stop. Postings
 /// and asynchronous operations have a handler, whose body is the script's (see `Script::branch`).
-#[derive(Clone, Debug, Drop)]
+#[derive(Clone, Drop)]
 pub enum Act {
     /// `asio::post`, to a strand or to the context.
     Post {

@@ -4,7 +4,7 @@ use crate::round::Round;
 use asio_types::{Class, OpNo, World};
 
 /// An act, and where it stands: in `open`, or in the branch of an operation for a class.
-#[derive(Debug, Drop)]
+#[derive(Drop)]
 pub struct PlacedAct {
     /// What is done.
     pub act: Act,
@@ -26,7 +26,7 @@ pub(crate) struct Header {
 }
 
 /// What a script says. A program that builds a script puts these together (see `Script::make`).
-#[derive(Debug, Drop)]
+#[derive(Drop)]
 pub struct ScriptParts {
     /// The version, 1 or 2.
     pub version: u8,

@@ -37,7 +37,7 @@ use std::marker::Model;
 /// script.world().streams,
 /// script.rounds().len(),
 /// ```
-#[derive(Debug, Drop)]
+#[derive(Drop)]
 pub struct Script {
     /// What it says.
     parts: ScriptParts,

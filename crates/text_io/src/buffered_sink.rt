@@ -13,7 +13,7 @@ use std::marker::Model;
 /// in this order. It fails where the sink behind it does, whose count of faults is its own.
 ///
 /// What the buffer holds is lost where it isn't flushed.
-#[derive(Debug, Drop)]
+#[derive(Drop)]
 pub struct BufferedSink<K> {
     inner: K,
     unsent: Unsent,

@@ -7,7 +7,7 @@ use std::marker::Model;
 
 /// Bytes in reserved memory that are on their way out, in order. Contracts see those that aren't
 /// out, and the room behind them.
-#[derive(Debug, Drop)]
+#[derive(Drop)]
 pub(crate) struct Unsent {
     bytes: Vec<u8>,
     // how many of the first are out

@@ -5,7 +5,7 @@ use crate::steps::Tally;
 use asio_types::OpNo;
 
 /// A pending wait (Asio reference, `steady_timer::async_wait`).
-#[derive(Clone, Copy, Debug, PartialEq, Eq)]
+#[derive(Clone, Copy, PartialEq, Eq)]
 pub struct TimerEntry {
     /// When it is due.
     pub expiry: u64,

@@ -6,7 +6,7 @@ use std::marker::Model;
 
 /// Where in the heap each operation is whose number is below the number of places. Contracts see
 /// the list of places.
-#[derive(Debug, Drop)]
+#[derive(Drop)]
 pub(crate) struct Places {
     // at the number of an operation its index in the heap, where it is there
     last: Vec<u32>,
