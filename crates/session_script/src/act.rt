@@ -1,5 +1,5 @@
 ghost use Rattle.std.specs.Prelude.{◌≡◌};
-ghost use Rattle.session_script.specs.Script.{is_operation};
+ghost use Rattle.session_script.specs.Script.{is_operation, is_stop};
 ghost use Rattle.session_script.specs.Acts.{bodies_of};
 
 use asio_types::{Bytes, GuardNo, SlotNo, StrandNo, StreamNo, TimerNo, Types};
@@ -115,6 +115,13 @@ pub fn is_operation(act: &Act) -> bool
         Act::CancelOne { .. } | Act::Emit { .. } | Act::Close { .. } => false,
         Act::Release { .. } | Act::Stop => false,
     }
+}
+
+/// Whether an act stops the context.
+pub(crate) fn is_stop(act: &Act) -> bool
+    ensures { result ≡ is_stop act.now }
+{
+    matches!(act, Act::Stop)
 }
 
 /// Which bodies follow an act.

@@ -1,9 +1,9 @@
 ghost use Rattle.std.specs.Prelude.{◌≡◌, ◌≤◌, [], length, IfOk};
-ghost use Rattle.session_script.specs.Lanes.{strand_of, caller_lane, is_inside, lane_in, lanes_after};
+ghost use Rattle.session_script.specs.Lanes.{strand_of, caller_lane, is_inside, lane_or_reactor, place_lane, lane_in, lanes_after};
 ghost use Rattle.session_script.specs.Outcome.{entries_of};
 ghost use Rattle.session_script.specs.Limits.{most_acts};
 
-use crate::act::{Act, is_operation};
+use crate::act::{Act, is_operation, is_stop};
 use crate::parts::PlacedAct;
 use asio_types::{Class, Lane, NoMemory, OpNo, StrandNo};
 use std::alloc::Global;
@@ -50,22 +50,40 @@ pub(crate) fn is_inside(caller: Option<Lane>, act: &Act) -> bool
     }
 }
 
+/// The caller's lane, and the reactor's where nothing calls.
+fn lane_or_reactor(caller: Option<Lane>) -> Lane
+    ensures { result ≡ lane_or_reactor caller }
+{
+    match caller {
+        Some(lane) => lane,
+        None => Lane::Reactor,
+    }
+}
+
+/// The lane of an operation outside its call: its strand, or else its own.
+fn place_lane(number: u32, strand: Option<StrandNo>) -> Lane
+    ensures { result ≡ place_lane number strand }
+{
+    match strand {
+        Some(strand) => Lane::Strand(strand),
+        None => Lane::Own(number),
+    }
+}
+
 /// The lane of an act.
 fn lane_in(caller: Option<Lane>, number: u32, act: &Act) -> Lane
     ensures { result ≡ lane_in caller number act.now }
 {
     if is_inside(caller, act) {
-        return caller.unwrap_or(Lane::Reactor);
+        return lane_or_reactor(caller);
     }
     if is_operation(act) {
-        return match strand_of(act) {
-            Some(strand) => Lane::Strand(strand),
-            None => Lane::Own(number),
-        };
+        return place_lane(number, strand_of(act));
     }
-    match act {
-        Act::Stop => caller.unwrap_or(Lane::Reactor),
-        _ => Lane::Reactor,
+    if is_stop(act) {
+        lane_or_reactor(caller)
+    } else {
+        Lane::Reactor
     }
 }
 
