@@ -1,4 +1,6 @@
-ghost use Rattle.std.specs.Prelude.{◌≡◌, All, IfOk, IfErr};
+ghost use Rattle.std.specs.Prelude.{◌≡◌, ◌≤◌, [], All, IfOk, IfErr, length};
+ghost use Rattle.session_script.specs.Limits.{most_bytes};
+ghost use Rattle.session_script.specs.Spelling.{spelling_of};
 ghost use Rattle.session_script.specs.Writable.{IsFedBytes};
 ghost use Rattle.group_script.specs.Group.{group_of, script_of};
 ghost use Rattle.group_script.specs.Limits.{IsGroup, Refuses};
@@ -47,6 +49,59 @@ fn script_of(
     )
 }
 
+/// How many bytes the text of a script has.
+fn text_length(alloc: Global, script: &Script) -> Result<usize, NoMemory>
+    ensures { IfOk result (λ bytes. bytes ≡ length (spelling_of script.now)) }
+{
+    let text = write_script(alloc, script)?;
+    let bytes = text.as_slice().len();
+    Ok(bytes)
+}
+
+/// How many bytes the text of a group's script has without the world's lines.
+fn outline_length(
+    alloc: Global,
+    streams: u8,
+    members: &[Member],
+    rule: WaitFor,
+    types: Types,
+    workers: u8,
+) -> Result<usize, NoMemory>
+    requires { IsGroup
+        (group_of (record { streams = streams; lines = [] }) members.now rule types workers) }
+    ensures few { IfOk result (λ bytes. bytes ≤ most_bytes) }
+    ensures text { IfOk result (λ bytes. bytes ≡ length (spelling_of (script_of
+        (group_of (record { streams = streams; lines = [] }) members.now rule types workers)))) }
+{
+    let bare = World {
+        streams,
+        lines: Lines::of(Vec::new(alloc)),
+    };
+    let outline = script_of(alloc, bare, members, rule, types, workers)?;
+    text_length(alloc, &outline)
+}
+
+/// The script of a group whose numbers and text are within the limits, with lines of its own.
+fn script_with(
+    alloc: Global,
+    world: &World,
+    members: &[Member],
+    rule: WaitFor,
+    types: Types,
+    workers: u8,
+) -> Result<Script, NoMemory>
+    requires group { IsGroup (group_of world.now members.now rule types workers) }
+    requires fed { All (λ line. IsFedBytes line.what) world.now.lines }
+    ensures { IfOk result
+        (λ script. script ≡ script_of (group_of world.now members.now rule types workers)) }
+{
+    let whole = World {
+        streams: world.streams,
+        lines: Lines::from_slice(alloc, world.lines.as_slice())?,
+    };
+    script_of(alloc, whole, members, rule, types, workers)
+}
+
 /// The script of a group (Asio reference, experimental::make_parallel_group): version 2, one
 /// strand, for each member a timer and a slot, the world's streams and lines, and one round of `run`
 /// by so many workers. Its `open` starts the members in order, on the strand. Where the rule says so, a
@@ -75,21 +130,11 @@ pub fn group_script(
         return Err(GroupFault::Limit);
     }
     // the text without the world's lines is short, whatever the members are
-    let bare = World {
-        streams: world.streams,
-        lines: Lines::of(Vec::new(alloc)),
-    };
-    let outline = script_of(alloc, bare, members, rule, types, workers)?;
-    let text = write_script(alloc, &outline)?;
+    let outlined = outline_length(alloc, world.streams, members, rule, types, workers)?;
     let lines = world.lines.as_slice();
-    let outlined = text.as_slice().len();
     let bytes = outlined + lines_length(lines, world.streams);
     if bytes > MOST_BYTES {
         return Err(GroupFault::Limit);
     }
-    let whole = World {
-        streams: world.streams,
-        lines: Lines::from_slice(alloc, lines)?,
-    };
-    Ok(script_of(alloc, whole, members, rule, types, workers)?)
+    Ok(script_with(alloc, world, members, rule, types, workers)?)
 }

@@ -1,4 +1,4 @@
-use Rattle.std.proofs.Common.{◌≡◌, ◌≤◌, ◌∙◌, ◌+◌, List, ap, arith, length, subst, sym}
+use Rattle.std.proofs.Common.{◌≡◌, ◌≤◌, ◌+◌, List, [], ap, arith, length, refl, subst}
 use Rattle.std.specs.List.{flat_map}
 use Rattle.asio_types.specs.declared.world.Line.{Line}
 use Rattle.session_script.specs.Limits.{limits_of, most_bytes}
@@ -11,11 +11,10 @@ use Rattle.group_script.proofs.ShortLemmas.{measured, outline_is_group}
 use Rattle.group_script.proofs.group.group_script.Goals as goal
 use Rattle.group_script.proofs.group.group_script.Goals.{After-lines_length}
 
-pub script_of-requires-clause-group : goal.script_of-requires-clause-group
-script_of-requires-clause-group c =
-    outline_is_group c.args.world.now.streams c.args.world.now.lines c.of.result c.as_slice-members.result.now
-    c.args.rule c.args.types c.args.workers (c.fits_group.ensures.0 c.if-not-fits_group.false)
-    (c.of.ensures ∙ c.new.ensures.items)
+pub outline_length-requires : goal.outline_length-requires
+outline_length-requires c =
+    outline_is_group c.args.world.now.streams c.args.world.now.lines [] c.as_slice-members.result.now c.args.rule
+    c.args.types c.args.workers (c.fits_group.ensures.0 c.if-not-fits_group.false) refl
 
 pub lines_length-requires-clause-few : goal.lines_length-requires-clause-few
 unfolding limits_of
@@ -30,19 +29,13 @@ lines_length-requires-clause-few c =
 size_at : (c : After-lines_length) →
     length (spelling_of (script_of (group_of c.args.world.now c.as_slice-members.result.now c.args.rule c.args.types
     c.args.workers)))
-    ≡ length c.in_ok-text.text.items + c.lines_length.result
+    ≡ c.in_ok-outlined.outlined + c.lines_length.result
 size_at c =
-    let streams = c.args.world.now.streams in
-    let members = c.as_slice-members.result.now in
-    let all = measured streams c.args.world.now.lines members c.args.rule c.args.types c.args.workers in
-    let outline =
-    ap (λ (lines : List Line).
-    script_of (group_of (record { streams = streams; lines = lines }) members c.args.rule c.args.types c.args.workers))
-    (c.of.ensures ∙ c.new.ensures.items) in
-    let text =
-    ap length (c.in_ok-text.ensures.text ∙ ap spelling_of (c.in_ok-outline.ensures ∙ outline)) in
+    let all =
+    measured c.args.world.now.streams c.args.world.now.lines c.as_slice-members.result.now c.args.rule c.args.types
+    c.args.workers in
     let lines = ap (λ (lines : List Line). span (flat_map line_words lines)) c.as_slice-lines.ensures in
-    omega (arith, all, text, lines, c.lines_length.ensures.length)
+    omega (arith, all, c.in_ok-outlined.ensures.text, lines, c.lines_length.ensures.length)
 
 -- by the members as they were given
 size_with : (c : After-lines_length) →
@@ -59,26 +52,23 @@ pub returns-then-bytes-gt-MOST_BYTES-clause-refused : goal.returns-then-bytes-gt
 returns-then-bytes-gt-MOST_BYTES-clause-refused c group =
     let size = size_at (goal.at.returns-then-bytes-gt-MOST_BYTES-clause-refused c).After-lines_length in
     let same = size_with (goal.at.returns-then-bytes-gt-MOST_BYTES-clause-refused c).After-lines_length in
-    omega (arith, size, same, group.size, c.if-bytes-gt-MOST_BYTES.true, c.as_slice-outlined.ensures.value)
+    omega (arith, size, same, group.size, c.if-bytes-gt-MOST_BYTES.true)
 
 -- what fits is a group
-group_at : (c : After-lines_length) → length c.in_ok-text.text.items + c.lines_length.result ≤ most_bytes →
+group_at : (c : After-lines_length) → c.in_ok-outlined.outlined + c.lines_length.result ≤ most_bytes →
     IsGroup (group_of c.args.world.now c.as_slice-members.result.now c.args.rule c.args.types c.args.workers)
 group_at c short =
     let fits = c.fits_group.ensures.0 c.if-not-fits_group.false in
     record { fits = fits; size = omega (arith, size_at c, short) }
 
-pub script_of-requires-2-clause-group : goal.script_of-requires-2-clause-group
-script_of-requires-2-clause-group c =
-    subst (λ (lines : List Line).
-    IsGroup (group_of (record { streams = c.args.world.now.streams; lines = lines }) c.as_slice-members.result.now
-    c.args.rule c.args.types c.args.workers)) (sym (c.in_ok-from_slice.ensures ∙ c.as_slice-lines.ensures))
-    (group_at (goal.at.script_of-requires-2-clause-group c).After-lines_length
-    (omega (arith, c.if-bytes-gt-MOST_BYTES.false, ap length c.as_slice-outlined.ensures.value)))
+pub script_with-requires-clause-group : goal.script_with-requires-clause-group
+script_with-requires-clause-group c =
+    group_at (goal.at.script_with-requires-clause-group c).After-lines_length
+    (omega (arith, c.if-bytes-gt-MOST_BYTES.false))
 
 pub returns-clause-within : goal.returns-clause-within
 returns-clause-within c =
     subst (λ (members : List Member).
     IsGroup (group_of c.args.world.now members c.args.rule c.args.types c.args.workers)) c.as_slice-members.ensures
     (group_at (goal.at.returns-clause-within c).After-lines_length
-    (omega (arith, c.if-bytes-gt-MOST_BYTES.false, ap length c.as_slice-outlined.ensures.value)))
+    (omega (arith, c.if-bytes-gt-MOST_BYTES.false)))
