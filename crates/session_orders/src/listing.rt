@@ -35,18 +35,72 @@ fn keep(alloc: Global, events: &[Event], histories: &mut Vec<History>) -> Result
     Ok(())
 }
 
-/// The histories that a walk has passed before its first step: the empty one, where that is whole.
-fn listed_first(alloc: Global, walk: &Walk) -> Result<Vec<History>, NoMemory>
-    requires { HasCome walk.now.script.now walk.now.failing walk.now.replay [] }
-    ensures { IfOk result (λ histories.
-        ArePassed walk.now.script.now walk.now.failing [] 0 (events_in histories.items)) }
+/// Lists the histories that a walk has passed before its first step: the empty one, where that is
+/// whole.
+fn list_first(alloc: Global, walk: &Walk<'_>, histories: &mut Vec<History>) -> Result<(), NoMemory>
+    requires come { HasCome walk.now.script.now walk.now.failing walk.now.replay [] }
+    requires none { histories.old.items ≡ [] }
+    ensures { OnOk result (ArePassed walk.now.script.now walk.now.failing [] 0
+        (events_in histories.new.items)) }
 {
-    let mut histories = Vec::new(alloc);
     if walk.replay.whole() {
-        keep(alloc, &[], &mut histories)?;
-        return Ok(histories);
+        return keep(alloc, &[], histories);
     }
-    Ok(histories)
+    Ok(())
+}
+
+/// Lists the whole histories that a walk comes to. Answers whether it came to its end, and not to a
+/// bound.
+fn list_on(
+    alloc: Global,
+    bounds: Bounds,
+    walk: &mut Walk<'_>,
+    histories: &mut Vec<History>,
+) -> Result<bool, NoMemory>
+    requires come { HasCome walk.old.script.now walk.old.failing walk.old.replay [] }
+    requires path { walk.old.path.items ≡ [] }
+    requires place { walk.old.place ≡ 0 }
+    requires none { histories.old.items ≡ [] }
+    ensures right { OnOk result
+        (AreOrders walk.old.script.now walk.old.failing (events_in histories.new.items)) }
+    ensures whole { IfOk result (λ all. all ≡ true →
+        HasAllOrders walk.old.script.now walk.old.failing (events_in histories.new.items)) }
+{
+    list_first(alloc, walk, histories)?;
+    'steps: for _ in 0..bounds.steps {
+        if walk.path.len() >= bounds.events as usize {
+            return Ok(false);
+        }
+        match walk.advance()? {
+            Move::Onward => {}
+            Move::Whole => {
+                if histories.len() >= bounds.histories {
+                    return Ok(false);
+                }
+                keep(alloc, walk.path.as_slice(), histories)?;
+            }
+            Move::Over => return Ok(true),
+        }
+    }
+    Ok(false)
+}
+
+/// Lists the whole histories that a walk from the first event on comes to. Answers whether these
+/// are all.
+fn list_all(
+    alloc: Global,
+    script: &Script,
+    bounds: Bounds,
+    histories: &mut Vec<History>,
+) -> Result<bool, NoMemory>
+    requires { histories.old.items ≡ [] }
+    ensures right { OnOk result
+        (AreOrders script.now bounds.failing (events_in histories.new.items)) }
+    ensures whole { IfOk result (λ all. all ≡ true →
+        HasAllOrders script.now bounds.failing (events_in histories.new.items)) }
+{
+    let mut walk = Walk::make(alloc, script, bounds.failing)?;
+    list_on(alloc, bounds, &mut walk, histories)
 }
 
 /// The legal whole histories of the script where its bytes are told: those without a stop from
@@ -59,22 +113,7 @@ pub fn list_orders(alloc: Global, script: &Script, bounds: Bounds) -> Result<Ord
     ensures whole { IfOk result (λ found.
         found.all ≡ true → HasAllOrders script.now bounds.failing found.orders) }
 {
-    let mut walk = Walk::make(alloc, script, bounds.failing)?;
-    let mut histories = listed_first(alloc, &walk)?;
-    'steps: for _ in 0..bounds.steps {
-        if walk.path.len() >= bounds.events as usize {
-            return Ok(Orders::of(histories, false));
-        }
-        match walk.advance()? {
-            Move::Onward => {}
-            Move::Whole => {
-                if histories.len() >= bounds.histories {
-                    return Ok(Orders::of(histories, false));
-                }
-                keep(alloc, walk.path.as_slice(), &mut histories)?;
-            }
-            Move::Over => return Ok(Orders::of(histories, true)),
-        }
-    }
-    Ok(Orders::of(histories, false))
+    let mut histories = Vec::new(alloc);
+    let all = list_all(alloc, script, bounds, &mut histories)?;
+    Ok(Orders::of(histories, all))
 }
