@@ -78,11 +78,17 @@ impl<'a, X: Reactor, H: CompletionHandler, N: Session> Book<'a, X, H, N> {
         };
         let proactor = match Proactor::start(alloc, script, reactor) {
             Ok(proactor) => proactor,
-            Err(refusal) => return Err(refusal),
+            Err(refusal) => {
+                drop(record);
+                return Err(refusal);
+            }
         };
         let hands = match Hands::of_script(alloc, script, rack) {
             Ok(hands) => hands,
-            Err(_) => return Err((SetupFault::NoMemory, proactor.into_reactor())),
+            Err(_) => {
+                drop(record);
+                return Err((SetupFault::NoMemory, proactor.into_reactor()));
+            }
         };
         scripts_are_well_formed(script);
         openings_are_recorded();
