@@ -7,20 +7,6 @@ use history_book::Replay;
 use session_script::Script;
 use std::alloc::Global;
 
-/// A replay before the first event takes these events.
-fn replay_on(replay: &mut Replay<'_>, events: &[Event])
-    requires told { replay.old.told ≡ true }
-    requires first { replay.old.state ≡ state_of replay.old.script true [] }
-    requires legal { IsLegalSoFar replay.old.script true events.now }
-    ensures script { replay.new.script ≡ replay.old.script }
-    ensures told { replay.new.told ≡ true }
-    ensures state { replay.new.state ≡ state_of replay.old.script true events.now }
-{
-    for event in events {
-        let _ = replay.step(*event);
-    }
-}
-
 /// A replay that has come as far as these events.
 pub(crate) fn replay_of<'a>(
     alloc: Global,
@@ -33,7 +19,9 @@ pub(crate) fn replay_of<'a>(
     ensures state { IfOk result (λ replay. replay.state ≡ state_of script.now true events.now) }
 {
     let mut replay = Replay::make(alloc, script, true)?;
-    replay_on(&mut replay, events);
+    for event in events {
+        let _ = replay.step(*event);
+    }
     Ok(replay)
 }
 

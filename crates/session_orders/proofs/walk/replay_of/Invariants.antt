@@ -1,11 +1,11 @@
 use Rattle.std.proofs.Common.{◌≡◌, take, true}
 use Rattle.history_rules.specs.Legal.{state_of}
-use Rattle.session_orders.proofs.walk.replay_on.Given as goal
+use Rattle.session_orders.proofs.walk.replay_of.Given as goal
 
 abbrev pub invariant-loop-event : goal.invariant-loop-event
 invariant-loop-event l =
     record {
-      same_script : l.replay.script ≡ l.fn.replay.script;
+      same_script : l.replay.script ≡ l.script;
       told : l.replay.told ≡ true;
-      state : l.replay.state ≡ state_of l.fn.replay.script true (take l.event-index l.events);
+      state : l.replay.state ≡ state_of l.script true (take l.event-index l.events);
     }
