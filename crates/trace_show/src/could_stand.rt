@@ -59,6 +59,19 @@ struct TokenPlace {
 }
 
 impl TokenPlace {
+    /// The place behind these bytes.
+    fn behind(alloc: Global, before: &[u8], token: u32) -> Result<TokenPlace, NoMemory> {
+        let mut text = Vec::new(alloc);
+        text.extend_from_slice(before)?;
+        text.push(b' ')?;
+        let before = text.len();
+        Ok(TokenPlace {
+            text,
+            before,
+            token,
+        })
+    }
+
     /// Whether this token could stand in the place. Reads the script up to there.
     fn takes(&mut self, alloc: Global, token: &[u8]) -> Result<bool, NoMemory> {
         self.text.truncate(self.before);
@@ -72,6 +85,17 @@ impl TokenPlace {
 
     fn takes_number(&mut self, alloc: Global, number: u64) -> Result<bool, NoMemory> {
         self.takes(alloc, Buffer::new().format(number).as_bytes())
+    }
+
+    /// The least number that could stand in a place: all numbers do from 0 or 1 on, or none does.
+    fn least_number(&mut self, alloc: Global) -> Result<Option<u64>, NoMemory> {
+        if self.takes_number(alloc, 0)? {
+            Ok(Some(0))
+        } else if self.takes_number(alloc, 1)? {
+            Ok(Some(1))
+        } else {
+            Ok(None)
+        }
     }
 
     /// The greatest number that could stand in a place where this one could: there all numbers up
@@ -101,6 +125,14 @@ fn begin_name(detail: &mut Detail, count: &mut u32) -> Result<(), NoMemory> {
     Ok(())
 }
 
+/// A word or mark that could stand in a place.
+fn name_word(detail: &mut Detail, count: &mut u32, word: &str) -> Result<(), NoMemory> {
+    begin_name(detail, count)?;
+    detail.words("`")?;
+    detail.words(word)?;
+    detail.words("`")
+}
+
 /// The words and marks that could stand in a place.
 fn name_words(
     detail: &mut Detail,
@@ -110,10 +142,7 @@ fn name_words(
 ) -> Result<(), NoMemory> {
     for word in WORDS.as_slice() {
         if place.takes(alloc, word.as_bytes())? {
-            begin_name(detail, count)?;
-            detail.words("`")?;
-            detail.words(*word)?;
-            detail.words("`")?;
+            name_word(detail, count, *word)?;
         }
     }
     if place.takes(alloc, LEAST_BYTES.as_bytes())? {
@@ -130,17 +159,15 @@ fn name_numbers(
     alloc: Global,
     place: &mut TokenPlace,
 ) -> Result<(), NoMemory> {
-    let least = if place.takes_number(alloc, 0)? {
-        0
-    } else if place.takes_number(alloc, 1)? {
-        1
-    } else {
-        return Ok(());
-    };
-    let most = place.most_number(alloc, least)?;
-    begin_name(detail, count)?;
-    detail.field("a number from ", least)?;
-    detail.field(" to ", most)
+    match place.least_number(alloc)? {
+        Some(least) => {
+            let most = place.most_number(alloc, least)?;
+            begin_name(detail, count)?;
+            detail.field("a number from ", least)?;
+            detail.field(" to ", most)
+        }
+        None => Ok(()),
+    }
 }
 
 /// A line of what could stand behind these bytes, as the token with this number; nothing where
@@ -151,15 +178,7 @@ pub(crate) fn name_what_could_stand(
     before: &[u8],
     token: u32,
 ) -> Result<(), NoMemory> {
-    let mut text = Vec::new(alloc);
-    text.extend_from_slice(before)?;
-    text.push(b' ')?;
-    let before = text.len();
-    let mut place = TokenPlace {
-        text,
-        before,
-        token,
-    };
+    let mut place = TokenPlace::behind(alloc, before, token)?;
     let mut count = 0u32;
     name_words(detail, &mut count, alloc, &mut place)?;
     name_numbers(detail, &mut count, alloc, &mut place)?;

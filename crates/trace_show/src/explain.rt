@@ -3,68 +3,100 @@ use crate::found::Against;
 use crate::lines::EventKind;
 use crate::reason::Reason;
 use crate::situation::Situation;
-use asio_types::{ActNo, Event, Lane, NoMemory, OpNo, Point};
+use asio_types::{ActNo, Code, Event, Lane, NoMemory, OpNo, Point};
 use history_rules::{ActPhase, CallPhase, Cause};
 
 /// What stands against an event that breaks this condition, with its lines.
 pub(crate) fn explain(
     detail: &mut Detail,
-    at: Situation,
+    at: &Situation,
     event: Event,
     reason: Reason,
 ) -> Result<(), NoMemory> {
     detail.subject(event)?;
     detail.words(": ")?;
+    explain_event(detail, at, event, reason)?;
+    detail.words("\n")
+}
+
+fn explain_event(
+    detail: &mut Detail,
+    at: &Situation,
+    event: Event,
+    reason: Reason,
+) -> Result<(), NoMemory> {
     match event {
         Event::Call { act } => explain_call(detail, at, act),
         Event::Back { act } => explain_return(detail, at, act),
         Event::Stop { act: Some(act) } => explain_stop(detail, at, act),
+        Event::Take { act } => explain_take(detail, at, act, reason),
+        other => explain_of_handler(detail, at, other, reason),
+    }
+}
+
+fn explain_of_handler(
+    detail: &mut Detail,
+    at: &Situation,
+    event: Event,
+    reason: Reason,
+) -> Result<(), NoMemory> {
+    match event {
         Event::Begin { op, .. } => explain_begin(detail, at, op, reason),
         Event::End { op, .. } => explain_end(detail, at, op),
-        Event::Take { act } => explain_take(detail, at, act, reason),
         Event::Done { op, .. } => explain_done(detail, at, op, reason),
         Event::Dropped { op, .. } => explain_drop(detail, at, op, reason),
         _ => explain_context(detail, at, reason),
-    }?;
-    detail.words("\n")
+    }
 }
 
-fn explain_call(detail: &mut Detail, at: Situation, a: ActNo) -> Result<(), NoMemory> {
+fn explain_call(detail: &mut Detail, at: &Situation, a: ActNo) -> Result<(), NoMemory> {
     let script = at.replay.script();
     if a >= script.acts() {
         return at.act(detail, a);
     }
     match script.parent_of(a) {
         Some((o, class)) => at.body(detail, o, class),
-        None if at.replay.has_failed() => {
-            let line = at.line_of_event(Event::Fault);
-            detail.at_line("the reactor failed before `open`, at line ", line)
-        }
-        None => {
-            detail.words("it stands in `open`, where ")?;
-            at.next_call(detail, script.opening())
-        }
+        None => explain_opening(detail, at),
     }
 }
 
-fn explain_return(detail: &mut Detail, at: Situation, a: ActNo) -> Result<(), NoMemory> {
+/// What stands against a call of `open`.
+fn explain_opening(detail: &mut Detail, at: &Situation) -> Result<(), NoMemory> {
+    if at.replay.has_failed() {
+        return detail.at_line(
+            "the reactor failed before `open`, at line ",
+            at.line_of_event(Event::Fault),
+        );
+    }
+    detail.words("it stands in `open`, where ")?;
+    at.next_call(detail, at.replay.script().opening())
+}
+
+fn explain_return(detail: &mut Detail, at: &Situation, a: ActNo) -> Result<(), NoMemory> {
     let script = at.replay.script();
     if a >= script.acts() {
         return at.act(detail, a);
     }
     match at.replay.act(a).call {
-        CallPhase::Open { .. } if script.is_stop(a) => {
-            detail.words("it is a `stop` that hasn't stopped the context")
-        }
-        CallPhase::Open { .. } => {
-            detail.words("what it dispatched runs inside its call: ")?;
-            at.act(detail, a)
-        }
+        CallPhase::Open { .. } => explain_open_call(detail, at, a, script.is_stop(a)),
         _ => at.call(detail, a),
     }
 }
 
-fn explain_stop(detail: &mut Detail, at: Situation, a: ActNo) -> Result<(), NoMemory> {
+fn explain_open_call(
+    detail: &mut Detail,
+    at: &Situation,
+    a: ActNo,
+    is_stop: bool,
+) -> Result<(), NoMemory> {
+    if is_stop {
+        return detail.words("it is a `stop` that hasn't stopped the context");
+    }
+    detail.words("what it dispatched runs inside its call: ")?;
+    at.act(detail, a)
+}
+
+fn explain_stop(detail: &mut Detail, at: &Situation, a: ActNo) -> Result<(), NoMemory> {
     let script = at.replay.script();
     if a >= script.acts() {
         return at.act(detail, a);
@@ -78,7 +110,7 @@ fn explain_stop(detail: &mut Detail, at: Situation, a: ActNo) -> Result<(), NoMe
 
 fn explain_begin(
     detail: &mut Detail,
-    at: Situation,
+    at: &Situation,
     o: OpNo,
     reason: Reason,
 ) -> Result<(), NoMemory> {
@@ -97,25 +129,31 @@ fn explain_begin(
     }
 }
 
-fn explain_busy_lane(detail: &mut Detail, at: Situation, o: OpNo) -> Result<(), NoMemory> {
+fn explain_busy_lane(detail: &mut Detail, at: &Situation, o: OpNo) -> Result<(), NoMemory> {
     at.lane(detail, at.replay.lane(o))?;
     detail.words(" isn't free: ")?;
     match at.first(Against::RunsOnLaneOf(o)) {
-        Some(n) => {
-            detail.field("operation ", n as u64)?;
-            detail.at_line(" runs there since line ", at.line(EventKind::Begun, n))
-        }
+        Some(n) => explain_running(detail, at, n),
         None => Ok(()),
     }
 }
 
-fn explain_order(detail: &mut Detail, at: Situation, o: OpNo) -> Result<(), NoMemory> {
+fn explain_running(detail: &mut Detail, at: &Situation, n: ActNo) -> Result<(), NoMemory> {
+    detail.field("operation ", n as u64)?;
+    detail.at_line(" runs there since line ", at.line(EventKind::Begun, n))
+}
+
+fn explain_order(detail: &mut Detail, at: &Situation, o: OpNo) -> Result<(), NoMemory> {
     let Some(n) = at.first(Against::GoesBefore(o)) else {
         return Ok(());
     };
     detail.field("operation ", n as u64)?;
     detail.words(" of ")?;
     at.lane(detail, at.replay.lane(o))?;
+    explain_ready_before(detail, at, n)
+}
+
+fn explain_ready_before(detail: &mut Detail, at: &Situation, n: ActNo) -> Result<(), NoMemory> {
     detail.words(" goes before it: ")?;
     match at.replay.act(n).phase {
         ActPhase::Ready {
@@ -126,13 +164,13 @@ fn explain_order(detail: &mut Detail, at: Situation, o: OpNo) -> Result<(), NoMe
     }
 }
 
-fn explain_stopped_lane(detail: &mut Detail, at: Situation, lane: Lane) -> Result<(), NoMemory> {
+fn explain_stopped_lane(detail: &mut Detail, at: &Situation, lane: Lane) -> Result<(), NoMemory> {
     at.lane(detail, lane)?;
     detail.words(" may begin nothing more: the context was stopped")?;
     detail.at_line(" at line ", at.line_of_stop())
 }
 
-fn explain_end(detail: &mut Detail, at: Situation, o: OpNo) -> Result<(), NoMemory> {
+fn explain_end(detail: &mut Detail, at: &Situation, o: OpNo) -> Result<(), NoMemory> {
     match at.replay.act(o).phase {
         ActPhase::Running { class, .. } => {
             detail.words("its calls aren't all back: ")?;
@@ -144,7 +182,7 @@ fn explain_end(detail: &mut Detail, at: Situation, o: OpNo) -> Result<(), NoMemo
 
 fn explain_take(
     detail: &mut Detail,
-    at: Situation,
+    at: &Situation,
     a: ActNo,
     reason: Reason,
 ) -> Result<(), NoMemory> {
@@ -167,15 +205,19 @@ fn explain_take(
 
 fn explain_done(
     detail: &mut Detail,
-    at: Situation,
+    at: &Situation,
     o: OpNo,
     reason: Reason,
 ) -> Result<(), NoMemory> {
     match (reason, at.replay.next_due()) {
         (Reason::MayTell, Some(head)) => {
-            detail.field("what is due next is operation ", head.op as u64)?;
-            detail.words(" with ")?;
-            detail.outcome(head.outcome.0, head.outcome.1)
+            explain_due(
+                detail,
+                "what is due next is operation ",
+                head.op,
+                " with ",
+                head.outcome,
+            )
         }
         (Reason::MayTell, None) => {
             detail.words("it doesn't complete so now, and nothing is due: ")?;
@@ -185,9 +227,22 @@ fn explain_done(
     }
 }
 
+/// What is due next, and its outcome behind these words.
+fn explain_due(
+    detail: &mut Detail,
+    words: &str,
+    op: OpNo,
+    with: &str,
+    outcome: (Code, u32),
+) -> Result<(), NoMemory> {
+    detail.field(words, op as u64)?;
+    detail.words(with)?;
+    detail.outcome(outcome.0, outcome.1)
+}
+
 fn explain_drop(
     detail: &mut Detail,
-    at: Situation,
+    at: &Situation,
     o: OpNo,
     reason: Reason,
 ) -> Result<(), NoMemory> {
@@ -202,57 +257,96 @@ fn explain_drop(
 }
 
 /// What stands against what the whole context does.
-fn explain_context(detail: &mut Detail, at: Situation, reason: Reason) -> Result<(), NoMemory> {
+fn explain_context(detail: &mut Detail, at: &Situation, reason: Reason) -> Result<(), NoMemory> {
+    match context_words(reason) {
+        Some(words) => detail.words(words),
+        None => explain_rounds(detail, at, reason),
+    }
+}
+
+/// What stands against an event, where it is nothing of any act, line or round.
+fn context_words(reason: Reason) -> Option<&'static str> {
+    match reason {
+        Reason::IsInTurn => Some("no turn of the reactor has begun since the round began"),
+        Reason::HasPending => Some("nothing is pending"),
+        Reason::IsStopped => Some("the context isn't stopped"),
+        Reason::HasWork => Some("nothing is outstanding"),
+        _ => None,
+    }
+}
+
+/// What of the rounds and the time stands against an event.
+fn explain_rounds(detail: &mut Detail, at: &Situation, reason: Reason) -> Result<(), NoMemory> {
     match reason {
         Reason::RoundIsOpen | Reason::HasRoundLeft => explain_round(detail, at),
+        Reason::MayBreakOff => explain_turn(detail, at),
         Reason::MayStart => explain_stopped_lane(detail, at, Lane::Reactor),
-        Reason::IsRunning => explain_pace(detail, at, " is one of `poll`"),
-        Reason::IsPolling => explain_pace(detail, at, " is one of `run`"),
-        Reason::HasRestart => explain_pace(detail, at, " has no `restart`"),
-        Reason::MayBreakOff if at.replay.round_is_open() => {
-            detail.words("a part of this turn was told, and another part is due")
-        }
-        Reason::MayBreakOff => explain_round(detail, at),
-        Reason::IsOver => {
-            detail.words("the session goes on: ")?;
-            explain_pace(detail, at, " isn't closed")
-        }
-        Reason::IsInTurn => {
-            detail.words("no turn of the reactor has begun since the round began")
-        }
-        Reason::HasPending => detail.words("nothing is pending"),
-        Reason::IsStopped => detail.words("the context isn't stopped"),
-        Reason::HasWork => detail.words("nothing is outstanding"),
         Reason::IsNextTime => explain_time(detail, at),
+        other => explain_kind_of_round(detail, at, other),
+    }
+}
+
+/// What of the kind of the round stands against an event.
+fn explain_kind_of_round(
+    detail: &mut Detail,
+    at: &Situation,
+    reason: Reason,
+) -> Result<(), NoMemory> {
+    match reason {
+        Reason::IsRunning => explain_pace(detail, at, "round ", " is one of `poll`"),
+        Reason::IsPolling => explain_pace(detail, at, "round ", " is one of `run`"),
+        Reason::HasRestart => explain_pace(detail, at, "round ", " has no `restart`"),
+        Reason::IsOver => explain_pace(detail, at, "the session goes on: round ", " isn't closed"),
         other => explain_quiet(detail, at, other),
     }
 }
 
-fn explain_round(detail: &mut Detail, at: Situation) -> Result<(), NoMemory> {
-    let script = at.replay.script();
-    let rounds = script.rounds().len() as u64;
+fn explain_turn(detail: &mut Detail, at: &Situation) -> Result<(), NoMemory> {
+    if at.replay.round_is_open() {
+        detail.words("a part of this turn was told, and another part is due")
+    } else {
+        explain_round(detail, at)
+    }
+}
+
+fn explain_round(detail: &mut Detail, at: &Situation) -> Result<(), NoMemory> {
+    let rounds = at.replay.script().rounds().len() as u64;
     if at.replay.closings() >= rounds {
         detail.words("no round is open: all are closed")
     } else if !at.replay.has_round_left() {
         detail.words("no round is open: in `open` ")?;
-        at.next_call(detail, script.opening())
-    } else if at.replay.restarts() && !at.replay.is_restarted() {
-        detail.field(
+        at.next_call(detail, at.replay.script().opening())
+    } else {
+        explain_closed_round(detail, at)
+    }
+}
+
+/// Why the next round isn't open, though `open` is over.
+fn explain_closed_round(detail: &mut Detail, at: &Situation) -> Result<(), NoMemory> {
+    if at.replay.restarts() && !at.replay.is_restarted() {
+        explain_pace(
+            detail,
+            at,
             "no round is open: the `restart` of round ",
-            at.replay.closings(),
-        )?;
-        detail.words(" hasn't come")
+            " hasn't come",
+        )
     } else {
         detail.words("no round is open: handlers are being destroyed")
     }
 }
 
-fn explain_pace(detail: &mut Detail, at: Situation, words: &str) -> Result<(), NoMemory> {
-    detail.field("round ", at.replay.closings())?;
-    detail.words(words)
+/// The number of the round, between these words.
+fn explain_pace(
+    detail: &mut Detail,
+    at: &Situation,
+    before: &str,
+    behind: &str,
+) -> Result<(), NoMemory> {
+    detail.field(before, at.replay.closings())?;
+    detail.words(behind)
 }
 
-fn explain_time(detail: &mut Detail, at: Situation) -> Result<(), NoMemory> {
+fn explain_time(detail: &mut Detail, at: &Situation) -> Result<(), NoMemory> {
     match at.replay.next_time() {
         Point::Time(now) => detail.field("the next time point is ", now),
         Point::Last => detail.words("no time point is left: `last` comes"),
@@ -260,30 +354,43 @@ fn explain_time(detail: &mut Detail, at: Situation) -> Result<(), NoMemory> {
 }
 
 /// What has to be over first.
-fn explain_quiet(detail: &mut Detail, at: Situation, reason: Reason) -> Result<(), NoMemory> {
+fn explain_quiet(detail: &mut Detail, at: &Situation, reason: Reason) -> Result<(), NoMemory> {
     match reason {
-        Reason::IsWorking => {
-            let line = at.line_of_event(Event::Fault);
-            detail.at_line("the reactor failed at line ", line)
-        }
         Reason::NothingIsDue => match at.replay.next_due() {
-            Some(head) => {
-                detail.field(
-                    "not all of the last turn was told: operation ",
-                    head.op as u64,
-                )?;
-                detail.words(" is due with ")?;
-                detail.outcome(head.outcome.0, head.outcome.1)
-            }
+            Some(head) => explain_due(
+                detail,
+                "not all of the last turn was told: operation ",
+                head.op,
+                " is due with ",
+                head.outcome,
+            ),
             None => Ok(()),
         },
-        Reason::IsDrained => {
-            let line = at.line_of_event(Event::Last);
-            detail.at_line(
-                "operations of streams are still to complete, since `last` at line ",
-                line,
-            )
+        Reason::IsGoing => {
+            detail.words("the context was stopped")?;
+            detail.at_line(" at line ", at.line_of_stop())
         }
+        other => explain_since(detail, at, other),
+    }
+}
+
+/// The line of the event after which a condition no longer holds.
+fn explain_since(detail: &mut Detail, at: &Situation, reason: Reason) -> Result<(), NoMemory> {
+    let (event, words) = match reason {
+        Reason::IsWorking => (Event::Fault, "the reactor failed at line "),
+        Reason::IsDrained => (
+            Event::Last,
+            "operations of streams are still to complete, since `last` at line ",
+        ),
+        Reason::IsRestartedOnce => (Event::Restart, "the `restart` of this round came at line "),
+        other => return explain_acts(detail, at, other),
+    };
+    detail.at_line(words, at.line_of_event(event))
+}
+
+/// What has become of the first act that stands against an event.
+fn explain_acts(detail: &mut Detail, at: &Situation, reason: Reason) -> Result<(), NoMemory> {
+    match reason {
         Reason::AllQuiet => explain_first(detail, at, "not idle: ", Against::IsNotQuiet),
         Reason::NoCallIsOpen => explain_first(
             detail,
@@ -296,21 +403,13 @@ fn explain_quiet(detail: &mut Detail, at: Situation, reason: Reason) -> Result<(
             detail.field("outstanding is ", at.replay.outstanding())?;
             explain_first(detail, at, ": ", Against::IsOutstanding)
         }
-        Reason::IsGoing => {
-            detail.words("the context was stopped")?;
-            detail.at_line(" at line ", at.line_of_stop())
-        }
-        Reason::IsRestartedOnce => {
-            let line = at.line_of_event(Event::Restart);
-            detail.at_line("the `restart` of this round came at line ", line)
-        }
         _ => Ok(()),
     }
 }
 
 fn explain_first(
     detail: &mut Detail,
-    at: Situation,
+    at: &Situation,
     words: &str,
     against: Against,
 ) -> Result<(), NoMemory> {

@@ -12,13 +12,12 @@ use crate::progress::show_drawn;
 use asio_types::{Event, NoMemory, Sink, write_all};
 use bars::draw_bar;
 use frame::{draw_end, draw_frame};
-use history_book::Replay;
 use layout::PictureLayout;
 use marks::draw_marks;
 use session_script::Script;
 use std::alloc::Global;
 use text_io::Unfinished;
-use trace_check::{Verdict, judge};
+use trace_check::{Verdict, check};
 
 /// So many bytes are put together before they are written.
 const MOST_KEPT: usize = 32_768;
@@ -168,10 +167,9 @@ pub(crate) fn write_picture<K: Sink, N: Sink>(
     ensures verdict { IfOk result (IsVerdict script.now tells events.now) }
     ensures counts { CountsFailures result (K.faults out.old) (K.faults out.new) }
 {
-    let Ok(mut replay) = Replay::make(alloc, script, tells) else {
+    let Ok(verdict) = check(alloc, script, tells, events) else {
         return Err(Unfinished::NoMemory);
     };
-    let verdict = judge(&mut replay, events);
     draw_all(
         alloc,
         script,

@@ -1,13 +1,13 @@
-ghost use Rattle.std.specs.Prelude.{◌≡◌, ◌<◌, ◌^◌, IfOk, length, map, string_bytes};
+ghost use Rattle.std.specs.Prelude.{◌≡◌, ◌<◌, ◌^◌, ℕ, IfOk, length, map, string_bytes};
 ghost use Rattle.text_io.specs.Counts.{CountsFailures};
 ghost use Rattle.text_io.specs.Seen.{seen_by};
-ghost use Rattle.text_io.specs.Text.{TakesSome};
-ghost use Rattle.trace_check.specs.Answer.{CheckCountsReads, CheckCountsWrites};
+ghost use Rattle.text_io.specs.Text.{ReadsText, TakesSome};
+ghost use Rattle.trace_check.specs.Answer.{CheckCountsReads, CheckCountsWrites, CheckGiven};
 ghost use Rattle.trace_check.specs.Parting.{most_input_read};
 ghost use Rattle.trace_check.specs.Verdict.{IsVerdict};
 ghost use Rattle.trace_check.specs.declared.status.CheckStatus.TheVariants as status;
 ghost use Rattle.trace_show.specs.Answer.{IsWritten, ShowSays, ending_status};
-ghost use Rattle.trace_show.specs.ShowForm.{show_form_tells};
+ghost use Rattle.trace_show.specs.ShowForm.{IsShowForm, show_form_tells};
 
 use crate::detail::Detail;
 use crate::form::{ShowForm, form_of};
@@ -169,10 +169,31 @@ fn end<S: Source, K: Sink, N: Sink>(
         Err(Unfinished::Failed) => return ShowEnding::ReadFault,
         Err(Unfinished::NoMemory) => return ShowEnding::NoMemory,
     };
-    let question = match question_of(alloc, input.as_slice()) {
+    end_of_input(alloc, form, input.as_slice(), out, notes, on_terminal)
+}
+
+/// The session from the input on.
+fn end_of_input<K: Sink, N: Sink>(
+    alloc: Global,
+    form: ShowForm,
+    input: &[u8],
+    out: &mut K,
+    notes: &mut N,
+    on_terminal: bool,
+) -> ShowEnding
+    ensures says { (given : CheckGiven) → IsShowForm given.words form →
+        ReadsText most_input_read given.source.told_before input.now given.source.told_after →
+        given.out ≡ seen_by K.written K.faults out.old out.new →
+        ShowSays given (ending_status result) }
+    ensures used { ending_status result ≡ status.Usage → ⊥ }
+    ensures reads { (faults : ℕ) → CheckCountsReads (ending_status result) faults faults }
+    ensures writes { CheckCountsWrites (ending_status result)
+        (K.faults out.old) (K.faults out.new) }
+{
+    let question = match question_of(alloc, input) {
         Ok(question) => question,
         Err(NoQuestion::Refused(refusal)) => {
-            let Ok(detail) = refusal_detail(alloc, input.as_slice(), refusal) else {
+            let Ok(detail) = refusal_detail(alloc, input, refusal) else {
                 return ShowEnding::NoMemory;
             };
             return ShowEnding::Refused(refusal, detail);

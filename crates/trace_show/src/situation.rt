@@ -1,7 +1,7 @@
 use crate::detail::{Detail, class_words};
 use crate::found::{Against, first_act};
 use crate::lines::{EventKind, line_about, line_of_event, line_of_stop};
-use asio_types::{ActNo, Class, Event, Lane, NoMemory, OpNo};
+use asio_types::{ActNo, Class, Code, Event, Lane, NoMemory, OpNo};
 use history_book::Replay;
 use history_rules::{ActPhase, CallPhase};
 
@@ -51,32 +51,41 @@ impl<'s, 'r> Situation<'s, 'r> {
             ActPhase::Absent => self.call(detail, n),
             ActPhase::Asked => self.request(detail, "act ", n),
             ActPhase::Requested => self.request(detail, "operation ", n),
-            ActPhase::Inside => {
-                detail.field("operation ", n as u64)?;
-                detail.at_line(
-                    " begins inside its call, made at line ",
-                    self.line(EventKind::Called, n),
-                )
-            }
-            ActPhase::Ready { code, size, .. } => {
-                detail.field("operation ", n as u64)?;
-                detail.words(" is ready with ")?;
-                detail.outcome(code, size)?;
-                self.since_ready(detail, n)
-            }
+            ActPhase::Ready { code, size, .. } => self.ready(detail, n, code, size),
+            ActPhase::Inside => self.handler(
+                detail,
+                n,
+                " begins inside its call, made at line ",
+                EventKind::Called,
+            ),
             ActPhase::Running { .. } => {
-                detail.field("operation ", n as u64)?;
-                detail.at_line(" runs since line ", self.line(EventKind::Begun, n))
+                self.handler(detail, n, " runs since line ", EventKind::Begun)
             }
-            ActPhase::Ended => {
-                detail.field("operation ", n as u64)?;
-                detail.at_line(" has ended at line ", self.line(EventKind::Ended, n))
-            }
+            ActPhase::Ended => self.handler(detail, n, " has ended at line ", EventKind::Ended),
             ActPhase::Dropped => {
-                detail.field("operation ", n as u64)?;
-                detail.at_line(" was destroyed at line ", self.line(EventKind::Dropped, n))
+                self.handler(detail, n, " was destroyed at line ", EventKind::Dropped)
             }
         }
+    }
+
+    /// An operation, and the line of its last event of this kind behind these words.
+    fn handler(
+        &self,
+        detail: &mut Detail,
+        n: ActNo,
+        words: &str,
+        kind: EventKind,
+    ) -> Result<(), NoMemory> {
+        detail.field("operation ", n as u64)?;
+        detail.at_line(words, self.line(kind, n))
+    }
+
+    /// What an operation is ready with, and since when.
+    fn ready(&self, detail: &mut Detail, n: ActNo, code: Code, size: u32) -> Result<(), NoMemory> {
+        detail.field("operation ", n as u64)?;
+        detail.words(" is ready with ")?;
+        detail.outcome(code, size)?;
+        self.since_ready(detail, n)
     }
 
     /// Since when an operation is ready: a posting since its call, the others since their `done`.
@@ -145,23 +154,36 @@ impl<'s, 'r> Situation<'s, 'r> {
         }
         match self.replay.act(o).phase {
             ActPhase::Running { class: running, .. } if running != class => {
-                detail.field("operation ", o as u64)?;
-                detail.words(" runs ")?;
-                detail.words(class_words(running))?;
-                detail.words(", and the act stands in ")?;
-                detail.words(class_words(class))
+                stands_elsewhere(detail, o, class, running)
             }
-            ActPhase::Running { .. } => {
-                detail.field("in the body of operation ", o as u64)?;
-                detail.words(" ")?;
-                self.next_call(detail, script.branch(o, class))
-            }
+            ActPhase::Running { .. } => self.next_inside(detail, o, script.branch(o, class)),
             _ => {
                 detail.words("the act stands in the body of an operation that doesn't run: ")?;
                 self.act(detail, o)
             }
         }
     }
+
+    /// Which of the calls of an operation's body comes next.
+    fn next_inside(&self, detail: &mut Detail, o: OpNo, acts: &[ActNo]) -> Result<(), NoMemory> {
+        detail.field("in the body of operation ", o as u64)?;
+        detail.words(" ")?;
+        self.next_call(detail, acts)
+    }
+}
+
+/// That an act stands in another body than the one that runs.
+fn stands_elsewhere(
+    detail: &mut Detail,
+    o: OpNo,
+    class: Class,
+    running: Class,
+) -> Result<(), NoMemory> {
+    detail.field("operation ", o as u64)?;
+    detail.words(" runs ")?;
+    detail.words(class_words(running))?;
+    detail.words(", and the act stands in ")?;
+    detail.words(class_words(class))
 }
 
 fn comes_next(detail: &mut Detail, n: ActNo) -> Result<(), NoMemory> {

@@ -86,7 +86,7 @@ fn details(
             before: events,
         };
         if said.verdict == Verdict::Incomplete {
-            owed(&mut detail, at)?;
+            owed(&mut detail, &at)?;
         }
         return Ok(detail);
     };
@@ -98,7 +98,8 @@ fn details(
     ) else {
         return Ok(detail);
     };
-    explain(&mut detail, Situation { replay, before }, *event, reason)?;
+    let at = Situation { replay, before };
+    explain(&mut detail, &at, *event, reason)?;
     Ok(detail)
 }
 
@@ -114,6 +115,31 @@ fn write_rule<K: Sink>(out: &mut K, reason: Option<Reason>) -> Result<(), Failed
     write_all(out, b"rule: ")?;
     write_all(out, reason.words())?;
     write_all(out, b"\n")
+}
+
+/// A finding, and what is said beside it.
+#[derive(Drop)]
+struct Told {
+    said: Finding,
+    detail: Detail,
+}
+
+/// What is to be said of the events of a script.
+fn told_on(alloc: Global, script: &Script, tells: bool, events: &[Event]) -> Result<Told, NoMemory>
+    requires { length events.now < 2 ^ 32 }
+    ensures verdict { IfOk result (λ told.
+        IsVerdict script.now tells events.now told.said.verdict) }
+    ensures reason { IfOk result (λ told.
+        IsWhy script.now tells events.now told.said.verdict told.said.reason) }
+{
+    let Ok(mut replay) = Replay::make(alloc, script, tells) else {
+        return Err(NoMemory);
+    };
+    let said = finding_on(&mut replay, events);
+    let Ok(detail) = details(alloc, &replay, events, said) else {
+        return Err(NoMemory);
+    };
+    Ok(Told { said, detail })
 }
 
 /// Writes the verdict on the events of a script and why.
@@ -133,15 +159,11 @@ pub(crate) fn write_why<K: Sink>(
     ensures counts { CountsFailures result (K.faults out.old) (K.faults out.new) }
     ensures quiet { result ≡ Err Unfinished.NoMemory → out.new ≡ out.old }
 {
-    let Ok(mut replay) = Replay::make(alloc, script, tells) else {
+    let Ok(told) = told_on(alloc, script, tells, events) else {
         return Err(Unfinished::NoMemory);
     };
-    let said = finding_on(&mut replay, events);
-    let Ok(detail) = details(alloc, &replay, events, said) else {
-        return Err(Unfinished::NoMemory);
-    };
-    match write_answer(out, said, events.len() as u32, &detail) {
-        Ok(()) => Ok(said.verdict),
+    match write_answer(out, told.said, events.len() as u32, &told.detail) {
+        Ok(()) => Ok(told.said.verdict),
         Err(_) => Err(Unfinished::Failed),
     }
 }

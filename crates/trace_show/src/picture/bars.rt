@@ -27,46 +27,66 @@ fn draw_execution(
     size: u32,
 ) -> Result<(), NoMemory> {
     let spot = layout.spot(o);
-    let left = layout.x(spot.begun);
-    let right = right_of(layout, spot);
-    let top = layout.bar_top(spot);
-    let height = layout.bar_height(spot);
     drawn.words("<g><title>")?;
     title(drawn, o, spot, size)?;
     drawn.words("</title>")?;
-    let cut = if spot.code == Code::Ok {
+    draw_outline(drawn, layout, spot)?;
+    draw_number(drawn, layout, o, spot)?;
+    drawn.words("</g>\n")
+}
+
+/// How much of a corner is cut off.
+fn cut_of(layout: &PictureLayout, spot: ActSpot) -> u64 {
+    if spot.code == Code::Ok {
         0
     } else {
-        8u64.min(height)
-    };
-    drawn.words("<path class=\"")?;
+        8u64.min(layout.bar_height(spot))
+    }
+}
+
+/// The outline of a bar.
+fn draw_outline(drawn: &mut Detail, layout: &PictureLayout, spot: ActSpot) -> Result<(), NoMemory> {
+    let left = layout.x(spot.begun);
+    let top = layout.bar_top(spot);
+    let cut = cut_of(layout, spot);
     drawn.words(if spot.code == Code::Ok {
-        "bar"
+        "<path class=\"bar"
     } else {
-        "bar error"
+        "<path class=\"bar error"
     })?;
     drawn.fill(
         "\" d=\"M@ @H@V@H@V@Z\"/>",
         &[
             left.saturating_add(cut),
             top,
-            right,
-            top.saturating_add(height),
+            right_of(layout, spot),
+            top.saturating_add(layout.bar_height(spot)),
             left,
             top.saturating_add(cut),
         ],
-    )?;
-    if right.saturating_sub(left) >= 16 && height >= 12 {
-        drawn.fill(
-            "<text class=\"op\" x=\"@\" y=\"@\">@</text>",
-            &[
-                left.saturating_add(4).saturating_add(cut / 2),
-                top.saturating_add(11),
-                o as u64,
-            ],
-        )?;
+    )
+}
+
+/// The number of an operation in its bar, where there is room for it.
+fn draw_number(
+    drawn: &mut Detail,
+    layout: &PictureLayout,
+    o: OpNo,
+    spot: ActSpot,
+) -> Result<(), NoMemory> {
+    let left = layout.x(spot.begun);
+    if right_of(layout, spot).saturating_sub(left) < 16 || layout.bar_height(spot) < 12 {
+        return Ok(());
     }
-    drawn.words("</g>\n")
+    drawn.fill(
+        "<text class=\"op\" x=\"@\" y=\"@\">@</text>",
+        &[
+            left.saturating_add(4)
+                .saturating_add(cut_of(layout, spot) / 2),
+            layout.bar_top(spot).saturating_add(11),
+            o as u64,
+        ],
+    )
 }
 
 /// Where an execution ends, or where the lines end before it does.

@@ -6,6 +6,19 @@ use asio_types::NoMemory;
 use session_script::Script;
 use trace_check::Verdict;
 
+/// What an SVG begins with, and its title up to the number of events.
+const HEAD: &str =
+    "<svg xmlns=\"http://www.w3.org/2000/svg\" width=\"@\" height=\"@\" viewBox=\"0 0 @ @\" \
+    role=\"img\" aria-labelledby=\"title desc\">\n<title id=\"title\">A session of ";
+
+/// What the rows and the bars are, behind the number of events.
+const ROWS: &str = " of a session, a column each; its acts: @, its strands: @. Rows from \
+    top to bottom: open, each strand, handlers without a strand, the reactor. \
+    Bars are executions, from begin to end. ";
+
+/// What lies under all.
+const GROUND: &str = "<rect class=\"other\" width=\"@\" height=\"@\"/>\n";
+
 /// How things look; nothing is told by colour alone.
 const STYLE: &str = "<style>text{font:11px sans-serif;fill:#222}\
     .name{font-weight:bold}.scale,.time{font-size:10px;fill:#444}\
@@ -18,6 +31,25 @@ const STYLE: &str = "<style>text{font:11px sans-serif;fill:#222}\
     .stop{fill:#a11}.round{stroke:#222;stroke-dasharray:2 3}\
     .broken{fill:none;stroke:#a11;stroke-width:3}</style>\n";
 
+/// What each shape means, from two heights.
+const LEGEND: &str = "<g transform=\"translate(16 @)\">\
+    <path class=\"bar\" d=\"M0 -10H30V4H0Z\"/><text x=\"36\" y=\"2\">execution</text>\
+    <path class=\"bar error\" d=\"M118 -10H140V4H110V-2Z\"/>\
+    <text x=\"146\" y=\"2\">with an error (cut corner)</text>\
+    <path class=\"call\" d=\"M300 -8v10\"/><text x=\"308\" y=\"2\">call</text>\
+    <path class=\"take\" d=\"M350 -7h8l-4 7z\"/><text x=\"364\" y=\"2\">taken</text>\
+    <circle class=\"done\" cx=\"420\" cy=\"-3\" r=\"4\"/><text x=\"430\" y=\"2\">completed</text>\
+    <path class=\"cancelled\" d=\"M504 -7l8 8m0 -8l-8 8\"/><text x=\"518\" y=\"2\">cancelled</text>\
+    <path class=\"failed\" d=\"M586 -7h8v8h-8z\"/><text x=\"600\" y=\"2\">failed</text>\
+    </g><g transform=\"translate(16 @)\">\
+    <path class=\"join\" d=\"M0 4L30 -10\"/><text x=\"36\" y=\"2\">what a call starts</text>\
+    <path class=\"join told\" d=\"M150 4L180 -10\"/><text x=\"186\" y=\"2\">its handler</text>\
+    <path class=\"tick\" d=\"M270 -12v16\"/><text x=\"278\" y=\"2\">time moves</text>\
+    <path class=\"dropped\" d=\"M356 -9h12v12h-12zl12 12m0 -12l-12 12\"/>\
+    <text x=\"374\" y=\"2\">handler destroyed</text>\
+    <path class=\"stop\" d=\"M488 -10h5l4 4v5l-4 4h-5l-4 -4v-5z\"/><text x=\"504\" y=\"2\">stop</text>\
+    <path class=\"round\" d=\"M546 -12v16\"/><text x=\"554\" y=\"2\">a round closes, or restart</text></g>\n";
+
 /// Draws what all else stands on: names, rows and the scale of lines.
 pub(super) fn draw_frame(
     drawn: &mut Detail,
@@ -26,20 +58,12 @@ pub(super) fn draw_frame(
     verdict: Verdict,
 ) -> Result<(), NoMemory> {
     let (width, height) = (layout.width(), layout.height());
-    drawn.fill(
-        "<svg xmlns=\"http://www.w3.org/2000/svg\" width=\"@\" height=\"@\" viewBox=\"0 0 @ @\"",
-        &[width, height, width, height],
-    )?;
-    drawn.words(" role=\"img\" aria-labelledby=\"title desc\">\n")?;
-    drawn.words("<title id=\"title\">A session of ")?;
+    drawn.fill(HEAD, &[width, height, width, height])?;
     name_events(drawn, layout)?;
     drawn.words("</title>\n")?;
     describe(drawn, layout, script, verdict)?;
     drawn.words(STYLE)?;
-    drawn.fill(
-        "<rect class=\"other\" width=\"@\" height=\"@\"/>\n",
-        &[width, height],
-    )?;
+    drawn.fill(GROUND, &[width, height])?;
     draw_heading(drawn, layout, verdict)?;
     draw_rows(drawn, layout)?;
     draw_scale(drawn, layout)
@@ -84,12 +108,7 @@ fn describe(
 ) -> Result<(), NoMemory> {
     drawn.words("<desc id=\"desc\">")?;
     name_events(drawn, layout)?;
-    drawn.fill(
-        " of a session, a column each; its acts: @, its strands: @. Rows from ",
-        &[script.acts() as u64, layout.strands() as u64],
-    )?;
-    drawn.words("top to bottom: open, each strand, handlers without a strand, the reactor. ")?;
-    drawn.words("Bars are executions, from begin to end. ")?;
+    drawn.fill(ROWS, &[script.acts() as u64, layout.strands() as u64])?;
     match verdict {
         Verdict::Legal => drawn.words("The history is legal."),
         Verdict::Illegal(number) => drawn.fill(
@@ -131,6 +150,20 @@ fn draw_row(
     name: &str,
     number: Option<u32>,
 ) -> Result<(), NoMemory> {
+    draw_shade(drawn, layout, row)?;
+    drawn.fill(
+        "<text class=\"name\" x=\"16\" y=\"@\">",
+        &[layout.middle(row).saturating_add(4)],
+    )?;
+    match number {
+        Some(number) => drawn.field(name, number as u64)?,
+        None => drawn.words(name)?,
+    }
+    drawn.words("</text>\n")
+}
+
+/// The ground of a row.
+fn draw_shade(drawn: &mut Detail, layout: &PictureLayout, row: u32) -> Result<(), NoMemory> {
     drawn.words(if row % 2 == 0 {
         "<rect class=\"row\""
     } else {
@@ -143,16 +176,7 @@ fn draw_row(
             layout.right().saturating_sub(10),
             layout.row_height(),
         ],
-    )?;
-    drawn.fill(
-        "<text class=\"name\" x=\"16\" y=\"@\">",
-        &[layout.middle(row).saturating_add(4)],
-    )?;
-    drawn.words(name)?;
-    if let Some(number) = number {
-        drawn.number(number as u64)?;
-    }
-    drawn.words("</text>\n")
+    )
 }
 
 /// How many lines of the trace are between two numbers of the scale.
@@ -219,44 +243,5 @@ pub(super) fn draw_end(
 /// What each shape means.
 fn draw_legend(drawn: &mut Detail, layout: &PictureLayout) -> Result<(), NoMemory> {
     let y = layout.floor().saturating_add(26);
-    drawn.fill("<g transform=\"translate(16 @)\">", &[y])?;
-    drawn.words(
-        "<path class=\"bar\" d=\"M0 -10H30V4H0Z\"/><text x=\"36\" y=\"2\">execution</text>",
-    )?;
-    drawn.words("<path class=\"bar error\" d=\"M118 -10H140V4H110V-2Z\"/>")?;
-    drawn.words("<text x=\"146\" y=\"2\">with an error (cut corner)</text>")?;
-    drawn.words("<path class=\"call\" d=\"M300 -8v10\"/><text x=\"308\" y=\"2\">call</text>")?;
-    drawn.words(
-        "<path class=\"take\" d=\"M350 -7h8l-4 7z\"/><text x=\"364\" y=\"2\">taken</text>",
-    )?;
-    drawn.words(
-        "<circle class=\"done\" cx=\"420\" cy=\"-3\" r=\"4\"/><text x=\"430\" y=\"2\">completed</text>",
-    )?;
-    drawn.words(
-        "<path class=\"cancelled\" d=\"M504 -7l8 8m0 -8l-8 8\"/><text x=\"518\" y=\"2\">cancelled</text>",
-    )?;
-    drawn.words(
-        "<path class=\"failed\" d=\"M586 -7h8v8h-8z\"/><text x=\"600\" y=\"2\">failed</text>",
-    )?;
-    drawn.fill(
-        "</g><g transform=\"translate(16 @)\">",
-        &[y.saturating_add(28)],
-    )?;
-    drawn.words(
-        "<path class=\"join\" d=\"M0 4L30 -10\"/><text x=\"36\" y=\"2\">what a call starts</text>",
-    )?;
-    drawn.words(
-        "<path class=\"join told\" d=\"M150 4L180 -10\"/><text x=\"186\" y=\"2\">its handler</text>",
-    )?;
-    drawn.words(
-        "<path class=\"tick\" d=\"M270 -12v16\"/><text x=\"278\" y=\"2\">time moves</text>",
-    )?;
-    drawn.words("<path class=\"dropped\" d=\"M356 -9h12v12h-12zl12 12m0 -12l-12 12\"/>")?;
-    drawn.words("<text x=\"374\" y=\"2\">handler destroyed</text>")?;
-    drawn.words(
-        "<path class=\"stop\" d=\"M488 -10h5l4 4v5l-4 4h-5l-4 -4v-5z\"/><text x=\"504\" y=\"2\">stop</text>",
-    )?;
-    drawn.words(
-        "<path class=\"round\" d=\"M546 -12v16\"/><text x=\"554\" y=\"2\">a round closes, or restart</text></g>\n",
-    )
+    drawn.fill(LEGEND, &[y, y.saturating_add(28)])
 }
