@@ -4,8 +4,8 @@ ghost use Rattle.session_script.specs.Script.{ScriptModel};
 ghost use Rattle.session_script.specs.declared.refusal.Refusal.{Refusal as Refusal_of};
 ghost use Rattle.text_io.specs.Counts.{CountsFailures, Stood};
 ghost use Rattle.text_io.specs.Seen.{Writes, WritesPart, seen_by};
-ghost use Rattle.text_io.specs.Text.{TakesSome};
-ghost use Rattle.trace_check.specs.Answer.{CheckAnswers, CheckCountsReads, CheckCountsWrites, CheckSays, Decides, IsBad, IsJudged, IsRefused, LeavesOut};
+ghost use Rattle.text_io.specs.Text.{ReadsText, TakesSome};
+ghost use Rattle.trace_check.specs.Answer.{CheckAnswers, CheckCountsReads, CheckCountsWrites, CheckGiven, CheckSays, Decides, IsBad, IsJudged, IsRefused, LeavesOut};
 ghost use Rattle.trace_check.specs.Ending.{check_note_at, check_status_of};
 ghost use Rattle.trace_check.specs.Form.{HasCheckForm, IsCheckForm, form_tells};
 ghost use Rattle.trace_check.specs.Line.{verdict_line};
@@ -87,7 +87,22 @@ fn end<S: Source, K: Sink>(
         Err(Unfinished::Failed) => return CheckEnding::ReadFault,
         Err(Unfinished::NoMemory) => return CheckEnding::NoMemory,
     };
-    let question = match question_of(alloc, input.as_slice()) {
+    end_of_input(alloc, form, input.as_slice(), out)
+}
+
+/// The session from the input on.
+fn end_of_input<K: Sink>(alloc: Global, form: CheckForm, input: &[u8], out: &mut K) -> CheckEnding
+    ensures says { (given : CheckGiven) → IsCheckForm given.words form →
+        ReadsText most_input_read given.source.told_before input.now given.source.told_after →
+        given.out ≡ seen_by K.written K.faults out.old out.new →
+        CheckSays given (check_status_of result) (check_note_at result) }
+    ensures quiet { LeavesOut (check_status_of result) → out.new ≡ out.old }
+    ensures used { check_status_of result ≡ status.Usage → ⊥ }
+    ensures reads { (faults : ℕ) → CheckCountsReads (check_status_of result) faults faults }
+    ensures writes { CheckCountsWrites (check_status_of result)
+        (K.faults out.old) (K.faults out.new) }
+{
+    let question = match question_of(alloc, input) {
         Ok(question) => question,
         Err(NoQuestion::Refused(refusal)) => return CheckEnding::Refused(refusal),
         Err(NoQuestion::BadTrace(line)) => return CheckEnding::BadTrace(line),
