@@ -72,6 +72,42 @@ pub fn finding_on(replay: &mut Replay, events: &[Event]) -> Finding
     Finding { verdict, reason }
 }
 
+/// What stands against the event with this number, from 1.
+fn explain_at(
+    detail: &mut Detail,
+    replay: &Replay,
+    events: &[Event],
+    number: u32,
+    reason: Option<Reason>,
+) -> Result<(), NoMemory> {
+    let index = (number as usize).saturating_sub(1);
+    let (Some(before), Some(event), Some(reason)) = (events.get(..index), events.get(index), reason)
+    else {
+        return Ok(());
+    };
+    explain(detail, &Situation { replay, before }, *event, reason)
+}
+
+/// What is said beside a finding.
+fn explain_finding(
+    detail: &mut Detail,
+    replay: &Replay,
+    events: &[Event],
+    said: Finding,
+) -> Result<(), NoMemory> {
+    match said.verdict {
+        Verdict::Legal => Ok(()),
+        Verdict::Incomplete => owed(
+            detail,
+            &Situation {
+                replay,
+                before: events,
+            },
+        ),
+        Verdict::Illegal(number) => explain_at(detail, replay, events, number, said.reason),
+    }
+}
+
 /// What is said beside the verdict and the condition.
 fn details(
     alloc: Global,
@@ -80,26 +116,7 @@ fn details(
     said: Finding,
 ) -> Result<Detail, NoMemory> {
     let mut detail = Detail::empty(alloc);
-    let Verdict::Illegal(number) = said.verdict else {
-        let at = Situation {
-            replay,
-            before: events,
-        };
-        if said.verdict == Verdict::Incomplete {
-            owed(&mut detail, &at)?;
-        }
-        return Ok(detail);
-    };
-    let index = (number as usize).saturating_sub(1);
-    let (Some(before), Some(event), Some(reason)) = (
-        events.get(..index),
-        events.get(index),
-        said.reason,
-    ) else {
-        return Ok(detail);
-    };
-    let at = Situation { replay, before };
-    explain(&mut detail, &at, *event, reason)?;
+    explain_finding(&mut detail, replay, events, said)?;
     Ok(detail)
 }
 

@@ -1,5 +1,5 @@
 use Rattle.std.proofs.Common.{Err, ap, refl, subst, sym}
-use Rattle.trace_check.specs.Question.{HasNoTrace, HasScriptFault, IsQuestionOf}
+use Rattle.trace_check.specs.Question.{IsQuestionOf}
 use Rattle.trace_show.proofs.ShownLemmas.{shown_of}
 use Rattle.trace_show.specs.Answer.{IsWritten}
 use Rattle.trace_show.proofs.session.end_of_input.Goals as goal
