@@ -1,20 +1,19 @@
 -- What the checker answers is what the rules say.
-use Rattle.std.proofs.Common.{◌≡◌, ℕ, ◌<◌, ◌≤◌, List, refl, ap, subst, sym, ◌∙◌, arith}
-use Rattle.std.proofs.lemmas.Bool.{eqb-true, eqb-false, eq-eqb, ltb-true, ltb-false, leb-true, le-leb, both_ways, and_parts, and_cases, cases_Bool}
-use Rattle.std.specs.Prelude.{Bool, true, false, ◌==◌, ◌&&◌, ◌⊎◌, ◌↔◌, nat_lt, nat_le, if◌then◌else◌, Option, Some, None, IsSome, IfSome, IsSomeAnd, IsTrue, Result, Ok, Err, MatchResult, is_some}
+use Rattle.std.proofs.Common.{◌≡◌, ℕ, ◌≤◌, List, refl, ap, subst, sym, ◌∙◌, arith}
+use Rattle.std.proofs.lemmas.Bool.{eqb-true, eqb-false, eq-eqb, ltb-true, ltb-false, leb-true, le-leb, both_ways, and_parts}
+use Rattle.std.specs.Prelude.{Bool, true, false, ◌==◌, ◌&&◌, ◌↔◌, nat_lt, if◌then◌else◌, Option, Some, None, IfSome, IsSomeAnd, IsTrue, Ok, Err, MatchResult, is_some}
 use Rattle.run_lines.specs.declared.code.Code.{Code}
 use Rattle.run_lines.specs.declared.line.Doing.{Doing}
 use Rattle.run_lines.specs.declared.line.Doing.TheVariants as doing
 use Rattle.run_lines.specs.declared.line.Line.{Line}
 use Rattle.run_lines.specs.declared.word.Word.{Word}
-use Rattle.run_rules.specs.declared.frame.Frame.{Frame}
 use Rattle.run_rules.specs.declared.frame.Frame.TheVariants.{Execution, Outside}
 use Rattle.run_rules.specs.declared.rule.Rule.{Rule}
 use Rattle.run_rules.specs.declared.rule.Rule.TheVariants as rule
 use Rattle.run_rules.specs.Stacks.{frame}
-use Rattle.run_rules.specs.Calls.{Waits, strand_of}
+use Rattle.run_rules.specs.Calls.{strand_of}
 use Rattle.run_rules.specs.Takings.{has_any}
-use Rattle.run_rules.specs.Starting.{GoesBefore, Holds, IsFirst, IsFree}
+use Rattle.run_rules.specs.Starting.{GoesBefore, Holds}
 use Rattle.run_rules.specs.MayCome.{MayDo, is_marked, last_call}
 use Rattle.run_rules.specs.Breaks.{BreaksByDoing}
 use Rattle.run_check.specs.After.{IsAfter, JudgesDoing, called_last, plain, spot_of, waiter_of}
@@ -61,18 +60,24 @@ use Rattle.run_check.proofs.RuleLemmas.{
 }
 
 -- an answer to a test
-asked_judges : (past : List Line) (thread : ℕ) (does : Doing) (broken : Rule) (test : Bool) → (test ≡ true → MayDo plain past thread does) → (test ≡ false → BreaksByDoing plain past thread does broken) → JudgesDoing past thread does (asked test broken)
+asked_judges : (past : List Line) (thread : ℕ) (does : Doing) (broken : Rule) (test : Bool)
+    → (test ≡ true → MayDo plain past thread does) → (test ≡ false → BreaksByDoing plain past thread does broken)
+    → JudgesDoing past thread does (asked test broken)
 asked_judges past thread does broken true holds fails = holds refl
 asked_judges past thread does broken false holds fails = fails refl
 
-above_judges : (past : List Line) (op : ℕ) (how : Word) (context : ℕ) (strand thing : Option ℕ) (checker : Checker) → IsAfter past checker → (last : Option ℕ) → called_last past ≡ last
+above_judges : (past : List Line) (op : ℕ) (how : Word) (context : ℕ) (strand thing : Option ℕ) (checker : Checker)
+    → IsAfter past checker → (last : Option ℕ) → called_last past ≡ last
     → JudgesDoing past 0 (doing.Call op how context strand thing) (asked (is_above last op) rule.New)
-above_judges past op how context strand thing checker after None is = may_call_new past op how thing (new_first past op after.legal is)
+above_judges past op how context strand thing checker after None is =
+    may_call_new past op how thing (new_first past op after.legal is)
 above_judges past op how context strand thing checker after (Some last) is =
     asked_judges past 0 (doing.Call op how context strand thing) rule.New (nat_lt last op)
-    (λ less. may_call_new past op how thing (new_above past op last after.legal is (ltb-true last op less))) (λ not. new_not past op last is (ltb-false last op not))
+    (λ less. may_call_new past op how thing (new_above past op last after.legal is (ltb-true last op less)))
+    (λ not. new_not past op last is (ltb-false last op not))
 
-pub call_judges : (past : List Line) (checker : Checker) (op : ℕ) (how : Word) (context : ℕ) (strand thing : Option ℕ) → IsAfter past checker → (answer : Judged) → answer ≡ asked (is_above checker.greatest op) rule.New
+pub call_judges : (past : List Line) (checker : Checker) (op : ℕ) (how : Word) (context : ℕ) (strand thing : Option ℕ)
+    → IsAfter past checker → (answer : Judged) → answer ≡ asked (is_above checker.greatest op) rule.New
     → JudgesDoing past 0 (doing.Call op how context strand thing) answer
 call_judges past checker op how context strand thing after answer is =
     subst (λ (a : Judged). JudgesDoing past 0 (doing.Call op how context strand thing) a) (sym is)
@@ -89,49 +94,72 @@ number_not (Some number) op not is = eqb-false number op not (some_number number
     some_number : (a b : ℕ) → Some a ≡ Some b → a ≡ b
     some_number a b e = cc
 
-pub return_judges : (past : List Line) (thread op : ℕ) (last : Option ℕ) → last ≡ last_call past (frame past thread) → (answer : Judged) → answer ≡ asked (is_number last op) rule.Returns → JudgesDoing past thread (doing.Back op) answer
+pub return_judges : (past : List Line) (thread op : ℕ) (last : Option ℕ) → last ≡ last_call past (frame past thread)
+    → (answer : Judged) → answer ≡ asked (is_number last op) rule.Returns → JudgesDoing past thread (doing.Back op) answer
 return_judges past thread op last same answer is =
     subst (λ (a : Judged). JudgesDoing past thread (doing.Back op) a) (sym is)
-    (asked_judges past thread (doing.Back op) rule.Returns (is_number last op) (λ yes. record { returns = sym same ∙ number_is last op yes }) (λ no e. number_not last op no (same ∙ e)))
+    (asked_judges past thread (doing.Back op) rule.Returns (is_number last op) (λ yes. record {
+      returns = sym same
+          ∙ number_is last op yes;
+    }) (λ no e. number_not last op no (same ∙ e)))
 
-completion_by : (past : List Line) (op : ℕ) (what : Code) (size : ℕ) (waiter : Waiter) → Says past op waiter → (how : CallKind) (outcome : Option Outcome) → waiter.kind ≡ how → waiter.outcome ≡ outcome
+completion_by : (past : List Line) (op : ℕ) (what : Code) (size : ℕ) (waiter : Waiter) → Says past op waiter
+    → (how : CallKind) (outcome : Option Outcome) → waiter.kind ≡ how → waiter.outcome ≡ outcome
     → JudgesDoing past 0 (doing.Done op what size) (completion_judged (Some (record waiter { kind = how; outcome = outcome })))
-completion_by past op what size waiter says kind.Posting outcome k o = (says_waits past op waiter says, says_posting past op waiter says (λ e. posting_async (sym k ∙ e)))
+completion_by past op what size waiter says kind.Posting outcome k o =
+    (says_waits past op waiter says, says_posting past op waiter says (λ e. posting_async (sym k ∙ e)))
   where
     posting_async : kind.Posting ≡ kind.Asynchronous → ⊥
     posting_async e = cc
-completion_by past op what size waiter says kind.Dispatch outcome k o = (says_waits past op waiter says, says_posting past op waiter says (λ e. dispatch_async (sym k ∙ e)))
+completion_by past op what size waiter says kind.Dispatch outcome k o =
+    (says_waits past op waiter says, says_posting past op waiter says (λ e. dispatch_async (sym k ∙ e)))
   where
     dispatch_async : kind.Dispatch ≡ kind.Asynchronous → ⊥
     dispatch_async e = cc
 completion_by past op what size waiter says kind.Asynchronous None k o =
-    record { waiting = says_waits past op waiter says; asynchronous = says_no_posting past op waiter says k; done_once = says_undone past op waiter says o }
+    record {
+      waiting = says_waits past op waiter says;
+      asynchronous = says_no_posting past op waiter says k;
+      done_once =
+          says_undone past op waiter says o;
+    }
 completion_by past op what size waiter says kind.Asynchronous (Some outcome) k o =
     (says_waits past op waiter says, says_no_posting past op waiter says k, says_done past op waiter outcome says o)
 
-completion_at : (past : List Line) (op : ℕ) (what : Code) (size : ℕ) (found : Option Waiter) → waiter_of past op ≡ found → JudgesDoing past 0 (doing.Done op what size) (completion_judged found)
+completion_at : (past : List Line) (op : ℕ) (what : Code) (size : ℕ) (found : Option Waiter) → waiter_of past op ≡ found
+    → JudgesDoing past 0 (doing.Done op what size) (completion_judged found)
 completion_at past op what size None is = waits_not past op is
-completion_at past op what size (Some waiter) is = completion_by past op what size waiter (waiter_says past op waiter is) waiter.kind waiter.outcome refl refl
+completion_at past op what size (Some waiter) is =
+    completion_by past op what size waiter (waiter_says past op waiter is) waiter.kind waiter.outcome refl refl
 
-pub completion_judges : (past : List Line) (checker : Checker) (op : ℕ) (what : Code) (size : ℕ) → IsAfter past checker → (answer : Judged) → answer ≡ completion_judged (waiting_at checker.waiting op)
+pub completion_judges : (past : List Line) (checker : Checker) (op : ℕ) (what : Code) (size : ℕ) → IsAfter past checker
+    → (answer : Judged) → answer ≡ completion_judged (waiting_at checker.waiting op)
     → JudgesDoing past 0 (doing.Done op what size) answer
 completion_judges past checker op what size after answer is =
-    subst (λ (a : Judged). JudgesDoing past 0 (doing.Done op what size) a) (sym is) (completion_at past op what size (waiting_at checker.waiting op) (sym (after.waiting op)))
+    subst (λ (a : Judged). JudgesDoing past 0 (doing.Done op what size) a) (sym is)
+    (completion_at past op what size (waiting_at checker.waiting op) (sym (after.waiting op)))
 
-drop_at : (past : List Line) (op : ℕ) (found : Option Waiter) → waiter_of past op ≡ found → JudgesDoing past 0 (doing.Drop op) (asked (is_some found) rule.Waiting)
+drop_at : (past : List Line) (op : ℕ) (found : Option Waiter) → waiter_of past op ≡ found
+    → JudgesDoing past 0 (doing.Drop op) (asked (is_some found) rule.Waiting)
 drop_at past op None is = waits_not past op is
 drop_at past op (Some waiter) is = record { waiting = says_waits past op waiter (waiter_says past op waiter is) }
 
-pub drop_judges : (past : List Line) (checker : Checker) (op : ℕ) → IsAfter past checker → (answer : Judged) → answer ≡ asked (is_some (waiting_at checker.waiting op)) rule.Waiting → JudgesDoing past 0 (doing.Drop op) answer
+pub drop_judges : (past : List Line) (checker : Checker) (op : ℕ) → IsAfter past checker → (answer : Judged)
+    → answer ≡ asked (is_some (waiting_at checker.waiting op)) rule.Waiting → JudgesDoing past 0 (doing.Drop op) answer
 drop_judges past checker op after answer is =
-    subst (λ (a : Judged). JudgesDoing past 0 (doing.Drop op) a) (sym is) (drop_at past op (waiting_at checker.waiting op) (sym (after.waiting op)))
+    subst (λ (a : Judged). JudgesDoing past 0 (doing.Drop op) a) (sym is)
+    (drop_at past op (waiting_at checker.waiting op) (sym (after.waiting op)))
 
 -- what a number on top of a stack says of who writes
-frame_some : (past : List Line) (checker : Checker) → IsAfter past checker → (thread op : ℕ) → innermost_of checker.stacks thread ≡ Some op → frame past thread ≡ Execution op
-frame_some past checker after thread op is = sym (kept_frame past checker after thread) ∙ ap (λ (o : Option ℕ). frame_at o thread) is
+frame_some : (past : List Line) (checker : Checker) → IsAfter past checker → (thread op : ℕ)
+    → innermost_of checker.stacks thread ≡ Some op → frame past thread ≡ Execution op
+frame_some past checker after thread op is = sym (kept_frame past checker after thread)
+    ∙ ap (λ (o : Option ℕ). frame_at o thread) is
 
-frame_none : (past : List Line) (checker : Checker) → IsAfter past checker → (thread op : ℕ) → innermost_of checker.stacks thread ≡ None → frame past thread ≡ Execution op → ⊥
-frame_none past checker after thread op is e = outside_not (sym (ap (λ (o : Option ℕ). frame_at o thread) is) ∙ kept_frame past checker after thread ∙ e)
+frame_none : (past : List Line) (checker : Checker) → IsAfter past checker → (thread op : ℕ)
+    → innermost_of checker.stacks thread ≡ None → frame past thread ≡ Execution op → ⊥
+frame_none past checker after thread op is e = outside_not (sym (ap (λ (o : Option ℕ). frame_at o thread) is)
+    ∙ kept_frame past checker after thread ∙ e)
   where
     outside_not : Outside thread ≡ Execution op → ⊥
     outside_not h = cc
@@ -139,26 +167,34 @@ frame_none past checker after thread op is e = outside_not (sym (ap (λ (o : Opt
 some_execution : (a b : ℕ) → Execution a ≡ Execution b → a ≡ b
 some_execution a b e = cc
 
-end_at : (past : List Line) (checker : Checker) → IsAfter past checker → (thread op : ℕ) (taken : Bool) → taken ≡ has_any past (Execution op) → (top : Option ℕ) → innermost_of checker.stacks thread ≡ top
+end_at : (past : List Line) (checker : Checker) → IsAfter past checker → (thread op : ℕ) (taken : Bool)
+    → taken ≡ has_any past (Execution op) → (top : Option ℕ) → innermost_of checker.stacks thread ≡ top
     → JudgesDoing past thread (doing.End op) (end_judged top op taken)
 end_at past checker after thread op taken is None top = frame_none past checker after thread op top
 end_at past checker after thread op taken is (Some innermost) top = by_test (innermost == op) refl
   where
-    by_taken : frame past thread ≡ Execution op → (b : Bool) → b ≡ has_any past (Execution op) → JudgesDoing past thread (doing.End op) (if b then Err rule.Clean else Ok tt)
+    by_taken : frame past thread ≡ Execution op → (b : Bool) → b ≡ has_any past (Execution op)
+        → JudgesDoing past thread (doing.End op) (if b then Err rule.Clean else Ok tt)
     by_taken first true e = (first, λ clean. both_ways (has_any past (Execution op)) clean (sym e))
     by_taken first false e = record { innermost = first; clean = sym e }
 
-    by_test : (b : Bool) → (innermost == op) ≡ b → JudgesDoing past thread (doing.End op) (if b then (if taken then Err rule.Clean else Ok tt) else Err rule.Innermost)
-    by_test true e = by_taken (frame_some past checker after thread innermost top ∙ ap Execution (eqb-true innermost op e)) taken is
-    by_test false e = λ first. eqb-false innermost op e (some_execution innermost op (sym (frame_some past checker after thread innermost top) ∙ first))
+    by_test : (b : Bool) → (innermost == op) ≡ b → JudgesDoing past thread (doing.End op)
+        (if b then (if taken then Err rule.Clean else Ok tt) else Err rule.Innermost)
+    by_test true e = by_taken (frame_some past checker after thread innermost top
+        ∙ ap Execution (eqb-true innermost op e)) taken is
+    by_test false e = λ first. eqb-false innermost op e
+        (some_execution innermost op (sym (frame_some past checker after thread innermost top) ∙ first))
 
-pub end_judges : (past : List Line) (checker : Checker) → IsAfter past checker → (thread op : ℕ) (taken : Bool) → taken ≡ has_any past (Execution op) → (answer : Judged) → answer ≡ end_judged (innermost_of checker.stacks thread) op taken
+pub end_judges : (past : List Line) (checker : Checker) → IsAfter past checker → (thread op : ℕ) (taken : Bool)
+    → taken ≡ has_any past (Execution op) → (answer : Judged) → answer ≡ end_judged (innermost_of checker.stacks thread) op taken
     → JudgesDoing past thread (doing.End op) answer
 end_judges past checker after thread op taken same answer is =
-    subst (λ (a : Judged). JudgesDoing past thread (doing.End op) a) (sym is) (end_at past checker after thread op taken same (innermost_of checker.stacks thread) refl)
+    subst (λ (a : Judged). JudgesDoing past thread (doing.End op) a) (sym is)
+    (end_at past checker after thread op taken same (innermost_of checker.stacks thread) refl)
 
 -- an end by an exception is judged like one without
-pub throw_judges : (past : List Line) (thread op : ℕ) (answer : Judged) → JudgesDoing past thread (doing.End op) answer → JudgesDoing past thread (doing.Throw op) answer
+pub throw_judges : (past : List Line) (thread op : ℕ) (answer : Judged) → JudgesDoing past thread (doing.End op) answer
+    → JudgesDoing past thread (doing.Throw op) answer
 throw_judges past thread op (Ok done) judged = judged
 throw_judges past thread op (Err rule.New) judged = judged
 throw_judges past thread op (Err rule.Single) judged = judged
@@ -178,9 +214,13 @@ throw_judges past thread op (Err rule.Locked) judged = judged
 throw_judges past thread op (Err rule.Marked) judged = judged
 
 -- the first of a queue says whether any stands there so long
-pub upto_from : (past : List Line) (strand : ℕ) (first : Option (ℕ × ℕ)) (entry : Option ℕ) → ((op place : ℕ) → spot_of past op ≡ Some (strand, place) → IsSomeAnd first (λ f. f.0 ≤ place))
+pub upto_from : (past : List Line) (strand : ℕ) (first : Option (ℕ × ℕ)) (entry : Option ℕ)
+    → ((op place : ℕ) → spot_of past op ≡ Some (strand, place) → IsSomeAnd first (λ f. f.0 ≤ place))
     → IfSome first (λ f. spot_of past f.1 ≡ Some (strand, f.0)) → IsTrue (is_upto first entry) ↔ SomeGoesBefore past strand entry
-upto_from past strand None entry least stands = (λ yes. absurd (false_true yes), λ before. absurd (least before.0 before.1 before.2))
+upto_from past strand None entry least stands = (
+  λ yes. absurd (false_true yes),
+  λ before. absurd (least before.0 before.1 before.2),
+)
   where
     false_true : false ≡ true → ⊥
     false_true e = cc
@@ -190,12 +230,16 @@ upto_from past strand (Some first) None least stands = (λ yes. absurd (false_tr
     false_true e = cc
 upto_from past strand (Some first) (Some entry) least stands = (
   λ yes. (first.1, first.0, stands, leb-true first.0 entry yes),
-  λ before. let below : first.0 ≤ before.1 = least before.0 before.1 before.2 in let upto : before.1 ≤ entry = before.3 in le-leb first.0 entry (omega arith),
+  λ before. let below : first.0 ≤ before.1 = least before.0 before.1 before.2 in let upto : before.1 ≤ entry = before.3 in
+      le-leb first.0 entry (omega arith),
 )
 
 -- what a strand says of an operation that may begin otherwise
-start_at : (past : List Line) (checker : Checker) → IsAfter past checker → (thread op : ℕ) (what : Code) (size strand : ℕ) (waiter : Waiter) → Says past op waiter → MayHaveOutcome waiter what size → strand_of past op ≡ Some strand
-    → (inside later : Bool) → IsTrue inside ↔ BeginsInside checker.stacks thread waiter → IsTrue later ↔ SomeGoesBefore past strand waiter.entry → (holder : Option ℕ) → holder_of checker.strands strand ≡ holder
+start_at : (past : List Line) (checker : Checker) → IsAfter past checker
+    → (thread op : ℕ) (what : Code) (size strand : ℕ) (waiter : Waiter) → Says past op waiter → MayHaveOutcome waiter what size
+    → strand_of past op ≡ Some strand
+    → (inside later : Bool) → IsTrue inside ↔ BeginsInside checker.stacks thread waiter
+    → IsTrue later ↔ SomeGoesBefore past strand waiter.entry → (holder : Option ℕ) → holder_of checker.strands strand ≡ holder
     → JudgesDoing past thread (doing.Begin op what size) (start_judged holder thread inside later)
 start_at past checker after thread op what size strand waiter says fits on inside later is_inside is_later None is =
     by_later later refl
@@ -216,18 +260,22 @@ start_at past checker after thread op what size strand waiter says fits on insid
       outcome = outcome_fits past op waiter what size after.legal says fits;
       free = idle_free past checker after thread op strand on is;
       first = λ other first here idle before. let same : strand ≡ other = some_number strand other (sym on ∙ here) in
-          both_ways later e (is_later.1 (says_before past op strand first waiter says (subst (λ (s : ℕ). GoesBefore past first op s) (sym same) before)));
+          both_ways later e (is_later.1 (says_before past op strand first waiter says
+          (subst (λ (s : ℕ). GoesBefore past first op s) (sym same) before)));
     }
 start_at past checker after thread op what size strand waiter says fits on inside later is_inside is_later (Some holder) is =
     by_test (holder == thread && inside) refl
   where
-    by_test : (b : Bool) → (holder == thread && inside) ≡ b → JudgesDoing past thread (doing.Begin op what size) (if b then Ok tt else Err rule.Free)
+    by_test : (b : Bool) → (holder == thread && inside) ≡ b
+        → JudgesDoing past thread (doing.Begin op what size) (if b then Ok tt else Err rule.Free)
     by_test true e = let parts = and_parts (holder == thread) inside e in
-        let held : holder_of checker.strands strand ≡ Some thread = is ∙ ap (λ (n : ℕ). Some n) (eqb-true holder thread parts.0) in
+        let held : holder_of checker.strands strand ≡ Some thread = is
+        ∙ ap (λ (n : ℕ). Some n) (eqb-true holder thread parts.0) in
         record {
           waiting = says_waits past op waiter says;
           outcome = outcome_fits past op waiter what size after.legal says fits;
-          free = inside_free past checker after thread op strand on held (inside_says past checker after thread op waiter says (is_inside.0 parts.1));
+          free = inside_free past checker after thread op strand on held
+              (inside_says past checker after thread op waiter says (is_inside.0 parts.1));
           first = held_first past checker after thread op strand on held;
         }
     by_test false e = (
@@ -235,7 +283,8 @@ start_at past checker after thread op what size strand waiter says fits on insid
       outcome_fits past op waiter what size after.legal says fits,
       λ free.
           let may = free strand holder on (holder_holds past checker after holder strand is) in
-          not_both (holder == thread) inside e (eq-eqb holder thread may.0) (is_inside.1 (says_inside past checker after thread op waiter says may.1)),
+          not_both (holder == thread) inside e (eq-eqb holder thread may.0)
+          (is_inside.1 (says_inside past checker after thread op waiter says may.1)),
     )
       where
         not_both : (a b : Bool) → (a && b) ≡ false → a ≡ true → b ≡ true → ⊥
@@ -243,35 +292,56 @@ start_at past checker after thread op what size strand waiter says fits on insid
         not_both true false e a b = cc
         not_both false b e a c = cc
 
-pub start_judges : (past : List Line) (checker : Checker) → IsAfter past checker → (thread op : ℕ) (what : Code) (size strand : ℕ) (waiter : Waiter) → waiter_of past op ≡ Some waiter → MayHaveOutcome waiter what size → waiter.strand ≡ Some strand
-    → (inside later : Bool) → IsTrue inside ↔ BeginsInside checker.stacks thread waiter → IsTrue later ↔ SomeGoesBefore past strand waiter.entry → (answer : Judged) → answer ≡ start_judged (holder_of checker.strands strand) thread inside later
+pub start_judges : (past : List Line) (checker : Checker) → IsAfter past checker
+    → (thread op : ℕ) (what : Code) (size strand : ℕ) (waiter : Waiter) → waiter_of past op ≡ Some waiter
+    → MayHaveOutcome waiter what size → waiter.strand ≡ Some strand
+    → (inside later : Bool) → IsTrue inside ↔ BeginsInside checker.stacks thread waiter
+    → IsTrue later ↔ SomeGoesBefore past strand waiter.entry → (answer : Judged)
+    → answer ≡ start_judged (holder_of checker.strands strand) thread inside later
     → JudgesDoing past thread (doing.Begin op what size) answer
 start_judges past checker after thread op what size strand waiter found fits on inside later is_inside is_later answer is =
     let says : Says past op waiter = waiter_says past op waiter found in
     subst (λ (a : Judged). JudgesDoing past thread (doing.Begin op what size) a) (sym is)
-    (start_at past checker after thread op what size strand waiter says fits (says_strand past op waiter says ∙ on) inside later is_inside is_later (holder_of checker.strands strand) refl)
+    (start_at past checker after thread op what size strand waiter says fits (says_strand past op waiter says
+    ∙ on) inside later is_inside is_later (holder_of checker.strands strand) refl)
 
-pub free_judges : (past : List Line) (checker : Checker) → IsAfter past checker → (thread op : ℕ) (what : Code) (size : ℕ) (waiter : Waiter) → waiter_of past op ≡ Some waiter → MayHaveOutcome waiter what size → waiter.strand ≡ None
+pub free_judges : (past : List Line) (checker : Checker) → IsAfter past checker
+    → (thread op : ℕ) (what : Code) (size : ℕ) (waiter : Waiter) → waiter_of past op ≡ Some waiter
+    → MayHaveOutcome waiter what size → waiter.strand ≡ None
     → MayDo plain past thread (doing.Begin op what size)
 free_judges past checker after thread op what size waiter found fits none =
     let says : Says past op waiter = waiter_says past op waiter found in
     let off : strand_of past op ≡ None = says_strand past op waiter says ∙ none in
-    record { waiting = says_waits past op waiter says; outcome = outcome_fits past op waiter what size after.legal says fits; free = no_strand_free past thread op off; first = no_strand_first past op off }
+    record {
+      waiting = says_waits past op waiter says;
+      outcome =
+          outcome_fits past op waiter what size after.legal says fits;
+      free = no_strand_free past thread op off;
+      first =
+          no_strand_first past op off;
+    }
 
-pub misfit_judges : (past : List Line) (thread op : ℕ) (what : Code) (size : ℕ) (waiter : Waiter) → waiter_of past op ≡ Some waiter → (MayHaveOutcome waiter what size → ⊥)
+pub misfit_judges : (past : List Line) (thread op : ℕ) (what : Code) (size : ℕ) (waiter : Waiter)
+    → waiter_of past op ≡ Some waiter → (MayHaveOutcome waiter what size → ⊥)
     → BreaksByDoing plain past thread (doing.Begin op what size) rule.Outcome
 misfit_judges past thread op what size waiter found misfits =
-    let says : Says past op waiter = waiter_says past op waiter found in (says_waits past op waiter says, λ has. misfits (outcome_refits past op waiter what size says has))
+    let says : Says past op waiter = waiter_says past op waiter found in
+    (says_waits past op waiter says, λ has. misfits (outcome_refits past op waiter what size says has))
 
 -- an answer to a test that is a fact
-pub fact_judges : {P : Type 0} (test : Bool) (broken : Rule) → IsTrue test ↔ P → (answer : Judged) → answer ≡ asked test broken → MatchResult answer (λ _. P) (λ named. (named ≡ broken) × (P → ⊥))
-fact_judges {P} true broken iff answer is = subst (λ (a : Judged). MatchResult a (λ _. P) (λ named. (named ≡ broken) × (P → ⊥))) (sym is) (iff.0 refl)
-fact_judges {P} false broken iff answer is = subst (λ (a : Judged). MatchResult a (λ _. P) (λ named. (named ≡ broken) × (P → ⊥))) (sym is) (refl, λ p. false_true (iff.1 p))
+pub fact_judges : {P : Type 0} (test : Bool) (broken : Rule) → IsTrue test ↔ P → (answer : Judged) → answer ≡ asked test broken
+    → MatchResult answer (λ _. P) (λ named. (named ≡ broken) × (P → ⊥))
+fact_judges {P} true broken iff answer is = subst (λ (a : Judged). MatchResult a (λ _. P) (λ named. (named ≡ broken)
+    × (P → ⊥))) (sym is) (iff.0 refl)
+fact_judges {P} false broken iff answer is = subst
+    (λ (a : Judged). MatchResult a (λ _. P) (λ named. (named ≡ broken) × (P → ⊥))) (sym is) (refl, λ p. false_true (iff.1 p))
   where
     false_true : false ≡ true → ⊥
     false_true e = cc
 
-pub mark_judges : (past : List Line) (mark : ℕ) (test : Bool) → test ≡ is_marked past mark → (answer : Judged) → answer ≡ asked test rule.Marked → JudgesDoing past 0 (doing.After mark) answer
+pub mark_judges : (past : List Line) (mark : ℕ) (test : Bool) → test ≡ is_marked past mark → (answer : Judged)
+    → answer ≡ asked test rule.Marked → JudgesDoing past 0 (doing.After mark) answer
 mark_judges past mark test same answer is =
     subst (λ (a : Judged). JudgesDoing past 0 (doing.After mark) a) (sym is)
-    (asked_judges past 0 (doing.After mark) rule.Marked test (λ yes. record { marked = sym same ∙ yes }) (λ no marked. both_ways test no (same ∙ marked)))
+    (asked_judges past 0 (doing.After mark) rule.Marked test (λ yes. record { marked = sym same ∙ yes })
+    (λ no marked. both_ways test no (same ∙ marked)))

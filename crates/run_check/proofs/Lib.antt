@@ -1,5 +1,6 @@
 pub mod CountLemmas
 pub mod QueueLemmas
+pub mod TableLemmas
 pub mod TestLemmas
 pub mod StackLemmas
 pub mod RuleLemmas

@@ -3,7 +3,6 @@ use Rattle.std.specs.Prelude.{◌≡◌, ℕ, List, [], ◌∷◌, Bool, true, f
 use Rattle.std.specs.List.{list_any}
 use Rattle.std.specs.Option.{option_eq, option_map, option_or}
 use Rattle.run_lines.specs.declared.line.Doing.{Doing}
-use Rattle.run_lines.specs.declared.line.Doing.TheVariants as doing
 use Rattle.run_lines.specs.declared.line.Line.{Line}
 use Rattle.run_lines.specs.declared.word.Word.{Word}
 use Rattle.run_lines.specs.declared.word.Word.TheVariants as word
@@ -28,7 +27,6 @@ use Rattle.run_check.specs.Strands.{holder_of}
 use Rattle.run_check.specs.Takings.{AreCounted}
 use Rattle.run_check.specs.Waiting.{waiting_at}
 use Rattle.run_check.specs.declared.checker.Checker.{Checker}
-use Rattle.run_check.specs.declared.stacks.Execution.{Execution}
 use Rattle.run_check.specs.declared.stacks.Stacks.{Stacks}
 use Rattle.run_check.specs.declared.waiting.CallKind.{CallKind}
 use Rattle.run_check.specs.declared.waiting.CallKind.TheVariants as kind

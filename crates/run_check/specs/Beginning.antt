@@ -1,5 +1,5 @@
 -- What the checker asks of an operation that is to begin.
-use Rattle.std.specs.Prelude.{◌≡◌, ◌≢◌, ◌≤◌, ℕ, List, Option, Some, None, IsSomeAnd, IfSome}
+use Rattle.std.specs.Prelude.{◌≡◌, ◌≤◌, ℕ, List, Option, Some, None, IsSomeAnd}
 use Rattle.run_lines.specs.declared.code.Code.{Code}
 use Rattle.run_lines.specs.declared.code.Code.TheVariants as code
 use Rattle.run_lines.specs.declared.line.Line.{Line}

@@ -1,6 +1,5 @@
 -- What the checker answers, by what it keeps.
 use Rattle.std.specs.Prelude.{ℕ, Bool, true, false, ◌==◌, ◌&&◌, nat_lt, nat_le, if◌then◌else◌, Option, Some, None, Result, Ok, Err}
-use Rattle.run_rules.specs.declared.frame.Frame.{Frame}
 use Rattle.run_rules.specs.declared.rule.Rule.{Rule}
 use Rattle.run_rules.specs.declared.rule.Rule.TheVariants as rule
 use Rattle.run_check.specs.declared.waiting.CallKind.{CallKind}

@@ -1,5 +1,5 @@
 -- What the checker keeps of what is taken.
-use Rattle.std.specs.Prelude.{◌≡◌, ◌≢◌, ◌+◌, ℕ, List, [], ◌∷◌, Bool, false, ◌==◌, ◌&&◌, if◌then◌else◌}
+use Rattle.std.specs.Prelude.{◌≡◌, ◌≢◌, ◌+◌, ℕ, List, [], ◌∷◌, Bool, false, ◌==◌, ◌&&◌, if◌then◌else◌, length}
 use Rattle.std.specs.List.{list_any}
 use Rattle.run_rules.specs.declared.frame.Frame.{Frame}
 use Rattle.run_rules.specs.declared.taking.Resource.{Resource}
@@ -37,3 +37,4 @@ pub record AreCounted (all : List Taking) (kept : Takings) : Type 0 where
   pub by_frame : (who : Frame) → count_of same_frame kept.by_frame who ≡ times (λ (one : Taking). same_frame one.frame who) all
   pub by_resource : (resource : Resource) → count_of same_resource kept.by_resource resource ≡ times (λ (one : Taking). same_resource one.resource resource) all
   pub by_thread : (thread : ℕ) (resource : Resource) → count_of same_claimant kept.by_thread (record { thread = thread; resource = resource }) ≡ times (is_of thread resource) all
+  pub number : kept.number ≡ length all

@@ -1,4 +1,4 @@
-ghost use Rattle.std.specs.Prelude.{◌≡◌, ◌↔◌, ℕ, [], ◌∷◌, false, IfOk, List, Option, Some, IsTrue, MatchResult};
+ghost use Rattle.std.specs.Prelude.{◌≡◌, ◌↔◌, ℕ, [], ◌∷◌, false, length, IfOk, IfSome, List, Option, Some, IsTrue, MatchResult};
 ghost use Rattle.run_lines.specs.declared.line.Line.{Line};
 ghost use Rattle.run_lines.specs.declared.line.Doing.{Doing};
 ghost use Rattle.run_lines.specs.declared.word.Word.{Word};
@@ -65,13 +65,16 @@ fn is_execution(who: Frame, op: u64) -> bool
 }
 
 impl Checker {
-    ghost use Rattle.run_check.specs.After.{IsAfter, JudgesDoing, is_spent, let_in, plain, waiter_of};
+    ghost use Rattle.run_check.specs.After.{IsAfter, JudgesDoing, called_last, is_spent, let_in, plain, spot_of, waiter_of};
     ghost use Rattle.run_check.specs.Steps.{GoesWith, Steps};
-    ghost use Rattle.run_check.specs.Entered.{entered_of};
+    ghost use Rattle.run_check.specs.Entered.{entered_last, entered_of};
     ghost use Rattle.run_check.specs.Following.{to_place};
     ghost use Rattle.run_check.specs.Waiting.{waiting_at};
-    ghost use Rattle.run_rules.specs.Stacks.{stack};
-    ghost use Rattle.run_rules.specs.Calls.{strand_of};
+    ghost use Rattle.run_rules.specs.Stacks.{frame, stack};
+    ghost use Rattle.run_rules.specs.Starting.{Holds};
+    ghost use Rattle.run_rules.specs.Takings.{taken};
+    ghost use Rattle.run_rules.specs.MayCome.{last_call};
+    ghost use Rattle.run_rules.specs.Calls.{Waits, strand_of};
     ghost use Rattle.run_check.specs.Beginning.{BeginsInside, MayHaveOutcome, SomeGoesBefore};
 
     /// A checker that has followed nothing.
@@ -90,6 +93,85 @@ impl Checker {
             takings: Takings::new(alloc),
             marks: Marks::new(alloc),
         }
+    }
+
+    /// How many lines were followed.
+    pub fn lines(&self) -> u64
+        ensures { (past : List Line) → IsAfter past self.now → result ≡ length past }
+    {
+        self.lines
+    }
+
+    /// The operation that was called last.
+    pub fn greatest(&self) -> Option<u64>
+        ensures { (past : List Line) → IsAfter past self.now → result ≡ called_last past }
+    {
+        self.greatest
+    }
+
+    /// What is known of an operation that waits.
+    pub fn waiter(&self, op: u64) -> Option<Waiter>
+        ensures { (past : List Line) → IsAfter past self.now → result ≡ waiter_of past op }
+    {
+        self.waiting.get(op)
+    }
+
+    /// Who writes the next line of a thread.
+    pub fn frame(&self, thread: u64) -> Frame
+        ensures { (past : List Line) → IsAfter past self.now → result ≡ frame past thread }
+    {
+        self.stacks.frame(thread)
+    }
+
+    /// The last call of the frame that writes the next line of a thread, if it isn't known to be back.
+    pub fn last_call(&self, thread: u64) -> Option<u64>
+        ensures { (past : List Line) → IsAfter past self.now → result ≡ last_call past (frame past thread) }
+    {
+        let frame = self.stacks.frame(thread);
+        self.last_calls.of(frame)
+    }
+
+    /// The operation whose handler a thread submitted by its last line.
+    pub fn submitted(&self, thread: u64) -> Option<u64>
+        ensures { (past : List Line) → IsAfter past self.now → result ≡ entered_last past thread }
+    {
+        self.entered.of(thread)
+    }
+
+    /// The thread that holds a strand.
+    pub fn holder(&self, strand: u64) -> Option<u64>
+        ensures { (past : List Line) → IsAfter past self.now → (thread : ℕ) → Holds past thread strand ↔ (result ≡ Some thread) }
+    {
+        self.strands.holder(strand)
+    }
+
+    /// The operation that stands longest in the queue of a strand, behind the place since which it
+    /// is known to stand there.
+    pub fn first(&self, strand: u64) -> Option<(u64, u64)>
+        ensures { (past : List Line) → IsAfter past self.now → IfSome result (λ first. spot_of past first.1 ≡ Some (strand, first.0)) }
+    {
+        self.queues.first(strand)
+    }
+
+    /// How many operations wait.
+    pub fn waiting(&self) -> usize
+        ensures { (past : List Line) → IsAfter past self.now → (result ≡ 0) ↔ ((op : ℕ) → ¬ (Waits past op)) }
+    {
+        self.waiting.len()
+    }
+
+    /// On how many threads handlers are executed.
+    pub fn executing(&self) -> usize
+        ensures { (past : List Line) → IsAfter past self.now → (result ≡ 0) ↔ ((thread : ℕ) → stack past thread ≡ []) }
+    {
+        self.stacks.len()
+    }
+
+    /// How much is claimed or locked and not given back.
+    pub fn taken(&self) -> u64
+        ensures { (past : List Line) → IsAfter past self.now → result ≡ length (taken past) }
+    {
+        self.takings.number()
     }
 
     fn may_call(&self, op: u64) -> Result<(), Rule>
@@ -273,7 +355,7 @@ impl Checker {
     }
 
     /// Follows a line that may come. Where there is no room, nothing is said of what was kept.
-    fn follow(&mut self, line: &Line) -> Result<(), NoRoom>
+    pub fn follow(&mut self, line: &Line) -> Result<(), NoRoom>
         ensures { IfOk result (λ _. (past : List Line) → IsAfter past self.old → MayCome plain past line.now → IsAfter (line.now ∷ past) self.new) }
     {
         let thread = line.thread;

@@ -18,3 +18,4 @@ mod waiting;
 
 pub use checker::Checker;
 pub use refusal::{NoRoom, Refusal};
+pub use waiting::{CallKind, Outcome, Waiter};

@@ -1,4 +1,4 @@
-ghost use Rattle.std.specs.Prelude.{◌≡◌, ◌==◌, if◌then◌else◌, IfOk, ℕ, Some, None};
+ghost use Rattle.std.specs.Prelude.{◌≡◌, ◌==◌, ◌↔◌, if◌then◌else◌, IfOk, ℕ, Some, None};
 ghost use Rattle.run_check.specs.Stacks.{innermost_of, execution_of, frame_at, outer_of, strand_let_in};
 ghost use Rattle.run_check.specs.Following.{innermost_after, execution_after};
 
@@ -38,6 +38,13 @@ impl Stacks {
         ensures { result ≡ innermost_of self.now thread }
     {
         self.innermost.get(&thread).copied()
+    }
+
+    /// On how many threads something executes.
+    pub(crate) fn len(&self) -> usize
+        ensures { (result ≡ 0) ↔ ((thread : ℕ) → innermost_of self.now thread ≡ None) }
+    {
+        self.innermost.len()
     }
 
     /// Who writes the next line of a thread.

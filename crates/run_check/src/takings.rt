@@ -1,4 +1,4 @@
-ghost use Rattle.std.specs.Prelude.{◌≡◌, ◌<◌, ◌∷◌, [], List, IfOk, Some, None, IsTrue, true, ◌↔◌};
+ghost use Rattle.std.specs.Prelude.{◌≡◌, ◌<◌, ◌∷◌, [], List, IfOk, Some, None, IsTrue, true, ◌↔◌, length};
 ghost use Rattle.run_lines.specs.declared.line.Doing.{Doing};
 ghost use Rattle.run_rules.specs.declared.frame.Frame.{Frame};
 ghost use Rattle.run_rules.specs.declared.taking.Resource.{Resource};
@@ -27,6 +27,8 @@ pub(crate) struct Takings {
     by_frame: Counts<Frame>,
     by_resource: Counts<Resource>,
     by_thread: Counts<Claimant>,
+    /// How much is taken in all.
+    number: u64,
 }
 
 /// Who has taken this, and what.
@@ -48,6 +50,7 @@ impl Takings {
             by_frame: Counts::new(alloc),
             by_resource: Counts::new(alloc),
             by_thread: Counts::new(alloc),
+            number: 0,
         }
     }
 
@@ -72,6 +75,13 @@ impl Takings {
         self.by_resource.get(resource) == self.by_thread.get(Claimant { thread, resource })
     }
 
+    /// How much is taken in all.
+    pub(crate) fn number(&self) -> u64
+        ensures { (all : List Taking) → AreCounted all self.now → result ≡ length all }
+    {
+        self.number
+    }
+
     pub(crate) fn take(&mut self, taking: Taking) -> Result<(), NoRoom>
         ensures { IfOk result (λ _. (all : List Taking) → AreCounted all self.old → AreCounted (taking ∷ all) self.new) }
     {
@@ -79,6 +89,7 @@ impl Takings {
         self.by_frame.add(taking.frame)?;
         self.by_resource.add(taking.resource)?;
         self.by_thread.add(claimant_of(taking))?;
+        self.number = self.number.checked_add(1).ok_or(NoRoom)?;
         Ok(())
     }
 
@@ -89,6 +100,7 @@ impl Takings {
         self.by_frame.take_away(taking.frame)?;
         self.by_resource.take_away(taking.resource)?;
         self.by_thread.take_away(claimant_of(taking))?;
+        self.number = self.number.saturating_sub(1);
         Ok(())
     }
 

@@ -1,4 +1,4 @@
-ghost use Rattle.std.specs.Prelude.{◌≡◌, ◌==◌, if◌then◌else◌, IfOk, ℕ, Some, None, is_some};
+ghost use Rattle.std.specs.Prelude.{◌≡◌, ◌==◌, ◌↔◌, if◌then◌else◌, IfOk, ℕ, Some, None, is_some};
 ghost use Rattle.std.specs.Option.{option_and_then};
 ghost use Rattle.run_check.specs.declared.waiting.Waiter.{Waiter};
 ghost use Rattle.run_check.specs.Following.{called, completed, waiter_after};
@@ -113,6 +113,12 @@ impl Waiting {
         ensures { result ≡ is_some (waiting_at self.now op) }
     {
         self.operations.contains_key(&op)
+    }
+
+    pub(crate) fn len(&self) -> usize
+        ensures { (result ≡ 0) ↔ ((op : ℕ) → waiting_at self.now op ≡ None) }
+    {
+        self.operations.len()
     }
 
     pub(crate) fn put(&mut self, op: u64, waiter: Waiter) -> Result<(), AllocError>

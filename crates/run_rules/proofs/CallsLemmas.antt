@@ -1,8 +1,8 @@
 -- What is known of an operation stays so.
-use Rattle.std.proofs.Common.{◌≡◌, ℕ, ◌<◌, List, [], ◌∷◌, refl, ap, length, arith, subst, sym}
+use Rattle.std.proofs.Common.{◌≡◌, ℕ, ◌<◌, List, ◌∷◌, refl, ap, length, arith, subst, sym}
 use Rattle.std.proofs.lemmas.Bool.{ne_eqb}
-use Rattle.std.specs.Prelude.{Option, Some, None, IsSome, Bool, ◌==◌, false}
-use Rattle.std.specs.Option.{option_or, option_map, option_and_then}
+use Rattle.std.specs.Prelude.{Option, None, IsSome, ◌==◌, false}
+use Rattle.std.specs.Option.{option_or, option_and_then}
 use Rattle.run_lines.specs.declared.line.Doing.{Doing}
 use Rattle.run_lines.specs.declared.line.Doing.TheVariants as doing
 use Rattle.run_lines.specs.declared.line.Line.{Line}

@@ -1,5 +1,5 @@
 -- How often a handler is called or destroyed.
-use Rattle.std.proofs.Common.{◌≡◌, ℕ, ◌+◌, ◌<◌, ◌≤◌, List, [], ◌∷◌, refl, subst, arith, ⊎_elim}
+use Rattle.std.proofs.Common.{◌≡◌, ℕ, ◌+◌, ◌≤◌, List, [], ◌∷◌, refl, subst, arith, ⊎_elim}
 use Rattle.std.proofs.lemmas.Bool.{or_parts, eqb-true, cases_Bool}
 use Rattle.std.specs.Prelude.{Bool, true, false, ◌==◌, ◌||◌, IsSome, if◌then◌else◌}
 use Rattle.run_lines.specs.declared.line.Doing.{Doing}

@@ -1,7 +1,7 @@
 -- Executions of one strand: who holds it, and who begins on it.
-use Rattle.std.proofs.Common.{◌≡◌, ℕ, ◌<◌, ◌≤◌, List, [], ◌∷◌, refl, ap, subst, sym, ◌∙◌, inl, inr, arith, ⊎_elim}
-use Rattle.std.proofs.lemmas.Bool.{or_cases, or_from, or_left, or_right, eqb-true, cases_Bool, cond_both, true_from_ne_false, or_parts}
-use Rattle.std.specs.Prelude.{Bool, true, false, cond, ◌==◌, ◌||◌, ◌⊎◌, Option, Some, None, IsSome, nat_eq}
+use Rattle.std.proofs.Common.{◌≡◌, ℕ, List, [], ◌∷◌, refl, ap, sym, ◌∙◌, inl, inr, ⊎_elim}
+use Rattle.std.proofs.lemmas.Bool.{or_cases, or_right, eqb-true, cond_both, true_from_ne_false, or_parts}
+use Rattle.std.specs.Prelude.{Bool, true, false, ◌==◌, ◌||◌, ◌⊎◌, Option, Some, None, IsSome, nat_eq}
 use Rattle.std.specs.List.{list_any}
 use Rattle.std.specs.Option.{option_eq, option_and_then}
 use Rattle.run_lines.specs.declared.code.Code.{Code}
@@ -10,7 +10,7 @@ use Rattle.run_lines.specs.declared.line.Doing.TheVariants as doing
 use Rattle.run_lines.specs.declared.line.Line.{Line}
 use Rattle.run_rules.specs.declared.level.Level.{Level}
 use Rattle.run_rules.specs.Stacks.{stack, stack_after, outer}
-use Rattle.run_rules.specs.Calls.{Calling, call_of, strand_of, is_begun, is_dropped, Waits}
+use Rattle.run_rules.specs.Calls.{Calling, call_of, strand_of, is_begun, is_dropped}
 use Rattle.run_rules.specs.Starting.{is_on, Holds, IsInside, IsPlacedBefore}
 use Rattle.run_rules.specs.MayCome.{MayDo, MayCome, MayBegin}
 use Rattle.run_rules.specs.Legal.{IsLegalSoFar}

@@ -1,5 +1,5 @@
 -- Which line may come next: for each kind of line the rules that it keeps.
-use Rattle.std.specs.Prelude.{◌≡◌, ◌≢◌, ◌⊎◌, ◌<◌, ℕ, List, [], ◌∷◌, Bool, true, false, ◌==◌, if◌then◌else◌, Option, Some, None, IsSome, IsTrue, codes}
+use Rattle.std.specs.Prelude.{◌≡◌, ◌≢◌, ◌⊎◌, ◌<◌, ℕ, List, [], ◌∷◌, Bool, false, ◌==◌, if◌then◌else◌, Option, Some, None, IsSome, IsTrue, codes}
 use Rattle.std.specs.List.{list_any}
 use Rattle.run_lines.specs.declared.code.Code.{Code}
 use Rattle.run_lines.specs.declared.line.Doing.{Doing}
@@ -8,7 +8,7 @@ use Rattle.run_lines.specs.declared.line.Line.{Line}
 use Rattle.run_lines.specs.declared.word.Word.{Word}
 use Rattle.run_lines.specs.declared.word.Word.TheVariants.{Post, Defer, Dispatch, Other}
 use Rattle.run_rules.specs.declared.frame.Frame.{Frame}
-use Rattle.run_rules.specs.declared.frame.Frame.TheVariants.{Execution, Outside}
+use Rattle.run_rules.specs.declared.frame.Frame.TheVariants.{Execution}
 use Rattle.run_rules.specs.declared.level.Level.{Level}
 use Rattle.run_rules.specs.declared.taking.Resource.{Resource}
 use Rattle.run_rules.specs.declared.taking.Resource.TheVariants.{Thing, Lock}

@@ -1,6 +1,6 @@
 -- What is taken and not given back: data that one thread at a time may touch (Overview, "Threads and Boost.Asio": unsafe to make
 -- concurrent use of a single object), and mutexes.
-use Rattle.std.specs.Prelude.{ℕ, List, [], ◌∷◌, Bool, true, false, ◌==◌, ◌&&◌, if◌then◌else◌}
+use Rattle.std.specs.Prelude.{ℕ, List, [], ◌∷◌, Bool, false, ◌==◌, ◌&&◌, if◌then◌else◌}
 use Rattle.std.specs.List.{list_any}
 use Rattle.run_lines.specs.declared.line.Doing.{Doing}
 use Rattle.run_lines.specs.declared.line.Doing.TheVariants as doing

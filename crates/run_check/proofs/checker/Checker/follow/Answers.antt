@@ -3,7 +3,8 @@ use Rattle.std.specs.Prelude.{Option, None, if◌then◌else◌}
 use Rattle.run_check.specs.Following.{spends}
 use Rattle.run_check.specs.declared.checker.Checker.{Checker}
 use Rattle.run_check.proofs.RuleLemmas.{kept_frame}
-use Rattle.run_check.proofs.StepLemmas.{followed_after, sum_is}
+use Rattle.run_check.proofs.CountLemmas.{sum_is}
+use Rattle.run_check.proofs.StepLemmas.{followed_after}
 use Rattle.run_check.proofs.checker.Checker.follow.Goals as goal
 
 pub returns : goal.returns
@@ -20,9 +21,11 @@ returns c = λ past after may.
       takings = c.follow-6.new.self;
       marks = c.follow-7.new.self;
     } in
-    followed_after past c.args.line.now c.frame-frame.result c.strand_with-own.result c.to_place-placed.result c.args.self.now new after may
+    followed_after past c.args.line.now c.frame-frame.result c.strand_with-own.result c.to_place-placed.result c.args.self.now
+    new after may
     (record {
-      lines = sum_is (c.args.self.now.lines + 1 < 2 ^ 64) c.checked_add.result (c.args.self.now.lines + 1) c.in_ok-self.field-0 c.checked_add.ensures c.in_ok-self.ensures.ok_part;
+      lines = sum_is (c.args.self.now.lines + 1 < 2 ^ 64) c.checked_add.result (c.args.self.now.lines + 1) c.in_ok-self.field-0
+          c.checked_add.ensures c.in_ok-self.ensures.ok_part;
       called = c.called_after-self.ensures;
       marked = c.in_ok-follow-7.ensures;
       last_calls = c.in_ok-follow-5.ensures;
@@ -32,7 +35,8 @@ returns c = λ past after may.
       held = c.in_ok-follow-3.ensures;
       waiting = c.in_ok-follow.ensures;
       ordered = λ ordered can. c.spend.ensures.ordered (c.in_ok-place.ensures.ordered ordered can);
-      queued = λ other. c.spend.ensures.spots other ∙ ap (λ (s : Option (ℕ × ℕ)). if spends c.args.line.now.does other then None else s) (c.in_ok-place.ensures.spots other);
+      queued = λ other. c.spend.ensures.spots other ∙ ap
+          (λ (s : Option (ℕ × ℕ)). if spends c.args.line.now.does other then None else s) (c.in_ok-place.ensures.spots other);
       counted = c.in_ok-follow-6.ensures;
     })
     (c.frame-frame.ensures ∙ kept_frame past c.args.self.now after c.args.line.now.thread)

@@ -7,4 +7,5 @@ use Rattle.run_check.proofs.checker.Checker.may_call.Goals as goal
 
 pub returns : goal.returns
 returns c = λ past how context strand thing after.
-    call_judges past c.args.self.now c.args.op how context strand thing after c.asked.result (c.asked.ensures ∙ ap (λ (b : Bool). asked b rule.New) c.is_above.ensures)
+    call_judges past c.args.self.now c.args.op how context strand thing after c.asked.result (c.asked.ensures
+    ∙ ap (λ (b : Bool). asked b rule.New) c.is_above.ensures)

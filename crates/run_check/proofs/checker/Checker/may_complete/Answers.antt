@@ -5,4 +5,5 @@ use Rattle.run_check.proofs.checker.Checker.may_complete.Goals as goal
 
 pub returns : goal.returns
 returns c = λ past what size after.
-    completion_judges past c.args.self.now c.args.op what size after c.judge_completion.result (c.judge_completion.ensures ∙ ap completion_judged c.get.ensures)
+    completion_judges past c.args.self.now c.args.op what size after c.judge_completion.result (c.judge_completion.ensures
+    ∙ ap completion_judged c.get.ensures)

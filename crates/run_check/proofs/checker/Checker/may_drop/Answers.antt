@@ -6,4 +6,5 @@ use Rattle.run_check.proofs.JudgeLemmas.{drop_judges}
 use Rattle.run_check.proofs.checker.Checker.may_drop.Goals as goal
 
 pub returns : goal.returns
-returns c = λ past after. drop_judges past c.args.self.now c.args.op after c.asked.result (c.asked.ensures ∙ ap (λ (b : Bool). asked b rule.Waiting) c.has.ensures)
+returns c = λ past after. drop_judges past c.args.self.now c.args.op after c.asked.result (c.asked.ensures
+    ∙ ap (λ (b : Bool). asked b rule.Waiting) c.has.ensures)

@@ -6,5 +6,6 @@ use Rattle.run_check.proofs.checker.Checker.strand_of_begin.Goals as goal
 
 pub returns : goal.returns
 returns c = λ past after unspent.
-    begin_goes past c.args.self.now after c.args.thread c.args.op unspent c.strand-strand.result c.let_in_by.result c.strand-strand.ensures
+    begin_goes past c.args.self.now after c.args.thread c.args.op unspent c.strand-strand.result c.let_in_by.result
+    c.strand-strand.ensures
     (c.let_in_by.ensures ∙ ap (λ (h : Option ℕ). let_in_by c.strand-strand.result h c.args.thread) c.holder_of-holder.ensures)

@@ -1,5 +1,5 @@
 use Rattle.std.proofs.Common.{◌≡◌, subst}
-use Rattle.std.specs.Prelude.{Bool, Some, None, if◌then◌else◌}
+use Rattle.std.specs.Prelude.{Bool, None, if◌then◌else◌}
 use Rattle.std.specs.HashMap.{get}
 use Rattle.run_rules.specs.declared.frame.Frame.{Frame}
 use Rattle.run_check.proofs.TestLemmas.{frame_test}

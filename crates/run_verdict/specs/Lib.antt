@@ -1,0 +1,4 @@
+pub mod Uses
+pub mod Streams
+pub mod Judges
+pub mod Endings

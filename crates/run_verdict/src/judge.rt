@@ -1,0 +1,125 @@
+ghost use Rattle.std.specs.Prelude.{◌≡◌, ◌↔◌, ℕ, [], ◌∷◌, length, IfOk, IsTrue, List, MatchResult};
+ghost use Rattle.run_lines.specs.declared.line.Line.{Line};
+ghost use Rattle.run_rules.specs.declared.level.Level.{Level};
+ghost use Rattle.run_rules.specs.Breaks.{BreaksRule};
+ghost use Rattle.run_rules.specs.Legal.{IsWhole};
+ghost use Rattle.run_rules.specs.MayCome.{MayCome};
+ghost use Rattle.run_check.specs.After.{IsAfter};
+ghost use Rattle.run_verdict.specs.Judges.{HasJudged, IsOwed, StepsAt, is_single};
+
+use crate::ending::Owed;
+use crate::streams::Streams;
+use run_check::{Checker, NoRoom, Refusal};
+use run_lines::{Doing, Line};
+use run_rules::{Level, Rule};
+use std::alloc::Global;
+
+/// Judges a run line by line, with memory for what is under way.
+#[derive(Drop)]
+pub struct Judge {
+    level: Level,
+    checker: Checker,
+    streams: Streams,
+}
+
+impl Judge {
+    /// A judge that has followed nothing, and that asks as much of a run as this level says.
+    pub fn new(alloc: Global, level: Level) -> Self
+        ensures { HasJudged level [] result }
+    {
+        Judge {
+            level,
+            checker: Checker::new(alloc),
+            streams: Streams::new(alloc),
+        }
+    }
+
+    /// How many lines were followed.
+    pub fn lines(&self) -> u64
+        ensures { (level : Level) (past : List Line) → HasJudged level past self.now → result ≡ length past }
+    {
+        self.checker.lines()
+    }
+
+    /// Whether no stream has two reads, or two writes, behind this line.
+    fn is_single(&self, does: &Doing) -> bool
+        ensures { result ≡ is_single self.now does.now }
+    {
+        match *does {
+            Doing::Call { word, thing, .. } => {
+                !self.level.streams || self.streams.pending(&word, thing).is_none()
+            }
+            _ => true,
+        }
+    }
+
+    /// Whether this line may come next, or the first rule that it would break.
+    pub fn may_come(&self, line: &Line) -> Result<(), Rule>
+        ensures { (level : Level) (past : List Line) → HasJudged level past self.now →
+            MatchResult result (λ _. MayCome level past line.now) (λ rule. BreaksRule level past line.now rule) }
+    {
+        match self.checker.may_come(line) {
+            Ok(()) => {
+                if self.is_single(&line.does) {
+                    Ok(())
+                } else {
+                    Err(Rule::Single)
+                }
+            }
+            Err(rule) => Err(rule),
+        }
+    }
+
+    /// Follows a line that may come. Where there is no room, nothing is said of what was kept.
+    pub fn follow(&mut self, line: &Line) -> Result<(), NoRoom>
+        ensures { IfOk result (λ _. (level : Level) (past : List Line) → HasJudged level past self.old → MayCome level past line.now
+            → HasJudged level (line.now ∷ past) self.new) }
+    {
+        self.checker.follow(line)?;
+        if !self.level.streams {
+            return Ok(());
+        }
+        self.streams.follow(&line.does)?;
+        Ok(())
+    }
+
+    /// Follows a line, if it may come. A line that may not changes nothing; where there is no room,
+    /// nothing is said of what was kept.
+    pub fn step(&mut self, line: &Line) -> Result<(), Refusal>
+        ensures { (level : Level) (past : List Line) → HasJudged level past self.old
+            → StepsAt level past line.now self.old self.new result }
+    {
+        if let Err(rule) = self.may_come(line) {
+            return Err(Refusal::Broken { rule });
+        }
+        match self.follow(line) {
+            Ok(()) => Ok(()),
+            Err(NoRoom) => Err(Refusal::NoRoom),
+        }
+    }
+
+    /// Whether nothing is under way: nothing waits or executes, and nothing is claimed or locked.
+    pub fn is_whole(&self) -> bool
+        ensures { (level : Level) (past : List Line) → HasJudged level past self.now → IsTrue result ↔ IsWhole past }
+    {
+        self.checker.waiting() == 0 && self.checker.executing() == 0 && self.checker.taken() == 0
+    }
+
+    /// What is under way.
+    pub fn owed(&self) -> Owed
+        ensures { (level : Level) (past : List Line) → HasJudged level past self.now → IsOwed past result }
+    {
+        Owed {
+            waiting: self.checker.waiting(),
+            executing: self.checker.executing(),
+            taken: self.checker.taken(),
+        }
+    }
+
+    /// What is kept of the run, for questions.
+    pub fn checker(&self) -> &Checker
+        ensures { (level : Level) (past : List Line) → HasJudged level past self.now → IsAfter past result.now }
+    {
+        &self.checker
+    }
+}
