@@ -2,8 +2,8 @@
 """edits.py [--all] [NAME..]: tries the edits in crates/NAME/edits, of these crates or of all; with --all also those in must-fail.
 
 An edit is a wrong body, which the prover has to refuse. `rt ci` tries those in must-fail one by one, each by a check of its whole crate. Here edits of
-different functions are made in one copy of their crate, and the functions that they change are checked alone: each is judged by its own contract, so each
-has to be refused for itself. That needs a small part of the time. An edit names its function in a line `only: PATH` where its text stands in none.
+different functions are made in one copy of their crate, and the functions that they change are checked with those that they call: each is judged by its own
+contract, so each has to be refused for itself; one that isn't is tried alone. An edit has a line `only: PATH` where its function can't be told by its place.
 
 The libraries below are those that `rt ci` or `rt check` has built in this tree. The last line is 'edits: N refused, M not refused'.
 """
@@ -34,7 +34,8 @@ def function_at(path, text, place):
     words = head.split("{")[0].split()
     names = [it.split("::")[-1] for it in words if it not in ("for", "where", "dyn")]
     owner = names[0] if "for" not in words else names[words.index("for")] + names[0]
-    return "::".join([*module, owner, last[2]])
+    # (a check names a method by its type, in whichever module it stands)
+    return f"{owner}::{last[2]}"
 
 
 class Edit:
