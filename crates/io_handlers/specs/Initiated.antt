@@ -1,0 +1,92 @@
+-- What a handler initiates while it executes (Asio reference, Requirements on asynchronous operations;
+-- that it takes effect when the handler has returned is this project's own).
+use Rattle.std.specs.Prelude.{◌≡◌, ◌<◌, ◌≤◌, ℕ, ◌+◌, ◌-◌, ◌||◌, nat_lt, Bool, true, false, List, [], ◌∷◌, ◌++◌, length, None}
+use Rattle.io_rules.specs.declared.control.Control.{Control}
+use Rattle.io_rules.specs.declared.name.Lane.{Lane}
+use Rattle.io_rules.specs.declared.operation.Operation.{Operation}
+use Rattle.io_rules.specs.declared.request.Marks.{Marks}
+use Rattle.io_rules.specs.declared.request.Request.{Request}
+use Rattle.io_rules.specs.Room.{one_if}
+use Rattle.io_handlers.specs.declared.staged.Initiating.{Initiating}
+use Rattle.io_handlers.specs.declared.staged.Staged.{Staged}
+use Rattle.io_handlers.specs.declared.staged.Staged.TheVariants as staged
+
+pub record Initiated (H : Type 0) : Type 0 where
+  -- the calls so far, in order
+  pub staged : List (Staged H)
+  -- how many operations it may initiate in all
+  pub granted : ℕ
+  -- how many it may still
+  pub places : ℕ
+  -- whether it has initiated none yet
+  pub first : Bool
+  -- for how many more calls there is room, beside that of its first operation
+  pub room : ℕ
+  -- for how many there is when a handler begins
+  pub most : ℕ
+
+-- the first operation has room of its own
+abbrev pub IsRoomFor : Bool → ℕ → Type 0
+IsRoomFor first room = (first || nat_lt 0 room) ≡ true
+
+-- one of the granted operations is left, and room for a call
+pub record MayInitiate {H : Type 0} (i : Initiated H) : Type 0 where
+  pub places : 0 < i.places
+  pub room : IsRoomFor i.first i.room
+
+abbrev pub MayChange : {H : Type 0} → Initiated H → Type 0
+MayChange i = 0 < i.room
+
+-- it leaves the other room as it is
+abbrev pub room_after : Bool → ℕ → ℕ
+room_after true room = room
+room_after false room = room - 1
+
+abbrev pub called : {H : Type 0} → Initiating H → Initiated H → Initiated H
+called call i = record i {
+  staged = i.staged ++ staged.Called call ∷ [];
+  places = i.places - 1;
+  first = false;
+  room = room_after i.first i.room;
+}
+
+abbrev pub changed : {H : Type 0} → Control → Initiated H → Initiated H
+changed change i = record i { staged = i.staged ++ staged.Changed change ∷ []; room = i.room - 1 }
+
+-- a posting, without a cancellation slot
+abbrev pub initiating : {H : Type 0} → Lane → Operation → H → Initiating H
+initiating lane kind handler =
+    record { lane = lane; binding = None; kind = kind; handler = handler }
+
+abbrev pub new_initiated : {H : Type 0} → ℕ → Initiated H
+new_initiated most =
+    record { staged = []; granted = 0; places = 0; first = false; room = 0; most = most }
+
+-- a handler begins with this grant, and its own place
+abbrev pub renewed : {H : Type 0} → ℕ → Initiated H → Initiated H
+renewed grant i =
+    record i { granted = grant + 1; places = grant + 1; first = true; room = i.most }
+
+abbrev pub operations_of : {H : Type 0} → Staged H → ℕ
+operations_of (staged.Called call) = 1
+operations_of (staged.Changed change) = 0
+
+-- how many operations are initiated by these calls
+abbrev pub operations_in : {H : Type 0} → List (Staged H) → ℕ
+operations_in [] = 0
+operations_in (call ∷ calls) = operations_of call + operations_in calls
+
+-- the memory of this capacity has room for all that it may still take, here and when it begins anew
+pub record HasRoom {H : Type 0} (capacity : ℕ) (i : Initiated H) : Type 0 where
+  pub calls : length i.staged + i.room + one_if i.first ≤ capacity
+  pub anew : i.most + 1 ≤ capacity
+  pub granted : operations_in i.staged + i.places ≤ i.granted
+
+-- the request of such a call
+abbrev pub request_of : {H : Type 0} → (H → Marks) → Initiating H → Request
+request_of marks call = record {
+  lane = call.lane;
+  binding = call.binding;
+  kind = call.kind;
+  marks = marks call.handler;
+}

@@ -1,0 +1,10 @@
+pub mod BegunLemmas
+pub mod EndedLemmas
+pub mod FirstLemmas
+pub mod ListedLemmas
+pub mod PostedLemmas
+pub mod ReadyLemmas
+pub mod SpaceLemmas
+pub mod SpareLemmas
+pub mod StoppedLemmas
+pub mod TakenLemmas

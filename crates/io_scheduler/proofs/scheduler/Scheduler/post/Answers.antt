@@ -1,0 +1,54 @@
+use Rattle.std.proofs.Common.{ap, refl, ◌∙◌}
+use Rattle.std.specs.Prelude.{◌∷◌, None}
+use Rattle.io_rules.specs.declared.event.Event.TheVariants as event
+use Rattle.io_rules.specs.declared.request.Gone.TheVariants as gone
+use Rattle.io_rules.specs.Legal.{state_of}
+use Rattle.io_names.specs.Tables.{names_of}
+use Rattle.io_scheduler.specs.Posted.{posting}
+use Rattle.io_scheduler.proofs.PostedLemmas.{may_be_posted, shows_posted}
+use Rattle.io_scheduler.proofs.SpaceLemmas.{posted_space}
+use Rattle.io_scheduler.proofs.scheduler.Scheduler.post.Goals as goal
+
+pub note_posted-requires : goal.note_posted-requires
+note_posted-requires g c =
+    let shows = c.self.invariant.1 in
+    record {
+      table = c.requires.table;
+      event = refl {a = event.Called c.self.inside.counts.next None (posting c.args.lane c.args.kind (g.H.Handler.marks c.args.handler)) gone.Nothing};
+      may = rw c.learn.ensures.same
+          (may_be_posted _ c.self.inside.counts.next c.args.lane c.args.kind _ shows.going
+          (ap (λ n. n.next) shows.counts_are) c.requires.posting (rw (← c.self.view_is) at c.requires.may));
+      none = rw c.learn.ensures.same c.self.invariant.0;
+    }
+
+pub enter-requires : goal.enter-requires
+enter-requires g c =
+    posted_space g.H.Handler.marks g.C.Named.limits c.self.inside.keeper.past c.self.inside.counts
+    (names_of c.self.inside.names) c.self.inside.strands.items c.self.inside.jobs c.args.lane
+    (rw c.learn.ensures.same at c.learn.ensures.legal) c.self.invariant.1
+    (rw (← c.self.view_is) at c.requires.may)
+
+pub invariant_of-self : goal.invariant_of-self
+invariant_of-self g c =
+    let shows = c.self.invariant.1 in (
+      c.note_posted.ensures.none,
+      rw (c.enter.ensures.strands, c.enter.ensures.jobs, c.note_posted.ensures.past, c.learn.ensures.same)
+          (shows_posted g.H.Handler.marks g.C.Named.limits c.self.inside.counts
+          (names_of c.self.inside.names) c.self.inside.strands.items c.self.inside.jobs
+          (state_of g.C.Named.limits c.self.inside.keeper.past) c.self.inside.counts.next c.args.lane c.args.kind
+          c.args.handler (ap (λ n. n.next) shows.counts_are) c.requires.posting
+          (rw (← c.self.view_is) at c.requires.may) shows),
+    )
+
+pub returns : goal.returns
+returns g c =
+    let shows = c.self.invariant.1 in
+    rw (← c.self.view_is)
+    (record {
+      may = may_be_posted _ c.self.inside.counts.next c.args.lane c.args.kind _ shows.going
+          (ap (λ n. n.next) shows.counts_are) c.requires.posting (rw (← c.self.view_is) at c.requires.may);
+      is = ap (state_of g.C.Named.limits)
+          (c.note_posted.ensures.past
+          ∙ ap (λ k. event.Called c.self.inside.counts.next None (posting c.args.lane c.args.kind (g.H.Handler.marks c.args.handler)) gone.Nothing ∷ k.past)
+          c.learn.ensures.same);
+    })

@@ -1,0 +1,26 @@
+use Rattle.std.proofs.Common.{ap}
+use Rattle.io_rules.specs.Legal.{state_of}
+use Rattle.io_names.specs.Tables.{names_of}
+use Rattle.io_scheduler.proofs.StoppedLemmas.{shows_stopped}
+use Rattle.io_scheduler.proofs.scheduler.Scheduler.stop.Goals as goal
+
+pub note_stopped-requires-clause-may : goal.note_stopped-requires-clause-may
+note_stopped-requires-clause-may g c =
+    record { going = c.self.invariant.1.going; caller = tt; allowed = tt }
+
+pub invariant_of-self : goal.invariant_of-self
+invariant_of-self g c = (
+  c.note_stopped.ensures.none,
+  rw c.note_stopped.ensures.past
+      (shows_stopped g.H.Handler.marks g.C.Named.limits c.self.inside.counts (names_of c.self.inside.names)
+      c.self.inside.strands.items c.self.inside.jobs (state_of g.C.Named.limits c.self.inside.keeper.past)
+      c.self.invariant.1),
+)
+
+pub returns : goal.returns
+returns g c =
+    rw (← c.self.view_is)
+    (record {
+      may = record { going = c.self.invariant.1.going; caller = tt; allowed = tt };
+      is = ap (state_of g.C.Named.limits) c.note_stopped.ensures.past;
+    })

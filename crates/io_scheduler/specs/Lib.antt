@@ -1,0 +1,9 @@
+pub mod Begun
+pub mod Counted
+pub mod Ended
+pub mod Entered
+pub mod Posted
+pub mod Ready
+pub mod Running
+pub mod Shown
+pub mod Taken

@@ -1,0 +1,21 @@
+//! What lies under the lock of an io_context: which operations are ready with which handlers, on which
+//! strands, and which names are used. It promises that each of its methods is a step of the rules, so that
+//! the history of the context is a legal one. The context stands on it.
+#![tactic(auto)]
+
+mod beginning;
+mod counts;
+mod ending;
+mod entering;
+mod initiating;
+mod leaving;
+mod making;
+mod noting;
+mod running;
+mod scheduler;
+mod stopping;
+mod taking;
+
+pub use beginning::Begun;
+pub use running::Running;
+pub use scheduler::Scheduler;

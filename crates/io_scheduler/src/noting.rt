@@ -1,0 +1,78 @@
+ghost use Rattle.std.specs.Prelude.{◌≡◌, ◌∷◌, None, Some};
+ghost use Rattle.io_rules.specs.declared.control.Control.TheVariants as control;
+ghost use Rattle.io_rules.specs.declared.event.Event.TheVariants as event;
+ghost use Rattle.io_rules.specs.declared.request.Gone.TheVariants as gone;
+ghost use Rattle.io_rules.specs.Legal.{MayHappen, state_of};
+ghost use Rattle.io_rules.specs.Ops.{op_at};
+ghost use Rattle.io_history.specs.Steps.{held_op, holding};
+ghost use Rattle.io_scheduler.specs.Posted.{posting};
+
+use io_handlers::Handler;
+use io_history::{Happening, HistoryTable, Keeper, Named};
+use io_rules::{Lane, Operation, Spares};
+
+/// Notes that an operation is posted from outside.
+pub(crate) fn note_posted<H: Handler, C: Named, E: Happening>(
+    table: &HistoryTable,
+    keeper: &mut Keeper<C>,
+    op: u64,
+    lane: Lane,
+    kind: Operation,
+    handler: &H,
+)
+    requires table { table.now ≡ C.table }
+    requires event { E.event ≡ event.Called op None (posting lane kind (H.marks handler.now)) gone.Nothing }
+    requires may { MayHappen (state_of C.limits keeper.old.past) E.event }
+    requires none { keeper.old.held ≡ None }
+    ensures past { keeper.new.past ≡ E.event ∷ keeper.old.past }
+    ensures none { keeper.new.held ≡ None }
+{
+    keeper.note::<E>(table);
+}
+
+/// Notes that a handler begins, and holds its operation.
+pub(crate) fn note_begun<C: Named, E: Happening>(
+    table: &HistoryTable,
+    keeper: &mut Keeper<C>,
+    op: u64,
+    spares: Spares,
+)
+    requires table { table.now ≡ C.table }
+    requires event { E.event ≡ event.Begun op spares }
+    requires may { MayHappen (state_of C.limits keeper.old.past) E.event }
+    requires none { keeper.old.held ≡ None }
+    ensures past { keeper.new.past ≡ event.Begun op spares ∷ keeper.old.past }
+    ensures held { keeper.new.held
+        ≡ holding op (op_at (state_of C.limits (event.Begun op spares ∷ keeper.old.past)).ops op) }
+{
+    keeper.note::<E>(table);
+}
+
+/// Notes that what is held has returned its mark.
+pub(crate) fn note_ended<C: Named, E: Happening>(
+    table: &HistoryTable,
+    keeper: &mut Keeper<C>,
+    op: u64,
+    mark: u64,
+)
+    requires table { table.now ≡ C.table }
+    requires event { E.event ≡ event.Ended op mark }
+    requires may { MayHappen (state_of C.limits keeper.old.past) E.event }
+    requires held { held_op keeper.old.held ≡ Some op }
+    ensures past { keeper.new.past ≡ event.Ended op mark ∷ keeper.old.past }
+    ensures none { keeper.new.held ≡ None }
+{
+    keeper.note::<E>(table);
+}
+
+/// Notes that the context is stopped.
+pub(crate) fn note_stopped<C: Named, E: Happening>(table: &HistoryTable, keeper: &mut Keeper<C>)
+    requires table { table.now ≡ C.table }
+    requires event { E.event ≡ event.Changed None control.Stop }
+    requires may { MayHappen (state_of C.limits keeper.old.past) E.event }
+    requires none { keeper.old.held ≡ None }
+    ensures past { keeper.new.past ≡ event.Changed None control.Stop ∷ keeper.old.past }
+    ensures none { keeper.new.held ≡ None }
+{
+    keeper.note::<E>(table);
+}
