@@ -1,11 +1,11 @@
 #!/usr/bin/env bash
-# Runs what the documents show, in a copy of the tree: each command of README.md, docs/LIBRARY.md and docs/SCRIPT.md, by the programs that
-# were built, the first one also by `rt try` as it stands; each script of docs/SCRIPT.md, and each example of a refusal there. What stands in the block
-# under one has to come out. And each piece of code in docs/LIBRARY.md, and in the comments on what a program calls, has to stand in the file
-# that the line above it names. Ends with 'commands: N passed, M failed'.
+# Runs what the documents show, in a copy of the tree: each command of README.md and of QUESTIONS, LIBRARY, SCRIPT and TRACE in docs/, by the
+# programs that were built, the first one also by `rt try` as it stands; each script in a block `session`, and each example of a refusal in docs/SCRIPT.md.
+# What stands in the block under one has to come out. And each piece of code in docs/LIBRARY.md, and in the comments on what a program calls, has to
+# stand in the file that the line above it names. Ends with 'commands: N passed, M failed'.
 set -u
 cd "$(dirname "$0")/.." || exit 1
-. examples/common.sh commands asio_run asio_check asio_show prime_count
+. examples/common.sh commands asio_run asio_check asio_show prime_count run_judge
 mkdir "$room/tree" "$room/blocks"
 git ls-files | tar -c -T - | tar -x -C "$room/tree" || exit 1
 export BUILT_IN=$room
@@ -79,7 +79,7 @@ cut_blocks() {
 }
 
 first=yes
-for document in README.md docs/LIBRARY.md docs/SCRIPT.md; do
+for document in README.md docs/{QUESTIONS,LIBRARY,SCRIPT,TRACE}.md; do
   rm -f "$room"/blocks/*
   cut_blocks "$document"
   for block in "$room"/blocks/???; do
