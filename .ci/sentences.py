@@ -8,7 +8,9 @@ printed with its file and line. The last line is 'sentences: N passed, M failed'
 import os, re, sys
 
 MOST = 35
-PLAIN = ["README.md", "docs/LIBRARY.md", "docs/TRACE.md", "docs/SCRIPT.md", "docs/ARCHITECTURE.md"]
+PLAIN = ["README.md", "CONTRIBUTING.md", "examples/README.md", "recorder/README.md"] + [
+    f"docs/{it}.md" for it in "README QUESTIONS LIBRARY TRACE SCRIPT DIFFERENCES LEGALITY REACTOR RUNS SPEED ARCHITECTURE DECISIONS CONVENTIONS BELIEVE".split()
+]
 # Words that make a reader solve a sentence: name the thing again, put the thing that acts first, or say 'if and only if'.
 SOLVED = re.compile(
     r"\b(that one|this one|such an?|the former|the latter|exactly there|exactly where|who|whoever|whose|whom|as it were|save that|hereof|thereof)\b", re.I
