@@ -1,6 +1,7 @@
 #!/usr/bin/env bash
 # Runs what the documents show, in a copy of the tree: each command of README.md and of QUESTIONS, LIBRARY, SCRIPT and TRACE in docs/, by the
-# programs that were built, the first one also by `rt try` as it stands; each script in a block `session`, and each example of a refusal in docs/SCRIPT.md.
+# programs that were built, the first one also by `rt try` as it stands; each script in a block `session`, and each example of a refusal in docs/SCRIPT.md
+# and of a broken rule in docs/RUNS.md.
 # What stands in the block under one has to come out. And each piece of code in docs/LIBRARY.md, and in the comments on what a program calls, has to
 # stand in the file that the line above it names. Ends with 'commands: N passed, M failed'.
 set -u
@@ -118,5 +119,13 @@ while IFS='|' read -r _ _ _ _ example refused _; do
   [ "$said" = "asio_run: refused$(sed -E 's/ +$//' <<< "$refused")" ]
   count $? "$example: $said"
 done < <(grep -E '^\| [1-9] \|' docs/SCRIPT.md)
+
+# The table of rules of runs: behind its header each example breaks its rule.
+while IFS='|' read -r _ rule _ _ example _; do
+  example=${example# \`} example=${example%\` }
+  said=$({ echo "run 1"; echo "${example// \/ /$'\n'}"; } | "$room/run_judge" check --streams - 2>&1)
+  [[ $said == *"rule:$(sed -E 's/ +$//' <<< "$rule")"* ]]
+  count $? "$example: $said"
+done < <(grep -E '^\| [A-Z][A-Za-z]+ \| `[a-z]+`.*\| `[0-9]+ ' docs/RUNS.md)
 
 say_counts
