@@ -1,7 +1,7 @@
 #!/usr/bin/env bash
 # Runs what the documents show, in a copy of the tree: each command of README.md and of QUESTIONS, LIBRARY, SCRIPT and TRACE in docs/, by the
-# programs that were built, the first one also by `rt try` as it stands; each script in a block `session`, and each example of a refusal in docs/SCRIPT.md
-# and of a broken rule in docs/RUNS.md.
+# programs that were built, the first one also by `rt try` as it stands; each script in a block `session`, each script with its trace below it in one block, and each
+# example of a refusal in docs/SCRIPT.md and of a broken rule in docs/RUNS.md.
 # What stands in the block under one has to come out. And each piece of code in docs/LIBRARY.md, and in the comments on what a program calls, has to
 # stand in the file that the line above it names. Ends with 'commands: N passed, M failed'.
 set -u
@@ -45,6 +45,14 @@ run_script() {
   want=$(cat "$2" 2> "$room/none") && want=${want//$'\n'/ / }
   [[ $want == refused* ]] && want="asio_run: $want"
   [ -n "$said" ] && [[ $said == *"$want"* ]]
+  count $? "$(cat "$1"): $said"
+}
+
+# Judges the trace in the file $1, behind its script in the first line, with ' / ' for line ends: it has to be legal.
+judge_trace() {
+  local said
+  said=$({ head -n 1 "$1"; echo --; tail -n +2 "$1" | sed -E 's| /$||; s| / |\n|g'; } | "$room/asio_check" 2>&1)
+  [ "$said" = legal ]
   count $? "$(cat "$1"): $said"
 }
 
@@ -97,6 +105,7 @@ for document in README.md docs/{QUESTIONS,LIBRARY,SCRIPT,TRACE}.md; do
         done < "$block" ;;
       session) run_script "$block" "$next" ;;
       rust) has_code "$block" "$(cat "$block.above")" ;;
+      "") [[ $(sed -n 1p "$block") != session* || $(sed -n 2p "$block") != *" / "* ]] || judge_trace "$block" ;;
     esac
   done
 done
