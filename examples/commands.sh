@@ -1,9 +1,10 @@
 #!/usr/bin/env bash
-# Runs what the documents show, in a copy of the tree: each command of README.md and of QUESTIONS, LIBRARY, SCRIPT and TRACE in docs/, by the
-# programs that were built, the first one also by `rt try` as it stands; each script in a block `session`, each script with its trace below it in one block, and each
-# example of a refusal in docs/SCRIPT.md and of a broken rule in docs/RUNS.md.
-# What stands in the block under one has to come out. And each piece of code in docs/LIBRARY.md, and in the comments on what a program calls, has to
-# stand in the file that the line above it names. Ends with 'commands: N passed, M failed'.
+# Runs what the documents show, in a copy of the tree: each command of README.md and of QUESTIONS, LIBRARY, SCRIPT and TRACE in
+# docs/, by the programs that were built, the first one also by `rt try` as it stands; each script in a block `session`, each
+# script with its trace below it in one block, and each example of a refusal in docs/SCRIPT.md and of a broken rule in
+# docs/RUNS.md. What stands in the block under one has to come out. And each piece of code in docs/LIBRARY.md, and in the
+# comments on what a program calls, has to stand in the file that the line above it names. Ends with 'commands: N passed, M
+# failed'.
 set -u
 cd "$(dirname "$0")/.." || exit 1
 . examples/common.sh commands asio_run asio_check asio_show prime_count run_judge
