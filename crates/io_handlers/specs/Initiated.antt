@@ -2,10 +2,12 @@
 -- that it takes effect when the handler has returned is this project's own).
 use Rattle.std.specs.Prelude.{◌≡◌, ◌<◌, ◌≤◌, ℕ, ◌+◌, ◌-◌, ◌||◌, nat_lt, Bool, true, false, List, [], ◌∷◌, ◌++◌, length, None}
 use Rattle.io_rules.specs.declared.control.Control.{Control}
+use Rattle.io_rules.specs.declared.control.Control.TheVariants as control
 use Rattle.io_rules.specs.declared.name.Lane.{Lane}
 use Rattle.io_rules.specs.declared.operation.Operation.{Operation}
 use Rattle.io_rules.specs.declared.request.Marks.{Marks}
 use Rattle.io_rules.specs.declared.request.Request.{Request}
+use Rattle.io_rules.specs.Operations.{is_posting}
 use Rattle.io_rules.specs.Room.{one_if}
 use Rattle.io_handlers.specs.declared.staged.Initiating.{Initiating}
 use Rattle.io_handlers.specs.declared.staged.Staged.{Staged}
@@ -62,10 +64,10 @@ abbrev pub new_initiated : {H : Type 0} → ℕ → Initiated H
 new_initiated most =
     record { staged = []; granted = 0; places = 0; first = false; room = 0; most = most }
 
--- a handler begins with this grant, and its own place
+-- a handler begins, and may initiate so many
 abbrev pub renewed : {H : Type 0} → ℕ → Initiated H → Initiated H
-renewed grant i =
-    record i { granted = grant + 1; places = grant + 1; first = true; room = i.most }
+renewed places i =
+    record i { granted = places; places = places; first = true; room = i.most }
 
 abbrev pub operations_of : {H : Type 0} → Staged H → ℕ
 operations_of (staged.Called call) = 1
@@ -76,11 +78,25 @@ abbrev pub operations_in : {H : Type 0} → List (Staged H) → ℕ
 operations_in [] = 0
 operations_in (call ∷ calls) = operations_of call + operations_in calls
 
+-- a posting, without a cancellation slot, or a stop
+pub record IsPosting {H : Type 0} (call : Initiating H) : Type 0 where
+  pub posting : is_posting call.kind ≡ true
+  pub unbound : call.binding ≡ None
+
+abbrev pub IsOffered : {H : Type 0} → Staged H → Type 0
+IsOffered (staged.Called call) = IsPosting call
+IsOffered (staged.Changed change) = change ≡ control.Stop
+
+abbrev pub AreOffered : {H : Type 0} → List (Staged H) → Type 0
+AreOffered [] = Unit {0}
+AreOffered (call ∷ calls) = IsOffered call × AreOffered calls
+
 -- the memory of this capacity has room for all that it may still take, here and when it begins anew
 pub record HasRoom {H : Type 0} (capacity : ℕ) (i : Initiated H) : Type 0 where
   pub calls : length i.staged + i.room + one_if i.first ≤ capacity
   pub anew : i.most + 1 ≤ capacity
   pub granted : operations_in i.staged + i.places ≤ i.granted
+  pub offered : AreOffered i.staged
 
 -- the request of such a call
 abbrev pub request_of : {H : Type 0} → (H → Marks) → Initiating H → Request

@@ -1,118 +1,28 @@
-ghost use Rattle.std.specs.Prelude.{◌≡◌, ◌≤◌, ◌+◌, [], ◌∷◌, IfErr, IfNone, IfOk, IfSome, None, OnErr, OnOk, Some, drop, slice_get};
+ghost use Rattle.std.specs.Prelude.{◌≡◌, if◌then◌else◌, nat_lt, IfErr, OnErr, OnOk};
+ghost use Rattle.io_rules.specs.declared.control.Control.TheVariants as control;
 ghost use Rattle.io_rules.specs.declared.operation.Operation.TheVariants as operation;
-ghost use Rattle.io_handlers.specs.Initiated.{IsRoomFor, MayChange, MayInitiate, called, changed, initiating, new_initiated, operations_in, renewed, room_after};
+ghost use Rattle.io_handlers.specs.Initiated.{MayInitiate, called, changed, initiating};
 
-use crate::staged::{Full, Initiating, Staged};
-use asio_types::NoMemory;
-use io_rules::{Binding, Control, Lane, Operation};
-use std::alloc::Global;
-use std::collections::VecDeque;
+use crate::staged::{Full, Initiating};
+use crate::staging::Staging;
+use io_rules::{Control, Lane, Operation};
 use std::marker::Model;
 
 /// What a handler that executes initiates operations with. What it takes is accepted, and takes effect in
 /// order when the handler has returned. Contracts see what is staged, and for how much more there is room.
 pub struct Initiator<H> {
-    // in the order of the calls
-    staged: VecDeque<Staged<H>>,
-    // how many operations were granted to the handler, the one that has its own place too
-    granted: u64,
-    // how many of these it may still initiate
-    places: u64,
-    // whether it has initiated none: the first one has room of its own
-    first: bool,
-    // for how many more calls there is room beside
-    room: usize,
-    // for how many there is when a handler begins
-    most: usize,
+    pub(crate) staging: Staging<H>,
 }
 
 impl<H> Model for Initiator<H> {
-    ghost use Rattle.std.specs.VecDeque.{deque_capacity};
-    ghost use Rattle.io_handlers.specs.Initiated.{HasRoom, Initiated};
+    ghost use Rattle.io_handlers.specs.Initiated.{Initiated};
 
     ghost Value = { Initiated H };
 
-    ghost view = { λ i. record {
-      staged = i.staged.items;
-      granted = i.granted;
-      places = i.places;
-      first = i.first;
-      room = i.room;
-      most = i.most;
-    } };
-
-    ghost invariant = { λ i. HasRoom (deque_capacity i.staged) (record {
-      staged = i.staged.items;
-      granted = i.granted;
-      places = i.places;
-      first = i.first;
-      room = i.room;
-      most = i.most;
-    }) };
-}
-
-/// The room that one more operation leaves: the first one has its own.
-fn room_after(first: bool, room: usize) -> usize
-    requires { IsRoomFor first room }
-    ensures { result ≡ room_after first room }
-{
-    if first { room } else { room - 1 }
+    ghost view = { λ i. i.staging };
 }
 
 impl<H> Initiator<H> {
-    /// Room for so many calls beside the first operation's. Takes memory for all of them, and nothing takes
-    /// memory later; `NoMemory` where it is refused. Nothing is granted yet.
-    pub fn with_room(alloc: Global, most: u32) -> Result<Initiator<H>, NoMemory>
-        ensures { IfOk result (λ made. made ≡ new_initiated most) }
-    {
-        let most = most as usize;
-        let staged = VecDeque::with_capacity(alloc, most + 1)?;
-        Ok(Initiator {
-            staged,
-            granted: 0,
-            places: 0,
-            first: false,
-            room: 0,
-            most,
-        })
-    }
-
-    /// A handler begins, and is granted so many operations besides the one that has its own place. What was
-    /// staged before is committed.
-    pub fn renew(&mut self, grant: u32)
-        requires { self.old.staged ≡ [] }
-        ensures { self.new ≡ renewed grant self.old }
-    {
-        self.granted = u64::from(grant) + 1;
-        self.places = u64::from(grant) + 1;
-        self.first = true;
-        self.room = self.most;
-    }
-
-    /// Initiates an operation, or gives its handler back where no place or no room is left.
-    fn initiate(&mut self, call: Initiating<H>) -> Result<(), Full<H>>
-        ensures may { OnOk result (MayInitiate self.old) }
-        ensures called { OnOk result (self.new ≡ called call self.old) }
-        ensures full { OnErr result (¬ MayInitiate self.old) }
-        ensures same { OnErr result (self.new ≡ self.old) }
-        ensures back { IfErr result (λ full. full.0 ≡ call.handler) }
-    {
-        if self.places == 0 || (!self.first && self.room == 0) {
-            let Initiating {
-                lane: _,
-                binding: _,
-                kind: _,
-                handler,
-            } = call;
-            return Err(Full(handler));
-        }
-        self.places -= 1;
-        self.room = room_after(self.first, self.room);
-        self.first = false;
-        self.staged.push_back_reserved(Staged::Called(call));
-        Ok(())
-    }
-
     /// `post`: a handler that is ready behind all others there. `Full` gives it back where no place or no
     /// room is left, and then nothing has changed.
     pub fn post(&mut self, lane: Lane, handler: H) -> Result<(), Full<H>>
@@ -124,7 +34,7 @@ impl<H> Initiator<H> {
         ensures back { IfErr result (λ full. full.0 ≡ handler) }
     {
         let kind = Operation::Post;
-        self.initiate(Initiating {
+        self.staging.initiate(Initiating {
             lane,
             binding: None,
             kind,
@@ -142,7 +52,7 @@ impl<H> Initiator<H> {
         ensures back { IfErr result (λ full. full.0 ≡ handler) }
     {
         let kind = Operation::Defer;
-        self.initiate(Initiating {
+        self.staging.initiate(Initiating {
             lane,
             binding: None,
             kind,
@@ -160,7 +70,7 @@ impl<H> Initiator<H> {
         ensures back { IfErr result (λ full. full.0 ≡ handler) }
     {
         let kind = Operation::Dispatch;
-        self.initiate(Initiating {
+        self.staging.initiate(Initiating {
             lane,
             binding: None,
             kind,
@@ -168,44 +78,19 @@ impl<H> Initiator<H> {
         })
     }
 
-    /// A call that has no handler. It comes back where no room is left, and then nothing has changed.
-    pub fn change(&mut self, change: Control) -> Result<(), Control>
-        ensures may { OnOk result (MayChange self.old) }
-        ensures changed { OnOk result (self.new ≡ changed change self.old) }
-        ensures full { OnErr result (¬ MayChange self.old) }
-        ensures same { OnErr result (self.new ≡ self.old) }
-        ensures back { IfErr result (λ back. back ≡ change) }
+    /// `io_context::stop`; answers whether there was room for the call, and where not nothing has changed.
+    pub fn stop(&mut self) -> bool
+        ensures room { result ≡ nat_lt 0 self.old.room }
+        ensures stopped { self.new ≡ (if result then changed control.Stop self.old else self.old) }
     {
-        if self.room == 0 {
-            return Err(change);
-        }
-        self.room -= 1;
-        self.staged.push_back_reserved(Staged::Changed(change));
-        Ok(())
+        self.staging.change(Control::Stop)
     }
 
-    /// The oldest call that is staged, to be committed; `None` exactly where none is.
-    pub fn next(&mut self) -> Option<Staged<H>>
-        ensures first { IfSome result (λ call. slice_get self.old.staged 0 ≡ Some call) }
-        ensures none { IfNone result (self.old.staged ≡ []) }
-        ensures rest { self.new ≡ record self.old { staged = drop 1 self.old.staged } }
-        ensures granted { operations_in self.old.staged + self.old.places ≤ self.old.granted }
+    /// Its handler has returned: what it staged is to take effect.
+    pub fn returned(self) -> Staging<H>
+        ensures { result ≡ self }
     {
-        self.staged.pop_front()
-    }
-
-    /// Ends its use; what was staged is committed.
-    pub fn destroy(self)
-        requires { self.staged ≡ [] }
-    {
-        let Initiator {
-            staged,
-            granted: _,
-            places: _,
-            first: _,
-            room: _,
-            most: _,
-        } = self;
-        staged.destroy_empty();
+        let Initiator { staging } = self;
+        staging
     }
 }

@@ -7,9 +7,11 @@ mod completion;
 mod handler;
 mod initiator;
 mod staged;
+mod staging;
 
 pub use completion::Completion;
 pub use handler::Handler;
 pub use initiator::Initiator;
 pub use io_rules::Marks;
 pub use staged::{Full, Initiating, Staged};
+pub use staging::Staging;

@@ -44,6 +44,12 @@ abbrev pub owns : {T : Type 0} → List (Job T) → ℕ
 owns [] = 0
 owns (job ∷ jobs) = own_in job + owns jobs
 
+-- these operations
+abbrev pub ops_in : {T : Type 0} → List (Job T) → List T
+ops_in [] = []
+ops_in (job.Strand strand ∷ jobs) = ops_in jobs
+ops_in (job.Own op ∷ jobs) = op ∷ ops_in jobs
+
 -- a strand that is taken was listed
 abbrev pub WasListed : {T : Type 0} → Job T → List Bool → Type 0
 WasListed (job.Strand strand) listed = slice_index_or listed strand false ≡ true

@@ -1,5 +1,5 @@
-ghost use Rattle.std.specs.Prelude.{◌≡◌, ◌<◌, ℕ, if◌then◌else◌, [], false, length, slice_get, IfNone, IfOk, IfSome, Some};
-ghost use Rattle.io_jobs.specs.Listed.{IsAmong, WasListed, is_listed, listed_without, no_jobs, owns, taken, with_op, with_strand};
+ghost use Rattle.std.specs.Prelude.{◌≡◌, ◌<◌, ◌≤◌, ℕ, if◌then◌else◌, [], false, length, slice_get, vec_capacity, IfNone, IfOk, IfSome, Some};
+ghost use Rattle.io_jobs.specs.Listed.{IsAmong, WasListed, is_listed, listed_without, no_jobs, ops_in, owns, taken, with_op, with_strand};
 
 use crate::job::Job;
 use asio_types::NoMemory;
@@ -13,9 +13,12 @@ pub struct Jobs<T> {
     ring: VecDeque<Job<T>>,
     listed: Vec<bool>,
     room: u32,
+    // empty, with room for these operations, for the end
+    spare: Vec<T>,
 }
 
 impl<T> Model for Jobs<T> {
+    ghost use Rattle.std.specs.Prelude.{◌≡◌, ◌≤◌, [], vec_capacity};
     ghost use Rattle.std.specs.VecDeque.{deque_capacity};
     ghost use Rattle.io_jobs.specs.Listed.{IsJobList, JobList};
 
@@ -24,7 +27,8 @@ impl<T> Model for Jobs<T> {
     ghost view = { λ j. record { ring = j.ring.items; listed = j.listed.items; room = j.room } };
 
     ghost invariant = { λ j. IsJobList (deque_capacity j.ring)
-        (record { ring = j.ring.items; listed = j.listed.items; room = j.room }) };
+        (record { ring = j.ring.items; listed = j.listed.items; room = j.room })
+        × (j.spare.items ≡ []) × (j.room ≤ vec_capacity j.spare) };
 }
 
 impl<T> Jobs<T> {
@@ -35,7 +39,18 @@ impl<T> Jobs<T> {
     {
         let listed = vec![in alloc; false; strands as usize]?;
         let ring = VecDeque::with_capacity(alloc, strands as usize + room as usize)?;
-        Ok(Jobs { ring, listed, room })
+        match Vec::with_capacity(alloc, room as usize) {
+            Ok(spare) => Ok(Jobs {
+                ring,
+                listed,
+                room,
+                spare,
+            }),
+            Err(_) => {
+                ring.destroy_empty();
+                Err(NoMemory)
+            }
+        }
     }
 
     /// Gives its memory back. The list is empty.
@@ -46,8 +61,32 @@ impl<T> Jobs<T> {
             ring,
             listed: _,
             room: _,
+            spare,
         } = self;
         ring.destroy_empty();
+        spare.destroy_empty();
+    }
+
+    /// Ends its use: the operations without a strand come out, in order, in a list with the room that there
+    /// was for them. Takes no memory.
+    pub fn into_ops(self) -> Vec<T>
+        ensures ops { result.items ≡ ops_in self.ring }
+        ensures room { self.room ≤ vec_capacity result }
+    {
+        let Jobs {
+            mut ring,
+            listed: _,
+            room: _,
+            spare: mut ops,
+        } = self;
+        while let Some(job) = ring.pop_front() {
+            match job {
+                Job::Strand(_) => {}
+                Job::Own(op) => ops.push_reserved(op),
+            }
+        }
+        ring.destroy_empty();
+        ops
     }
 
     /// A strand may begin: it comes last, unless it is in the list.

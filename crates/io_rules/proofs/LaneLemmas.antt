@@ -1,84 +1,26 @@
 -- Where handlers execute: what a history says and what its state says are the same.
 use Rattle.std.proofs.Common.{arith, ap, refl, sym, ◌∙◌}
-use Rattle.std.proofs.lemmas.Bool.{true≢false}
-use Rattle.std.specs.Prelude.{◌≡◌, ◌<◌, ℕ, ◌+◌, ◌==◌, Bool, true, false, List, [], ◌∷◌, Option, Some, None, if◌then◌else◌}
-use Rattle.io_rules.specs.declared.control.Control.{Control}
-use Rattle.io_rules.specs.declared.control.Control.TheVariants as control
+use Rattle.std.specs.Prelude.{◌≡◌, ◌<◌, ℕ, ◌+◌, ◌==◌, List, [], ◌∷◌, Option, Some, None, if◌then◌else◌}
 use Rattle.io_rules.specs.declared.event.Event.{Event}
 use Rattle.io_rules.specs.declared.event.Event.TheVariants as event
 use Rattle.io_rules.specs.declared.limits.Limits.{Limits}
 use Rattle.io_rules.specs.declared.name.Lane.{Lane}
-use Rattle.io_rules.specs.declared.op.Phase.TheVariants as phase
-use Rattle.io_rules.specs.declared.operation.Side.TheVariants as side
 use Rattle.io_rules.specs.declared.request.Gone.{Gone}
 use Rattle.io_rules.specs.Calls.{MayCallBy, accepted, caller_lane, new_op, target_if}
-use Rattle.io_rules.specs.Cancelling.{cancelled_phase, is_tried, ops_cancelled}
-use Rattle.io_rules.specs.Changes.{ops_changed, reached, spare_used}
-use Rattle.io_rules.specs.Completing.{completed, kind_of}
-use Rattle.io_rules.specs.Executions.{granted_more}
 use Rattle.io_rules.specs.History.{caller_in, lane_in}
 use Rattle.io_rules.specs.Legal.{IsLegal, after, state_of}
-use Rattle.io_rules.specs.Operations.{Target, behind_connect, target_of}
-use Rattle.io_rules.specs.Ops.{lane_at, op_at, phase_changed}
+use Rattle.io_rules.specs.Operations.{target_of}
+use Rattle.io_rules.specs.Ops.{lane_at, op_at}
 use Rattle.io_rules.specs.Room.{has_place, place_given, place_given_by}
-use Rattle.io_rules.specs.Serving.{first_of, ops_served, served, served_op}
-use Rattle.io_rules.specs.State.{ContextState, Op, stream_at}
+use Rattle.io_rules.specs.State.{Op}
 use Rattle.io_rules.specs.Strands.{entry_of, lane_given}
-use Rattle.io_rules.specs.Tries.{phase_back, phase_found}
 use Rattle.io_rules.proofs.TotalLemmas.{Each, apart, each-at, each-changed, each-changed_of, each-push, each-weaker, each-without, equal, found, lane-found, number-op_at}
+use Rattle.io_rules.proofs.EventLemmas.{StaysSo, stays-after, stays-served}
 use Rattle.io_rules.proofs.StrandLemmas.{by_test}
 
-abbrev pub is_no_call : Event → Bool
-is_no_call (event.Called op by request gone) = false
-is_no_call _ = true
-
-each-cancelled : (P : ℕ → Lane → Type 0) (s : ContextState) (numbers : List ℕ) (ops : List Op) → Each P ops →
-    Each P (ops_cancelled s numbers ops)
-each-cancelled P s [] ops all = all
-each-cancelled P s (n ∷ numbers) ops all =
-    each-cancelled P s numbers (phase_changed n (λ op. cancelled_phase (is_tried s op) op.phase) ops)
-    (each-changed P n (λ op. cancelled_phase (is_tried s op) op.phase) ops all)
-
-each-served : (P : ℕ → Lane → Type 0) (s : ContextState) (target : Option Target) → Each P s.ops →
-    Each P (ops_served s target)
-each-served P s None all = all
-each-served P s (Some target) all =
-    let stream = stream_at s.streams target.stream in
-    each-changed_of P (first_of target.side stream) (λ op. (served_op stream target.side op).phase) s.ops all
-
-each-ops_changed : (P : ℕ → Lane → Type 0) (by : Option ℕ) (change : Control) (ops : List Op) → Each P ops →
-    Each P (ops_changed by change ops)
-each-ops_changed P by (control.Make kind name) ops all =
-    each-changed_of P by (λ op. spare_used kind op.phase) ops all
-each-ops_changed P by _ ops all = all
-
 -- numbers and lanes stay
-each-after : (P : ℕ → Lane → Type 0) (e : Event) (s : ContextState) → is_no_call e ≡ true → Each P s.ops →
-    Each P (after e s).ops
-each-after P (event.Called op by request gone) s none all = absurd (true≢false (sym none))
-each-after P (event.Changed by change) s none all =
-    each-ops_changed P by change (ops_cancelled s (reached s change) s.ops)
-    (each-cancelled P s (reached s change) s.ops all)
-each-after P (event.Granted op spares) s none all =
-    each-changed P op (λ it. granted_more _ spares it.phase) s.ops all
-each-after P (event.Back name side given) s none all =
-    let stream = stream_at s.streams name in
-    each-changed_of P (first_of side stream) (λ op. phase_back stream given op.kind op.phase) s.ops all
-each-after P (event.Searched name end) s none all =
-    let stream = stream_at s.streams name in
-    each-changed_of P (first_of side.Read stream) (λ op. phase_found stream end op.kind op.phase) s.ops all
-each-after P (event.Done op code size) s none all =
-    let kind = kind_of (op_at s.ops op) in
-    let first = completed op code size s in
-    let second = served (target_of kind) first in
-    let third = served (behind_connect side.Read kind) second in
-    each-served P third (behind_connect side.Write kind)
-    (each-served P second (behind_connect side.Read kind)
-    (each-served P first (target_of kind) (each-changed P op (λ it. phase.Ready code size) s.ops all)))
-each-after P (event.Begun op spares) s none all = each-changed P op (λ it. phase.Running true _ spares) s.ops all
-each-after P (event.Ended op mark) s none all = each-without P op s.ops all
-each-after P (event.Dropped op mark) s none all = each-without P op s.ops all
-each-after P _ s none all = all
+each_stays : (P : ℕ → Lane → Type 0) → StaysSo (Each P)
+each_stays P = record { changed = each-changed P; without = each-without P }
 
 -- the history has its lane, and its number was given
 abbrev IsOf : List Event → ℕ → ℕ → Lane → Type 0
@@ -106,7 +48,7 @@ lanes limits (event.Called op by request gone ∷ past) legal =
     let s = state_of limits past in
     let P : ℕ → Lane → Type 0 = IsOf (event.Called op by request gone ∷ past) (s.next + 1) in
     let entry = entry_of (caller_lane s.ops by) request gone in
-    each-served P (accepted entry op by request gone s) (target_if gone (target_of request.kind))
+    stays-served (Each P) (each_stays P) (accepted entry op by request gone s) (target_if gone (target_of request.kind))
     (each-push P (place_given_by by s.ops) (new_op entry op request gone)
     (each-changed_of P by (λ it. place_given it.phase) s.ops
     (each-weaker (IsOf past s.next) P
@@ -115,7 +57,8 @@ lanes limits (event.Called op by request gone ∷ past) legal =
     (here_of past s.next op (lane_given request gone) legal.0.number))
 lanes limits (e ∷ past) legal =
     let s = state_of limits past in
-    each-after (IsOf (e ∷ past) (after e s).next) e s refl (lanes limits past legal.1)
+    let P : ℕ → Lane → Type 0 = IsOf (e ∷ past) (after e s).next in
+    stays-after (Each P) (each_stays P) e s refl (lanes limits past legal.1)
 
 -- where an operation that is there executes
 pub lane_known : (limits : Limits) (past : List Event) → IsLegal limits past → (op : ℕ) (it : Op) →

@@ -1,10 +1,13 @@
 pub mod AloneLemmas
+pub mod EventLemmas
 pub mod ExampleLemmas
 pub mod FitLemmas
+pub mod KeptLemmas
 pub mod LaneLemmas
 pub mod MoveLemmas
 pub mod OnceLemmas
 pub mod OrderLemmas
+pub mod RiseLemmas
 pub mod RoomLemmas
 pub mod ShareLemmas
 pub mod StageLemmas

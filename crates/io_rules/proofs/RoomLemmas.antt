@@ -59,7 +59,7 @@ quiet_places = record { calm = calm_places; spares = λ n own grant one other. r
 quiet_numbers : IsQuiet numbers
 quiet_numbers = record { calm = calm_numbers; spares = λ n own grant one other. refl }
 
-first_calm : (entry : Entry) (given : Gone) → is_running (first_phase entry given) ≡ false
+pub first_calm : (entry : Entry) (given : Gone) → is_running (first_phase entry given) ≡ false
 first_calm First given = refl
 first_calm Last given = refl
 first_calm Later gone.Nothing = refl
@@ -218,12 +218,12 @@ places_here limits (event.Called op by request given ∷ past) legal =
     let s = state_of limits past in
     let entry = entry_of (caller_lane s.ops by) request given in
     called_room s given by limits.operations _ legal.0.allowed (places_here limits past legal.1)
-    (weighed-called places quiet_places op by request given s
+    (weighed-called places calm_places op by request given s
     ∙ ap (λ n. total (weighed places) (place_given_by by s.ops) + n)
     (calm_places op (first_phase entry given) (phase.Ready code.Ok 0) (first_calm entry given) refl))
 places_here limits (event.Done op code size ∷ past) legal =
     let s = state_of limits past in
-    ap (λ n. s.room + n) (weighed-done places quiet_places op code size s legal.0) ∙ places_here limits past legal.1
+    ap (λ n. s.room + n) (weighed-done places calm_places op code size s legal.0) ∙ places_here limits past legal.1
 places_here limits (event.Begun op spares ∷ past) legal =
     let s = state_of limits past in
     let before = places_here limits past legal.1 in
@@ -274,12 +274,12 @@ numbers_here limits (event.Called op by request given ∷ past) legal =
     let s = state_of limits past in
     let entry = entry_of (caller_lane s.ops by) request given in
     called_numbers s given by _ legal.0.allowed (numbers_here limits past legal.1)
-    (weighed-called numbers quiet_numbers op by request given s
+    (weighed-called numbers calm_numbers op by request given s
     ∙ ap (λ n. total (weighed numbers) (place_given_by by s.ops) + n)
     (calm_numbers op (first_phase entry given) (phase.Ready code.Ok 0) (first_calm entry given) refl))
 numbers_here limits (event.Done op code size ∷ past) legal =
     let s = state_of limits past in
-    numbers_here limits past legal.1 ∙ sym (weighed-done numbers quiet_numbers op code size s legal.0)
+    numbers_here limits past legal.1 ∙ sym (weighed-done numbers calm_numbers op code size s legal.0)
 numbers_here limits (event.Begun op spares ∷ past) legal =
     let s = state_of limits past in
     let before = numbers_here limits past legal.1 in
@@ -416,13 +416,13 @@ gave_here limits (event.Called op by request given ∷ past) legal k =
     let entry = entry_of (caller_lane s.ops by) request given in
     subst (λ n. n ≤ times (calls_by k) (event.Called op by request given ∷ past))
     (sym
-    (weighed-called (gave k) (quiet_gave k) op by request given s
+    (weighed-called (gave k) (quiet_gave k).calm op by request given s
     ∙ ap (λ n. total (weighed (gave k)) (place_given_by by s.ops) + n)
     (calm_gave (op == k) (first_phase entry given) (first_calm entry given))))
     (called_gave s given by k (times (calls_by k) past) legal.0.allowed (gave_here limits past legal.1 k))
 gave_here limits (event.Done op code size ∷ past) legal k =
     let before = gave_here limits past legal.1 k in
-    let same_total = weighed-done (gave k) (quiet_gave k) op code size (state_of limits past) legal.0 in
+    let same_total = weighed-done (gave k) (quiet_gave k).calm op code size (state_of limits past) legal.0 in
     omega (arith, before, same_total)
 gave_here limits (event.Begun op spares ∷ past) legal k =
     let s = state_of limits past in

@@ -31,9 +31,13 @@ use Rattle.io_rules.proofs.MoveLemmas.{completing}
 use Rattle.io_rules.proofs.StageLemmas.{Idle, back_keeps, cancel_keeps, found_keeps, serve_phase_keeps, stage_of}
 use Rattle.io_rules.proofs.TotalLemmas.{number-op_at, total, total-changed, total-kept, total-kept_of, total-push, total-without}
 
--- a share that tells operations apart only while they execute, and then not by their spare names
+-- a share that tells operations apart only while they execute
+abbrev pub IsCalm : (ℕ → Phase → ℕ) → Type 0
+IsCalm w = (n : ℕ) (p q : Phase) → is_running p ≡ false → is_running q ≡ false → w n p ≡ w n q
+
+-- and then not by their spare names
 pub record IsQuiet (w : ℕ → Phase → ℕ) : Type 0 where
-  pub calm : (n : ℕ) (p q : Phase) → is_running p ≡ false → is_running q ≡ false → w n p ≡ w n q
+  pub calm : IsCalm w
   pub spares : (n : ℕ) (own : Bool) (grant : ℕ) (one other : Spares) →
       w n (phase.Running own grant one) ≡ w n (phase.Running own grant other)
 
@@ -46,42 +50,42 @@ idle_calm (phase.Settled code size) is = refl
 idle_calm (phase.Ready code size) is = refl
 idle_calm (phase.Running own grant spares) is = absurd (cc)
 
-quiet_cancel : (w : ℕ → Phase → ℕ) → IsQuiet w → (n : ℕ) (tried : Bool) (p : Phase) →
+calm_cancel : (w : ℕ → Phase → ℕ) → IsCalm w → (n : ℕ) (tried : Bool) (p : Phase) →
     w n (cancelled_phase tried p) ≡ w n p
-quiet_cancel w quiet n tried (phase.Pending moved cancelled) =
-    quiet.calm n _ _ (idle_calm _ (cancel_keeps tried (phase.Pending moved cancelled))) refl
-quiet_cancel w quiet n tried (phase.Settled code size) = refl
-quiet_cancel w quiet n tried (phase.Ready code size) = refl
-quiet_cancel w quiet n tried (phase.Running own grant spares) = refl
+calm_cancel w calm n tried (phase.Pending moved cancelled) =
+    calm n _ _ (idle_calm _ (cancel_keeps tried (phase.Pending moved cancelled))) refl
+calm_cancel w calm n tried (phase.Settled code size) = refl
+calm_cancel w calm n tried (phase.Ready code size) = refl
+calm_cancel w calm n tried (phase.Running own grant spares) = refl
 
-quiet_serve_phase : (w : ℕ → Phase → ℕ) → IsQuiet w → (n : ℕ) (s : StreamState) (kind : Operation) (p : Phase) →
+calm_serve_phase : (w : ℕ → Phase → ℕ) → IsCalm w → (n : ℕ) (s : StreamState) (kind : Operation) (p : Phase) →
     w n (served_phase s kind p).phase ≡ w n p
-quiet_serve_phase w quiet n s kind (phase.Pending moved cancelled) =
-    quiet.calm n _ _ (idle_calm _ (serve_phase_keeps s kind (phase.Pending moved cancelled))) refl
-quiet_serve_phase w quiet n s kind (phase.Settled code size) = refl
-quiet_serve_phase w quiet n s kind (phase.Ready code size) = refl
-quiet_serve_phase w quiet n s kind (phase.Running own grant spares) = refl
+calm_serve_phase w calm n s kind (phase.Pending moved cancelled) =
+    calm n _ _ (idle_calm _ (serve_phase_keeps s kind (phase.Pending moved cancelled))) refl
+calm_serve_phase w calm n s kind (phase.Settled code size) = refl
+calm_serve_phase w calm n s kind (phase.Ready code size) = refl
+calm_serve_phase w calm n s kind (phase.Running own grant spares) = refl
 
-quiet_serve_if : (w : ℕ → Phase → ℕ) → IsQuiet w → (n : ℕ) (s : StreamState) (op : Op) (b : Bool) →
+calm_serve_if : (w : ℕ → Phase → ℕ) → IsCalm w → (n : ℕ) (s : StreamState) (op : Op) (b : Bool) →
     w n (if b then record { phase = op.phase; held = s.held } else served_phase s op.kind op.phase).phase ≡ w n op.phase
-quiet_serve_if w quiet n s op true = refl
-quiet_serve_if w quiet n s op false = quiet_serve_phase w quiet n s op.kind op.phase
+calm_serve_if w calm n s op true = refl
+calm_serve_if w calm n s op false = calm_serve_phase w calm n s op.kind op.phase
 
-quiet_back : (w : ℕ → Phase → ℕ) → IsQuiet w → (n : ℕ) (s : StreamState) (given : Gave) (kind : Operation) (p : Phase) →
+calm_back : (w : ℕ → Phase → ℕ) → IsCalm w → (n : ℕ) (s : StreamState) (given : Gave) (kind : Operation) (p : Phase) →
     w n (phase_back s given kind p) ≡ w n p
-quiet_back w quiet n s given kind (phase.Pending moved cancelled) =
-    quiet.calm n _ _ (idle_calm _ (back_keeps s given kind (phase.Pending moved cancelled))) refl
-quiet_back w quiet n s given kind (phase.Settled code size) = refl
-quiet_back w quiet n s given kind (phase.Ready code size) = refl
-quiet_back w quiet n s given kind (phase.Running own grant spares) = refl
+calm_back w calm n s given kind (phase.Pending moved cancelled) =
+    calm n _ _ (idle_calm _ (back_keeps s given kind (phase.Pending moved cancelled))) refl
+calm_back w calm n s given kind (phase.Settled code size) = refl
+calm_back w calm n s given kind (phase.Ready code size) = refl
+calm_back w calm n s given kind (phase.Running own grant spares) = refl
 
-quiet_found : (w : ℕ → Phase → ℕ) → IsQuiet w → (n : ℕ) (s : StreamState) (end : Option ℕ) (kind : Operation)
+calm_found : (w : ℕ → Phase → ℕ) → IsCalm w → (n : ℕ) (s : StreamState) (end : Option ℕ) (kind : Operation)
     (p : Phase) → w n (phase_found s end kind p) ≡ w n p
-quiet_found w quiet n s end kind (phase.Pending moved cancelled) =
-    quiet.calm n _ _ (idle_calm _ (found_keeps s end kind (phase.Pending moved cancelled))) refl
-quiet_found w quiet n s end kind (phase.Settled code size) = refl
-quiet_found w quiet n s end kind (phase.Ready code size) = refl
-quiet_found w quiet n s end kind (phase.Running own grant spares) = refl
+calm_found w calm n s end kind (phase.Pending moved cancelled) =
+    calm n _ _ (idle_calm _ (found_keeps s end kind (phase.Pending moved cancelled))) refl
+calm_found w calm n s end kind (phase.Settled code size) = refl
+calm_found w calm n s end kind (phase.Ready code size) = refl
+calm_found w calm n s end kind (phase.Running own grant spares) = refl
 
 quiet_spare : (w : ℕ → Phase → ℕ) → IsQuiet w → (n : ℕ) (kind : Kind) (p : Phase) → w n (spare_used kind p) ≡ w n p
 quiet_spare w quiet n kind (phase.Pending moved cancelled) = refl
@@ -89,21 +93,21 @@ quiet_spare w quiet n kind (phase.Settled code size) = refl
 quiet_spare w quiet n kind (phase.Ready code size) = refl
 quiet_spare w quiet n kind (phase.Running own grant spares) = quiet.spares n own grant _ spares
 
-weighed-cancelled : (w : ℕ → Phase → ℕ) → IsQuiet w → (s : ContextState) (numbers : List ℕ) (ops : List Op) →
+pub weighed-cancelled : (w : ℕ → Phase → ℕ) → IsCalm w → (s : ContextState) (numbers : List ℕ) (ops : List Op) →
     total (weighed w) (ops_cancelled s numbers ops) ≡ total (weighed w) ops
-weighed-cancelled w quiet s [] ops = refl
-weighed-cancelled w quiet s (n ∷ numbers) ops =
-    weighed-cancelled w quiet s numbers (phase_changed n (λ op. cancelled_phase (is_tried s op) op.phase) ops)
+weighed-cancelled w calm s [] ops = refl
+weighed-cancelled w calm s (n ∷ numbers) ops =
+    weighed-cancelled w calm s numbers (phase_changed n (λ op. cancelled_phase (is_tried s op) op.phase) ops)
     ∙ total-kept (weighed w) n (λ op. cancelled_phase (is_tried s op) op.phase)
-    (λ op. quiet_cancel w quiet op.number (is_tried s op) op.phase) ops
+    (λ op. calm_cancel w calm op.number (is_tried s op) op.phase) ops
 
-pub weighed-served : (w : ℕ → Phase → ℕ) → IsQuiet w → (s : ContextState) (target : Option Target) →
+pub weighed-served : (w : ℕ → Phase → ℕ) → IsCalm w → (s : ContextState) (target : Option Target) →
     total (weighed w) (ops_served s target) ≡ total (weighed w) s.ops
-weighed-served w quiet s None = refl
-weighed-served w quiet s (Some target) =
+weighed-served w calm s None = refl
+weighed-served w calm s (Some target) =
     let stream = stream_at s.streams target.stream in
     total-kept_of (weighed w) (first_of target.side stream) (λ op. (served_op stream target.side op).phase)
-    (λ op. quiet_serve_if w quiet op.number stream op (is_out_for target.side stream.out)) s.ops
+    (λ op. calm_serve_if w calm op.number stream op (is_out_for target.side stream.out)) s.ops
 
 weighed_changed : (w : ℕ → Phase → ℕ) → IsQuiet w → (by : Option ℕ) (change : Control) (ops : List Op) →
     total (weighed w) (ops_changed by change ops) ≡ total (weighed w) ops
@@ -111,6 +115,24 @@ weighed_changed w quiet by (control.Make kind name) ops =
     total-kept_of (weighed w) by (λ op. spare_used kind op.phase)
     (λ op. quiet_spare w quiet op.number kind op.phase) ops
 weighed_changed w quiet by _ ops = refl
+
+-- what comes from the outside leaves it
+abbrev pub is_told : Event → Bool
+is_told (event.Back name side given) = true
+is_told (event.Searched name end) = true
+is_told _ = false
+
+pub weighed-told : (w : ℕ → Phase → ℕ) → IsCalm w → (e : Event) (s : ContextState) → is_told e ≡ true →
+    total (weighed w) (after e s).ops ≡ total (weighed w) s.ops
+weighed-told w calm (event.Back name side given) s told =
+    let stream = stream_at s.streams name in
+    total-kept_of (weighed w) (first_of side stream) (λ op. phase_back stream given op.kind op.phase)
+    (λ op. calm_back w calm op.number stream given op.kind op.phase) s.ops
+weighed-told w calm (event.Searched name end) s told =
+    let stream = stream_at s.streams name in
+    total-kept_of (weighed w) (first_of side.Read stream) (λ op. phase_found stream end op.kind op.phase)
+    (λ op. calm_found w calm op.number stream end op.kind op.phase) s.ops
+weighed-told w calm _ s told = absurd (true≢false (sym told))
 
 -- events that take and give no places
 abbrev pub is_placeless : Event → Bool
@@ -132,15 +154,10 @@ weighed-other w quiet (event.Ended op mark) s other = absurd (true≢false (sym 
 weighed-other w quiet (event.Dropped op mark) s other = absurd (true≢false (sym other))
 weighed-other w quiet (event.Changed by change) s other =
     weighed_changed w quiet by change (ops_cancelled s (reached s change) s.ops)
-    ∙ weighed-cancelled w quiet s (reached s change) s.ops
+    ∙ weighed-cancelled w quiet.calm s (reached s change) s.ops
 weighed-other w quiet (event.Back name side given) s other =
-    let stream = stream_at s.streams name in
-    total-kept_of (weighed w) (first_of side stream) (λ op. phase_back stream given op.kind op.phase)
-    (λ op. quiet_back w quiet op.number stream given op.kind op.phase) s.ops
-weighed-other w quiet (event.Searched name end) s other =
-    let stream = stream_at s.streams name in
-    total-kept_of (weighed w) (first_of side.Read stream) (λ op. phase_found stream end op.kind op.phase)
-    (λ op. quiet_found w quiet op.number stream end op.kind op.phase) s.ops
+    weighed-told w quiet.calm (event.Back name side given) s refl
+weighed-other w quiet (event.Searched name end) s other = weighed-told w quiet.calm (event.Searched name end) s refl
 weighed-other w quiet _ s other = refl
 
 -- one operation changes
@@ -159,26 +176,26 @@ weighed-without w ops n it is =
     subst (λ k. total (weighed w) (without n ops) + w k it.phase ≡ total (weighed w) ops) (number-op_at n ops it is)
     (total-without (weighed w) n ops it is)
 
-pub weighed-done : (w : ℕ → Phase → ℕ) → IsQuiet w → (op : ℕ) (given : Code) (size : ℕ) (s : ContextState) →
+pub weighed-done : (w : ℕ → Phase → ℕ) → IsCalm w → (op : ℕ) (given : Code) (size : ℕ) (s : ContextState) →
     MayBeDone s op given size → total (weighed w) (after_done op given size s).ops ≡ total (weighed w) s.ops
-weighed-done w quiet op given size s may =
+weighed-done w calm op given size s may =
     let it = completing s op given size may in
     let kind = kind_of (op_at s.ops op) in
     let first = completed op given size s in
     let second = served (target_of kind) first in
     let third = served (behind_connect side.Read kind) second in
     let change = weighed-changed w s.ops op (λ other. phase.Ready given size) it.it it.is in
-    let calm = quiet.calm op (phase.Ready given size) it.it.phase refl (idle_calm it.it.phase it.idle) in
-    weighed-served w quiet third (behind_connect side.Write kind)
-    ∙ weighed-served w quiet second (behind_connect side.Read kind) ∙ weighed-served w quiet first (target_of kind)
-    ∙ omega (arith, change, calm)
+    let idle = calm op (phase.Ready given size) it.it.phase refl (idle_calm it.it.phase it.idle) in
+    weighed-served w calm third (behind_connect side.Write kind)
+    ∙ weighed-served w calm second (behind_connect side.Read kind) ∙ weighed-served w calm first (target_of kind)
+    ∙ omega (arith, change, idle)
 
-pub weighed-called : (w : ℕ → Phase → ℕ) → IsQuiet w → (op : ℕ) (by : Option ℕ) (request : Request) (gone : Gone)
+pub weighed-called : (w : ℕ → Phase → ℕ) → IsCalm w → (op : ℕ) (by : Option ℕ) (request : Request) (gone : Gone)
     (s : ContextState) →
     total (weighed w) (after_call op by request gone s).ops
     ≡ total (weighed w) (place_given_by by s.ops)
     + w op (first_phase (entry_of (caller_lane s.ops by) request gone) gone)
-weighed-called w quiet op by request gone s =
+weighed-called w calm op by request gone s =
     let entry = entry_of (caller_lane s.ops by) request gone in
-    weighed-served w quiet (accepted entry op by request gone s) (target_if gone (target_of request.kind))
+    weighed-served w calm (accepted entry op by request gone s) (target_if gone (target_of request.kind))
     ∙ total-push (weighed w) (place_given_by by s.ops) (new_op entry op request gone)

@@ -119,7 +119,7 @@ waits_less Idle b = omega arith
 waits_less Prepared b = omega arith
 waits_less Executing b = omega arith
 
-runs_tied : (n : Name) (ops : List Op) → total (staged (runs_on n)) ops ≤ total (staged (tied_to n)) ops
+pub runs_tied : (n : Name) (ops : List Op) → total (staged (runs_on n)) ops ≤ total (staged (tied_to n)) ops
 runs_tied n ops =
     total-less (staged (runs_on n)) (staged (tied_to n)) (λ op. executes_less (stage_of op.phase) (is_on n op.lane)) ops
 

@@ -65,7 +65,7 @@ ready_still marks n old new on (r ∷ rest) leaves none are = (
 )
 
 -- an operation of another lane is none of these
-none_elsewhere : {H : Type 0} (marks : H → Marks) (ops : List Op) (on : Lane) (n : ℕ) (it : Op)
+pub none_elsewhere : {H : Type 0} (marks : H → Marks) (ops : List Op) (on : Lane) (n : ℕ) (it : Op)
     (queue : List (ReadyOp H)) → op_at ops n ≡ Some it → (it.lane ≡ on → ⊥) → AreReady marks ops on queue →
     IsNone n queue
 none_elsewhere marks ops on n it [] is other are = tt
@@ -119,12 +119,12 @@ lane_kept places (Some name) n k =
     ap (λ g. lane.Strand (record { place = k; generation = g })) (sym (generation-with_life (life.Kept n) name places k))
 
 -- the rules' names and numbers
-below_begun : (next n : ℕ) (f : Op → Phase) (ops : List Op) → AreBelow next ops → AreBelow next (phase_changed n f ops)
+pub below_begun : (next n : ℕ) (f : Op → Phase) (ops : List Op) → AreBelow next ops → AreBelow next (phase_changed n f ops)
 below_begun next n f ops below =
     below_each next (phase_changed n f ops) (each-changed (λ k on. k < next) n f ops (each_below next ops below))
 
 -- what a handler that begins leaves of a place: its strand isn't the one of another place
-other_lane : (places : List Place) (p k : ℕ) → eqb p k ≡ false → lane_of_place places p ≡ lane_of_place places k → ⊥
+pub other_lane : (places : List Place) (p k : ℕ) → eqb p k ≡ false → lane_of_place places p ≡ lane_of_place places k → ⊥
 other_lane places p k other is =
     let same_place : p ≡ k = ap place_of is in apart p k other (sym same_place)
   where
@@ -132,7 +132,7 @@ other_lane places p k other is =
     place_of lane.Own = 0
     place_of (lane.Strand name) = name.place
 
-own_apart : (name : Name) → lane.Strand name ≡ lane.Own → ⊥
+pub own_apart : (name : Name) → lane.Strand name ≡ lane.Own → ⊥
 own_apart name is = absurd (cc)
 
 and_not : (b : Bool) → (b && false) ≡ false

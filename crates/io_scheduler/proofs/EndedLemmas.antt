@@ -1,9 +1,9 @@
--- A handler has returned, and its strand stays: what is kept shows the state behind it.
+-- A handler has returned: what is kept shows the state behind it.
 use Rattle.std.proofs.Common.{arith, ap, refl, subst, sym, ◌∙◌}
 use Rattle.std.proofs.lemmas.Bool.{true≢false}
-use Rattle.std.proofs.lemmas.List.{get_or-set_other, get_or-set_same, length-map, map-set}
+use Rattle.std.proofs.lemmas.List.{get_or-set_other, get_or-set_same, length-map, length-set, map-set}
 use Rattle.std.proofs.Math.Seq.{map-set_same}
-use Rattle.std.specs.Prelude.{◌≡◌, ◌<◌, ◌≤◌, ℕ, ◌+◌, ◌-◌, ◌==◌, ◌&&◌, ◌||◌, Bool, true, false, List, [], ◌∷◌, Option, None, Some, length, map, nat_lt, not, sum_by}
+use Rattle.std.specs.Prelude.{◌≡◌, ◌<◌, ◌≤◌, ℕ, ◌+◌, ◌-◌, ◌==◌, ◌&&◌, ◌||◌, Bool, true, false, List, [], ◌∷◌, Option, None, Some, length, map, nat_le, nat_lt, not, sum_by, if◌then◌else◌}
 use Rattle.std.specs.List.{slice_index_or, slice_set}
 use Rattle.std.specs.Option.{is_some, option_map}
 use Rattle.io_rules.specs.declared.event.Event.{Event}
@@ -15,6 +15,7 @@ use Rattle.io_rules.specs.declared.name.Name.{Name}
 use Rattle.io_rules.specs.declared.op.Op.{Op}
 use Rattle.io_rules.specs.declared.op.Phase.{Phase}
 use Rattle.io_rules.specs.declared.op.Phase.TheVariants as phase
+use Rattle.io_rules.specs.declared.place.Life.{Life}
 use Rattle.io_rules.specs.declared.place.Life.TheVariants as life
 use Rattle.io_rules.specs.declared.place.Place.{Place}
 use Rattle.io_rules.specs.declared.request.Marks.{Marks}
@@ -22,18 +23,18 @@ use Rattle.io_rules.specs.declared.spares.Spares.{Spares}
 use Rattle.io_rules.specs.Executions.{MayEnd, marks_of, spares_in, spares_of}
 use Rattle.io_rules.specs.InOrder.{strand_of}
 use Rattle.io_rules.specs.Legal.{IsLegal, after, state_of}
-use Rattle.io_rules.specs.Names.{Names, is_on, no_place}
+use Rattle.io_rules.specs.Names.{Names, is_closing, is_current, is_leaving, is_on, is_unused, no_place, place_at}
 use Rattle.io_rules.specs.Ops.{is_ready, is_running, lane_of, op_at, passes, without}
 use Rattle.io_rules.specs.Room.{counted, numbers_in, one_if, places_in}
 use Rattle.io_rules.specs.Spares.{given_back, with_life_of}
-use Rattle.io_rules.specs.State.{ContextState, StrandState, new_strand}
+use Rattle.io_rules.specs.State.{ContextState, StrandState, new_strand, strand_at}
 use Rattle.io_rules.specs.Strands.{ended_on, is_last_on, on_lane, strand_forgotten, strand_freed}
 use Rattle.io_rules.proofs.FitLemmas.{runs_on}
 use Rattle.io_rules.proofs.OnceLemmas.{if_executing}
 use Rattle.io_rules.proofs.RoomLemmas.{places_add_up}
 use Rattle.io_rules.proofs.StageLemmas.{stage_of, staged}
-use Rattle.io_rules.proofs.StrandLemmas.{IsKnown, by_test, generation-with_life, name-itself, strand_is}
-use Rattle.io_rules.proofs.StrandStateLemmas.{known_lane, strands_fit}
+use Rattle.io_rules.proofs.StrandLemmas.{IsKnown, both, by_test, generation-with_life, name-itself, strand_is}
+use Rattle.io_rules.proofs.StrandStateLemmas.{known_lane, last_one, strands_fit}
 use Rattle.io_rules.proofs.TotalLemmas.{apart, each-without, equal, lane-found, share, sum_by-total, total-without}
 use Rattle.io_history.specs.declared.view.Held.{Held}
 use Rattle.io_history.specs.Rule.{IsHeld}
@@ -45,15 +46,16 @@ use Rattle.io_strands.proofs.StepLemmas.{steps_alike}
 use Rattle.io_jobs.specs.Listed.{JobList}
 use Rattle.io_scheduler.specs.declared.counts.Counts.{Counts}
 use Rattle.io_scheduler.specs.Begun.{is_strand}
-use Rattle.io_scheduler.specs.Ended.{MayLeaveFrom, RunsOn, counts_ended, left_cells, left_jobs, mark_of}
+use Rattle.io_scheduler.specs.Ended.{IsIdleAt, MayForget, MayLeaveFrom, RunsOn, counts_ended, forgotten_cells, forgotten_state, left_cells, left_jobs, mark_of}
 use Rattle.io_scheduler.specs.Running.{IsExecution}
 use Rattle.io_scheduler.specs.Ready.{AreReady, IsNone, own_ops}
-use Rattle.io_scheduler.specs.Shown.{AreBelow, IsUnusedSpare, Shows, ShowsCell, cell_at, is_used_place, lane_of_place, room_of, waits_own, waits_own_on}
+use Rattle.io_scheduler.specs.Shown.{AreBelow, IsUnusedSpare, Shows, ShowsCell, cell_at, is_used, is_used_place, lane_of_place, room_of, waits_own, waits_own_on}
 use Rattle.io_scheduler.proofs.BegunLemmas.{LeavesIt, ready_still}
+use Rattle.io_scheduler.proofs.ForgottenLemmas.{empty_there, forgotten, none_waits, shows_forgotten}
 use Rattle.io_scheduler.proofs.ListedLemmas.{cell_is, flag_is, listed-if, own-if, room-if}
 use Rattle.io_scheduler.proofs.PostedLemmas.{lane_current}
 use Rattle.io_scheduler.proofs.ReadyLemmas.{below_each, each_below}
-use Rattle.io_scheduler.proofs.SpareLemmas.{spare_at, spares_less, spares_without}
+use Rattle.io_scheduler.proofs.SpareLemmas.{spare_at, spares_less, spares_without, used_at}
 
 without_leaves : (n : ℕ) (ops : List Op) → LeavesIt n ops (without n ops)
 without_leaves n ops m op other is = at-without n m ops op (λ here. other (sym here)) is
@@ -109,11 +111,11 @@ own_ended n ops it is runs =
     waits_not lane.Own (phase.Ready code size) runs = absurd (true≢false (sym runs))
     waits_not (lane.Strand name) p runs = refl
 
--- the state behind the end of what was so, on a strand that stays
+-- the state behind the end, on a strand that stays
 abbrev ended_state : Lane → ℕ → ℕ → Spares → ContextState → ContextState
-ended_state on n grant spares s = record s {
-  promised = s.promised - (1 + grant);
-  room = s.room + (1 + grant);
+ended_state on n places spares s = record s {
+  promised = s.promised - places;
+  room = s.room + places;
   ops = without n s.ops;
   names = given_back spares s.names;
   strands = on_lane on ended_on s.strands;
@@ -143,14 +145,13 @@ ended_for o n s =
       strands = strand_forgotten last on (on_lane on ended_on s.strands);
     }
 
-pub after_ended : (n mark : ℕ) (it : Op) (on : Lane) (grant : ℕ) (spares : Spares) (s : ContextState) →
-    op_at s.ops n ≡ Some it → it.lane ≡ on → it.phase ≡ phase.Running true grant spares → is_last_on s on ≡ false →
-    after (event.Ended n mark) s ≡ ended_state on n grant spares s
-after_ended n mark it on grant spares s is at runs stays =
+after_ended : (n mark : ℕ) (it : Op) (on : Lane) (own : Bool) (grant : ℕ) (spares : Spares) (s : ContextState) →
+    op_at s.ops n ≡ Some it → it.lane ≡ on → it.phase ≡ phase.Running own grant spares →
+    after (event.Ended n mark) s ≡ forgotten (is_last_on s on) on (ended_state on n (one_if own + grant) spares s)
+after_ended n mark it on own grant spares s is at runs =
     ap (λ (o : Option Op). ended_for o n s) is
     ∙ ap (λ l. ended_by (is_last_on s l) l it.phase n s) at
     ∙ ap (λ p. ended_by (is_last_on s on) on p n s) runs
-    ∙ ap (λ last. ended_by last on (phase.Running true grant spares) n s) stays
 
 -- what is ready at the other places stays
 others_ended : {H S : Type 0} (marks : H → Marks) (s : ContextState) (n : ℕ) (spares : Spares) (it : Op) (k : ℕ)
@@ -168,16 +169,16 @@ others_ended marks s n spares it k c is runs shows =
 
 -- without a strand
 ended_own : {H S : Type 0} (marks : H → Marks) (limits : Limits) (counts : Counts) (names : Names)
-    (cells : List (Cell H S)) (jobs : JobList (ReadyOp H)) (s : ContextState) (n : ℕ) (it : Op) (grant : ℕ)
+    (cells : List (Cell H S)) (jobs : JobList (ReadyOp H)) (s : ContextState) (n : ℕ) (it : Op) (places : ℕ)
     (spares : Spares) → op_at s.ops n ≡ Some it → is_running it.phase ≡ true →
     IsUnusedSpare s.names.strands spares.strand → Shows marks limits counts names cells jobs s →
-    Shows marks limits (counts_ended grant counts) (given_back spares names) cells jobs
-    (ended_state lane.Own n grant spares s)
-ended_own marks limits counts names cells jobs s n it grant spares is runs unused shows =
+    Shows marks limits (counts_ended places counts) (given_back spares names) cells jobs
+    (ended_state lane.Own n places spares s)
+ended_own marks limits counts names cells jobs s n it places spares is runs unused shows =
     let given = given_unused s.names.strands spares.strand unused in
     record {
       limits_are = shows.limits_are;
-      counts_are = ap (counts_ended grant) shows.counts_are;
+      counts_are = ap (counts_ended places) shows.counts_are;
       names_are = ap (given_back spares) shows.names_are;
       below = below_ended s.next n s.ops shows.below;
       spares = spares_without (given_back spares s.names).strands n s.ops
@@ -206,21 +207,21 @@ not_while true false is = absurd (true≢false (sym is))
 
 -- on a strand
 ended_strand : {H S : Type 0} (marks : H → Marks) (limits : Limits) (counts : Counts) (names : Names)
-    (cells : List (Cell H S)) (jobs : JobList (ReadyOp H)) (s : ContextState) (n : ℕ) (it : Op) (p : ℕ) (grant : ℕ)
+    (cells : List (Cell H S)) (jobs : JobList (ReadyOp H)) (s : ContextState) (n : ℕ) (it : Op) (p : ℕ) (places : ℕ)
     (spares : Spares) (state : S) → op_at s.ops n ≡ Some it → is_running it.phase ≡ true →
     IsUnusedSpare s.names.strands spares.strand → RunsOn p cells jobs → Shows marks limits counts names cells jobs s →
-    Shows marks limits (counts_ended grant counts) (given_back spares names)
+    Shows marks limits (counts_ended places counts) (given_back spares names)
     (left_cells (lane_of_place s.names.strands p) (Some state) cells)
     (left_jobs (lane_of_place s.names.strands p) (Some state) cells jobs)
-    (ended_state (lane_of_place s.names.strands p) n grant spares s)
-ended_strand marks limits counts names cells jobs s n it p grant spares state is runs unused on shows =
+    (ended_state (lane_of_place s.names.strands p) n places spares s)
+ended_strand marks limits counts names cells jobs s n it p places spares state is runs unused on shows =
     let old = cell_at cells p in
     let cell = ended state old in
     let given = given_unused s.names.strands spares.strand unused in
     let ring = own-if (may_begin cell) jobs p in
     record {
       limits_are = shows.limits_are;
-      counts_are = ap (counts_ended grant) shows.counts_are;
+      counts_are = ap (counts_ended places) shows.counts_are;
       names_are = ap (given_back spares) shows.names_are;
       below = below_ended s.next n s.ops shows.below;
       spares = spares_without (given_back spares s.names).strands n s.ops
@@ -305,18 +306,18 @@ runs_there marks limits past counts names cells jobs n it (lane.Strand m) legal 
     }
 
 -- what is held executes as its execution says
-pub record HeldOp (s : ContextState) (n : ℕ) (on : Lane) (grant : ℕ) (spares : Spares) (held : Option Held) :
+pub record HeldOp (s : ContextState) (n : ℕ) (on : Lane) (own : Bool) (grant : ℕ) (spares : Spares) (held : Option Held) :
     Type 0 where
   pub op : Op
   pub is : op_at s.ops n ≡ Some op
   pub at : op.lane ≡ on
-  pub runs : op.phase ≡ phase.Running true grant spares
+  pub runs : op.phase ≡ phase.Running own grant spares
   pub returns : mark_of held ≡ Some op.marks.run
 
-pub held_op_is : (s : ContextState) (n : ℕ) (on : Lane) (grant : ℕ) (spares : Spares) (held : Option Held) →
-    IsExecution n on grant spares held → IsHeld s held → HeldOp s n on grant spares held
-held_op_is s n on grant spares None executes is = absurd executes
-held_op_is s n on grant spares (Some h) executes is = record {
+pub held_op_is : (s : ContextState) (n : ℕ) (on : Lane) (own : Bool) (grant : ℕ) (spares : Spares) (held : Option Held) →
+    IsExecution n on own grant spares held → IsHeld s held → HeldOp s n on own grant spares held
+held_op_is s n on own grant spares None executes is = absurd executes
+held_op_is s n on own grant spares (Some h) executes is = record {
   op = h.is;
   is = subst (λ k. op_at s.ops k ≡ Some h.is) executes.number is.same;
   at = executes.on;
@@ -324,12 +325,9 @@ held_op_is s n on grant spares (Some h) executes is = record {
   returns = refl;
 }
 
-some_same : (a b : ℕ) → Some a ≡ Some b → a ≡ b
-some_same a b is = cc
-
-pub may_end : (s : ContextState) (n mark : ℕ) (on : Lane) (grant : ℕ) (spares : Spares) (held : Option Held) →
-    s.finishing ≡ false → HeldOp s n on grant spares held → mark_of held ≡ Some mark → MayEnd s n mark
-may_end s n mark on grant spares held going it returned = record {
+pub may_end : (s : ContextState) (n mark : ℕ) (on : Lane) (own : Bool) (grant : ℕ) (spares : Spares) (held : Option Held) →
+    s.finishing ≡ false → HeldOp s n on own grant spares held → mark_of held ≡ Some mark → MayEnd s n mark
+may_end s n mark on own grant spares held going it returned = record {
   going = going;
   runs = ap (passes is_running) it.is ∙ ap is_running it.runs;
   returned = ap (λ (o : Option Op). option_map (λ (m : Marks). m.run) (marks_of o)) it.is ∙ sym it.returns ∙ returned;
@@ -337,41 +335,110 @@ may_end s n mark on grant spares held going it returned = record {
 
 -- what is free then is within the limit
 pub room_ended : {H S : Type 0} (marks : H → Marks) (limits : Limits) (past : List Event) (counts : Counts)
-    (names : Names) (cells : List (Cell H S)) (jobs : JobList (ReadyOp H)) (n : ℕ) (on : Lane) (grant : ℕ)
+    (names : Names) (cells : List (Cell H S)) (jobs : JobList (ReadyOp H)) (n : ℕ) (on : Lane) (own : Bool) (grant : ℕ)
     (spares : Spares) (held : Option Held) → IsLegal limits past →
-    HeldOp (state_of limits past) n on grant spares held →
+    HeldOp (state_of limits past) n on own grant spares held →
     Shows marks limits counts names cells jobs (state_of limits past) →
-    counts.room + (1 + grant) ≤ counts.limits.operations
-room_ended marks limits past counts names cells jobs n on grant spares held legal it shows =
+    counts.room + (one_if own + grant) ≤ counts.limits.operations
+room_ended marks limits past counts names cells jobs n on own grant spares held legal it shows =
     let s = state_of limits past in
     let all = places_add_up limits past legal in
     let sum = sum_by-total (λ (op : Op). places_in op.phase) s.ops in
-    let own = share (λ (op : Op). places_in op.phase) n s.ops it.op it.is in
+    let here = share (λ (op : Op). places_in op.phase) n s.ops it.op it.is in
     let places = ap places_in it.runs in
     let room = ap (λ c. c.room) shows.counts_are in
     let most = ap (λ c. c.limits.operations) shows.counts_are in
     let same_limits = ap (λ (l : Limits). l.operations) shows.limits_are in
-    omega (arith, all, sum, own, places, room, most, same_limits)
+    omega (arith, all, sum, here, places, room, most, same_limits)
 
--- what is kept behind the end
-pub shows_ended : {H S : Type 0} (marks : H → Marks) (limits : Limits) (past : List Event) (counts : Counts)
-    (names : Names) (cells : List (Cell H S)) (jobs : JobList (ReadyOp H)) (n mark : ℕ) (on : Lane) (grant : ℕ)
-    (spares : Spares) (held : Option Held) (state : Option S) → IsLegal limits past →
-    HeldOp (state_of limits past) n on grant spares held → is_last_on (state_of limits past) on ≡ false →
-    is_some state ≡ is_strand on → Shows marks limits counts names cells jobs (state_of limits past) →
-    Shows marks limits (counts_ended grant counts) (given_back spares names) (left_cells on state cells)
-    (left_jobs on state cells jobs) (after (event.Ended n mark) (state_of limits past))
-shows_ended marks limits past counts names cells jobs n mark lane.Own grant spares held state legal it stays with_state shows =
+-- a strand that was freed is there
+used_when_leaving : (l : Life) → is_closing l ≡ true → is_used l ≡ true
+used_when_leaving life.Closing is = refl
+used_when_leaving life.Free is = absurd (true≢false (sym is))
+used_when_leaving (life.Kept op) is = absurd (true≢false (sym is))
+used_when_leaving life.Alive is = absurd (true≢false (sym is))
+used_when_leaving life.Spent is = absurd (true≢false (sym is))
+
+used_not_free : (l : Life) → is_used l ≡ true → is_unused l ≡ false
+used_not_free life.Free is = absurd (true≢false (sym is))
+used_not_free (life.Kept op) is = refl
+used_not_free life.Alive is = refl
+used_not_free life.Closing is = refl
+used_not_free life.Spent is = refl
+
+-- nothing is ready on the strand of the last operation, which is there
+pub idle_there : {H S : Type 0} (marks : H → Marks) (limits : Limits) (past : List Event) (counts : Counts)
+    (names : Names) (cells : List (Cell H S)) (jobs : JobList (ReadyOp H)) (n : ℕ) (it : Op) (m : Name) (spares : Spares)
+    (state : S) → IsLegal limits past → op_at (state_of limits past).ops n ≡ Some it → it.lane ≡ lane.Strand m →
+    is_running it.phase ≡ true → spares ≡ spares_in it.phase →
+    is_last_on (state_of limits past) (lane.Strand m) ≡ true →
+    Shows marks limits counts names cells jobs (state_of limits past) →
+    IsIdleAt m.place (given_back spares names).strands (left_cells (lane.Strand m) (Some state) cells)
+idle_there marks limits past counts names cells jobs n it m spares state legal is at runs kept last shows =
     let s = state_of limits past in
-    let runs = ap is_running it.runs in
+    let p = m.place in
+    let old = cell_at cells p in
+    let cell = ended state old in
+    let fits = strands_fit limits past legal shows.going in
+    let known : IsKnown s.names.strands s.strands (lane.Strand m) =
+    subst (IsKnown s.names.strands s.strands) (lane-found s.ops n it is ∙ at) (known_lane s n it is fits) in
+    let on = runs_there marks limits past counts names cells jobs n it (lane.Strand m) legal is at runs shows in
+    let here : is_on m (lane.Strand m) ≡ true = name-itself m in
+    let own = share (staged (runs_on m)) n s.ops it is in
+    let one = executes_there m it.lane it.phase at runs in
+    let same_strand : numbered old ≡ strand_of s m =
+    cell_is cells s.strands p shows.strands ∙ sym (strand_is s.names.strands s.strands m known.0) in
+    let empty = empty_there old (strand_of s m) same_strand
+    (none_waits m s.ops (strand_of s m) (fits m) (last_one s (lane.Strand m) m known here last) (omega (arith, own, one))) in
+    let at_place = get_or-set_same cells p cell (vacant 0) on.within in
+    let leaves = both (is_leaving s.names.strands m) (nat_le (strand_at s.strands m).tied 1) last in
+    let closes = both (is_current s.names.strands m) (is_closing (place_at s.names.strands p).life) leaves.one in
+    let unused = subst (λ (x : Spares). IsUnusedSpare s.names.strands x.strand) (sym kept)
+    (spare_at s.names.strands n s.ops it shows.spares is) in
+    let given = given_unused s.names.strands spares.strand unused in
+    record {
+      within = subst (λ len. p < len) (sym (length-set cells p cell)) on.within;
+      used =
+          subst (λ (ns : Names). is_unused (place_at (given_back spares ns).strands p).life ≡ false) (sym shows.names_are)
+          (used_not_free (place_at (given_back spares s.names).strands p).life
+          (used_at s.names.strands (given_back spares s.names).strands p given
+          ∙ used_when_leaving (place_at s.names.strands p).life closes.other));
+      idle = ap (λ (c : Cell _ _). c.queue) at_place ∙ empty;
+    }
+
+pub may_forget : {H S : Type 0} (marks : H → Marks) (limits : Limits) (past : List Event) (counts : Counts)
+    (names given : Names) (cells : List (Cell H S)) (jobs : JobList (ReadyOp H)) (n : ℕ) (on : Lane) (own : Bool)
+    (grant : ℕ) (spares : Spares) (held : Option Held) (state : Option S) (last : Bool) → IsLegal limits past →
+    HeldOp (state_of limits past) n on own grant spares held → given ≡ given_back spares names →
+    is_last_on (state_of limits past) on ≡ last →
+    is_some state ≡ is_strand on → Shows marks limits counts names cells jobs (state_of limits past) →
+    MayForget last on given.strands (left_cells on state cells)
+may_forget marks limits past counts names given cells jobs n on own grant spares held state false legal it back is with_state shows = tt
+may_forget marks limits past counts names given cells jobs n lane.Own own grant spares held state true legal it back is with_state shows = tt
+may_forget marks limits past counts names given cells jobs n (lane.Strand m) own grant spares held None true legal it back is with_state shows =
+    absurd (true≢false (sym with_state))
+may_forget marks limits past counts names given cells jobs n (lane.Strand m) own grant spares held (Some state) true legal it back is with_state shows =
+    subst (λ (ns : Names). IsIdleAt m.place ns.strands (left_cells (lane.Strand m) (Some state) cells)) (sym back)
+    (idle_there marks limits past counts names cells jobs n it.op m spares state legal it.is it.at (ap is_running it.runs)
+    (sym (ap spares_in it.runs)) is shows)
+
+-- what is kept behind the end, where no strand is forgotten
+shows_left : {H S : Type 0} (marks : H → Marks) (limits : Limits) (past : List Event) (counts : Counts)
+    (names : Names) (cells : List (Cell H S)) (jobs : JobList (ReadyOp H)) (n : ℕ) (on : Lane) (own : Bool) (grant : ℕ)
+    (spares : Spares) (held : Option Held) (state : Option S) → IsLegal limits past →
+    HeldOp (state_of limits past) n on own grant spares held →
+    is_some state ≡ is_strand on → Shows marks limits counts names cells jobs (state_of limits past) →
+    Shows marks limits (counts_ended (one_if own + grant) counts) (given_back spares names) (left_cells on state cells)
+    (left_jobs on state cells jobs) (ended_state on n (one_if own + grant) spares (state_of limits past))
+shows_left marks limits past counts names cells jobs n lane.Own own grant spares held state legal it with_state shows =
+    let s = state_of limits past in
     let unused = subst (λ p. IsUnusedSpare s.names.strands (spares_in p).strand) it.runs
     (spare_at s.names.strands n s.ops it.op shows.spares it.is) in
-    subst (Shows marks limits (counts_ended grant counts) (given_back spares names) cells jobs)
-    (sym (after_ended n mark it.op lane.Own grant spares s it.is it.at it.runs stays))
-    (ended_own marks limits counts names cells jobs s n it.op grant spares it.is runs unused shows)
-shows_ended marks limits past counts names cells jobs n mark (lane.Strand m) grant spares held None legal it stays with_state shows =
+    ended_own marks limits counts names cells jobs s n it.op (one_if own + grant) spares it.is (ap is_running it.runs)
+    unused shows
+shows_left marks limits past counts names cells jobs n (lane.Strand m) own grant spares held None legal it with_state shows =
     absurd (true≢false (sym with_state))
-shows_ended marks limits past counts names cells jobs n mark (lane.Strand m) grant spares held (Some state) legal it stays with_state shows =
+shows_left marks limits past counts names cells jobs n (lane.Strand m) own grant spares held (Some state) legal it with_state shows =
     let s = state_of limits past in
     let runs = ap is_running it.runs in
     let unused = subst (λ p. IsUnusedSpare s.names.strands (spares_in p).strand) it.runs
@@ -380,10 +447,49 @@ shows_ended marks limits past counts names cells jobs n mark (lane.Strand m) gra
     subst (IsKnown s.names.strands s.strands) (lane-found s.ops n it.op it.is ∙ it.at)
     (known_lane s n it.op it.is (strands_fit limits past legal shows.going)) in
     subst
-    (Shows marks limits (counts_ended grant counts) (given_back spares names) (left_cells (lane.Strand m) (Some state) cells) (left_jobs (lane.Strand m) (Some state) cells jobs))
-    (sym (after_ended n mark it.op (lane.Strand m) grant spares s it.is it.at it.runs stays))
-    (subst
-    (λ l. Shows marks limits (counts_ended grant counts) (given_back spares names) (left_cells (lane.Strand m) (Some state) cells) (left_jobs (lane.Strand m) (Some state) cells jobs) (ended_state l n grant spares s))
+    (λ l. Shows marks limits (counts_ended (one_if own + grant) counts) (given_back spares names)
+    (left_cells (lane.Strand m) (Some state) cells) (left_jobs (lane.Strand m) (Some state) cells jobs)
+    (ended_state l n (one_if own + grant) spares s))
     (lane_current s.names m known.0)
-    (ended_strand marks limits counts names cells jobs s n it.op m.place grant spares state it.is runs unused
-    (runs_there marks limits past counts names cells jobs n it.op (lane.Strand m) legal it.is it.at runs shows) shows))
+    (ended_strand marks limits counts names cells jobs s n it.op m.place (one_if own + grant) spares state it.is runs unused
+    (runs_there marks limits past counts names cells jobs n it.op (lane.Strand m) legal it.is it.at runs shows) shows)
+
+-- what is kept behind the end
+pub shows_ended : {H S : Type 0} (marks : H → Marks) (limits : Limits) (past : List Event) (counts : Counts)
+    (names given : Names) (cells : List (Cell H S)) (jobs : JobList (ReadyOp H)) (n mark : ℕ) (on : Lane) (own : Bool)
+    (grant : ℕ) (spares : Spares) (held : Option Held) (state : Option S) (last : Bool) → IsLegal limits past →
+    HeldOp (state_of limits past) n on own grant spares held → given ≡ given_back spares names →
+    is_last_on (state_of limits past) on ≡ last →
+    is_some state ≡ is_strand on → Shows marks limits counts names cells jobs (state_of limits past) →
+    Shows marks limits (counts_ended (one_if own + grant) counts)
+    (record given { strands = strand_freed last on given.strands })
+    (forgotten_cells last on (left_cells on state cells))
+    (left_jobs on state cells jobs) (after (event.Ended n mark) (state_of limits past))
+shows_ended marks limits past counts names given cells jobs n mark on own grant spares held state last legal it back is with_state shows =
+    let s = state_of limits past in
+    let places = one_if own + grant in
+    subst
+    (Shows marks limits (counts_ended places counts) (record given { strands = strand_freed last on given.strands })
+    (forgotten_cells last on (left_cells on state cells)) (left_jobs on state cells jobs))
+    (sym
+    (after_ended n mark it.op on own grant spares s it.is it.at it.runs
+    ∙ ap (λ b. forgotten b on (ended_state on n places spares s)) is))
+    (shows_forgotten marks limits (counts_ended places counts) given (left_cells on state cells)
+    (left_jobs on state cells jobs) (ended_state on n places spares s) last on
+    (may_forget marks limits past counts names given cells jobs n on own grant spares held state last legal it back is with_state shows)
+    (subst
+    (λ (ns : Names). Shows marks limits (counts_ended places counts) ns (left_cells on state cells)
+    (left_jobs on state cells jobs) (ended_state on n places spares s)) (sym back)
+    (shows_left marks limits past counts names cells jobs n on own grant spares held state legal it with_state shows)))
+
+-- the state that comes out is the one that the handler had
+pub retired_is : {H S : Type 0} (cells : List (Cell H S)) (jobs : JobList (ReadyOp H)) (on : Lane) (state : Option S)
+    (last : Bool) → MayLeaveFrom on cells jobs → is_some state ≡ is_strand on →
+    forgotten_state last on (left_cells on state cells) ≡ (if last then state else None)
+retired_is cells jobs on state false from with_state = refl
+retired_is cells jobs lane.Own None true from with_state = refl
+retired_is cells jobs lane.Own (Some state) true from with_state = absurd (true≢false with_state)
+retired_is cells jobs (lane.Strand m) None true from with_state = absurd (true≢false (sym with_state))
+retired_is cells jobs (lane.Strand m) (Some state) true from with_state =
+    ap (λ (c : Cell _ _). c.state)
+    (get_or-set_same cells m.place (ended state (cell_at cells m.place)) (vacant 0) from.within)

@@ -1,13 +1,13 @@
 -- What may begin, as one more may.
 use Rattle.std.proofs.Common.{arith, ap, refl, sym, ◌∙◌}
 use Rattle.std.proofs.lemmas.Bool.{lt-ltb, true≢false}
-use Rattle.std.proofs.lemmas.List.{length_push, set-get_or}
+use Rattle.std.proofs.lemmas.List.{length-append, length_push, set-get_or}
 use Rattle.std.proofs.Math.ListN.{get_or-map}
-use Rattle.std.specs.Prelude.{◌≡◌, ℕ, ◌&&◌, nat_lt, not, Bool, true, false, List, [], ◌∷◌, ◌++◌, length, map, if◌then◌else◌}
+use Rattle.std.specs.Prelude.{◌≡◌, ◌<◌, ℕ, ◌&&◌, nat_lt, not, Bool, true, false, List, [], ◌∷◌, ◌++◌, drop, length, map, take, if◌then◌else◌}
 use Rattle.std.specs.List.{slice_index_or, slice_set}
 use Rattle.std.specs.Option.{is_some}
 use Rattle.io_rules.specs.State.{StrandState, new_strand}
-use Rattle.io_rules.specs.Strands.{Last}
+use Rattle.io_rules.specs.Strands.{entry_of_dispatch}
 use Rattle.io_strands.specs.declared.ready.ReadyOp.{ReadyOp}
 use Rattle.io_strands.specs.Cell.{Cell, called, may_begin, vacant}
 use Rattle.io_strands.specs.Numbered.{numbered}
@@ -34,15 +34,27 @@ still_not true true r is isnt = isnt
 still_not false true r is isnt = refl
 still_not q false r is isnt = absurd (true≢false (sym is))
 
--- what may not begin with one more might not before
-pub not_before : {H S : Type 0} (op : ReadyOp H) (c : Cell H S) → may_begin (called Last op c) ≡ false →
-    may_begin c ≡ false
-not_before op c isnt =
-    let many = length_push c.queue op in
-    still_not (nat_lt 0 (length c.queue)) (nat_lt 0 (length (c.queue ++ op ∷ []))) (not (is_some c.runs))
-    (lt-ltb 0 (length (c.queue ++ op ∷ [])) (omega (arith, many))) isnt
+length_called : {H S : Type 0} (first : Bool) (op : ReadyOp H) (c : Cell H S) →
+    0 < length (called (entry_of_dispatch first) op c).queue
+length_called false op c = let many = length_push c.queue op in omega (arith, many)
+length_called true op c =
+    let many = length-append (take c.front c.queue) (op ∷ drop c.front c.queue) in omega (arith, many)
 
-set_same : (flags : List Bool) (place : ℕ) (b : Bool) → slice_index_or flags place false ≡ b →
+runs_called : {H S : Type 0} (first : Bool) (op : ReadyOp H) (c : Cell H S) →
+    (called (entry_of_dispatch first) op c).runs ≡ c.runs
+runs_called false op c = refl
+runs_called true op c = refl
+
+-- what may not begin with one more might not before
+pub not_before : {H S : Type 0} (first : Bool) (op : ReadyOp H) (c : Cell H S) →
+    may_begin (called (entry_of_dispatch first) op c) ≡ false → may_begin c ≡ false
+not_before first op c isnt =
+    let new = called (entry_of_dispatch first) op c in
+    still_not (nat_lt 0 (length c.queue)) (nat_lt 0 (length new.queue)) (not (is_some c.runs))
+    (lt-ltb 0 (length new.queue) (length_called first op c))
+    (ap (λ runs. nat_lt 0 (length new.queue) && not (is_some runs)) (sym (runs_called first op c)) ∙ isnt)
+
+pub set_same : (flags : List Bool) (place : ℕ) (b : Bool) → slice_index_or flags place false ≡ b →
     flags ≡ slice_set flags place b
 set_same flags place b is = sym (ap (λ v. slice_set flags place v) (sym is) ∙ set-get_or flags place false)
 

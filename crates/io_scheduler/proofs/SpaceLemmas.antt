@@ -3,7 +3,7 @@ use Rattle.std.proofs.Common.{arith, ap, refl, sym, ◌∙◌, ⊎_elim}
 use Rattle.std.proofs.lemmas.Bool.{cases_lt, ltb-true, true≢false}
 use Rattle.std.proofs.lemmas.List.{get_or-replicate, get_or_past, length-map, length-replicate}
 use Rattle.std.proofs.Math.ListN.{get_or-map}
-use Rattle.std.specs.Prelude.{◌≡◌, ◌<◌, ◌≤◌, ℕ, ◌&&◌, nat_lt, not, Bool, true, false, List, [], ◌∷◌, length, map}
+use Rattle.std.specs.Prelude.{◌≡◌, ◌<◌, ◌≤◌, ℕ, ◌+◌, ◌&&◌, nat_lt, not, Bool, true, false, List, [], ◌∷◌, length, map}
 use Rattle.std.specs.List.{slice_index_or}
 use Rattle.io_rules.specs.declared.event.Event.{Event}
 use Rattle.io_rules.specs.declared.limits.Limits.{Limits}
@@ -22,14 +22,14 @@ use Rattle.io_rules.specs.Legal.{IsLegal, state_of}
 use Rattle.io_rules.specs.Names.{Names, is_alive, is_current, is_living, is_on, no_place, place_at}
 use Rattle.io_rules.specs.Ops.{is_ready}
 use Rattle.io_rules.specs.Room.{numbers_left, one_if, places_in}
-use Rattle.io_rules.specs.State.{StrandState}
-use Rattle.io_rules.proofs.FitLemmas.{if_prepared, waits_on}
+use Rattle.io_rules.specs.State.{ContextState, StrandState}
+use Rattle.io_rules.proofs.FitLemmas.{FitsStrand, if_prepared, waits_on}
 use Rattle.io_rules.proofs.OnceLemmas.{total-less}
 use Rattle.io_rules.proofs.RoomLemmas.{places_add_up}
 use Rattle.io_rules.proofs.StageLemmas.{stage_of, staged}
 use Rattle.io_rules.proofs.StrandLemmas.{both, strand_is}
 use Rattle.io_rules.proofs.StrandStateLemmas.{strands_fit}
-use Rattle.io_rules.proofs.TotalLemmas.{sum_by-total}
+use Rattle.io_rules.proofs.TotalLemmas.{sum_by-total, total}
 use Rattle.io_strands.specs.declared.ready.ReadyOp.{ReadyOp}
 use Rattle.io_strands.specs.Cell.{Cell, is_there, may_begin, vacant}
 use Rattle.io_strands.specs.Numbered.{number_of}
@@ -95,18 +95,23 @@ there_is cells places p are =
     ∙ ap (λ flags. slice_index_or flags p false) are
     ∙ get_or-map is_used_place places p no_place
 
-own_space : {H S : Type 0} (marks : H → Marks) (limits : Limits) (past : List Event) (counts : Counts) (names : Names)
-    (cells : List (Cell H S)) (jobs : JobList (ReadyOp H)) → IsLegal limits past →
-    Shows marks limits counts names cells jobs (state_of limits past) → 0 < (state_of limits past).room →
-    owns jobs.ring < jobs.room
-own_space marks limits past counts names cells jobs legal shows room =
-    let ops = (state_of limits past).ops in
-    let less = total-less waits_own (λ op. places_in op.phase) (λ op. own_place op.lane op.phase) ops in
-    let places = places_add_up limits past legal in
-    let sum = sum_by-total (λ (op : Op). places_in op.phase) ops in
-    let waits = sum_by-total waits_own ops in
+-- a place is free, and a number, where places add up and strands know their operations
+pub record HasSpace (limits : Limits) (s : ContextState) : Type 0 where
+  pub places : s.room + total (λ (op : Op). places_in op.phase) s.ops ≡ limits.operations
+  pub fits : (name : Name) → FitsStrand s name
+  pub room : 0 < s.room
+  pub numbers : s.next < 18446744073709551615
+
+pub own_space : {H S : Type 0} (marks : H → Marks) (limits : Limits) (counts : Counts) (names : Names)
+    (cells : List (Cell H S)) (jobs : JobList (ReadyOp H)) (s : ContextState) → HasSpace limits s →
+    Shows marks limits counts names cells jobs s → owns jobs.ring < jobs.room
+own_space marks limits counts names cells jobs s space shows =
+    let less = total-less waits_own (λ op. places_in op.phase) (λ op. own_place op.lane op.phase) s.ops in
+    let places = space.places in
+    let waits = sum_by-total waits_own s.ops in
     let all = shows.own_all in let are = owns_are jobs.ring in let most = shows.own_room in
-    omega (arith, less, places, sum, waits, all, are, most, room)
+    let room = space.room in
+    omega (arith, less, places, waits, all, are, most, room)
 
 within_places : (places : List Place) (name : Name) → is_living (place_at places name.place).life ≡ true →
     name.place < length places
@@ -125,26 +130,25 @@ within_cells cells places name are alive =
     let equal = ap length are in
     omega (arith, lt, one, other, equal)
 
-strand_space : {H S : Type 0} (marks : H → Marks) (limits : Limits) (past : List Event) (counts : Counts) (names : Names)
-    (cells : List (Cell H S)) (jobs : JobList (ReadyOp H)) (name : Name) → IsLegal limits past →
-    Shows marks limits counts names cells jobs (state_of limits past) → 0 < (state_of limits past).room →
-    0 < numbers_left (state_of limits past) → is_alive (state_of limits past).names.strands name ≡ true →
+strand_space : {H S : Type 0} (marks : H → Marks) (limits : Limits) (counts : Counts) (names : Names)
+    (cells : List (Cell H S)) (jobs : JobList (ReadyOp H)) (s : ContextState) (name : Name) → HasSpace limits s →
+    Shows marks limits counts names cells jobs s → is_alive s.names.strands name ≡ true →
     HasRoomOn name.place cells jobs
-strand_space marks limits past counts names cells jobs name legal shows room numbers alive =
-    let s = state_of limits past in
+strand_space marks limits counts names cells jobs s name space shows alive =
     let p = name.place in
     let cell = cell_at cells p in
     let parts = both (is_current s.names.strands name) (is_living (place_at s.names.strands p).life) alive in
     let within = within_cells cells s.names.strands name shows.there alive in
     let listed = ap length shows.listed ∙ length-map cells may_begin in
-    let fits = (strands_fit limits past legal shows.going name).waits_fits in
+    let fits = (space.fits name).waits_fits in
     let queue = ap (λ (st : StrandState). length st.queue)
     (strand_is s.names.strands s.strands name parts.one ∙ sym (cell_is cells s.strands p shows.strands)) in
     let many = length-map cell.queue number_of in
     let less = total-less (staged (waits_on name)) (λ op. places_in op.phase)
     (λ op. strand_place op.phase (is_on name op.lane)) s.ops in
-    let places = places_add_up limits past legal in
-    let sum = sum_by-total (λ (op : Op). places_in op.phase) s.ops in
+    let places = space.places in
+    let room = space.room in
+    let numbers = space.numbers in
     let le = (shows.each p).tied in
     let size = ap length shows.rooms in
     let one = length-map cells room_of in
@@ -158,25 +162,45 @@ strand_space marks limits past counts names cells jobs name legal shows room num
       listed = omega (arith, within, listed);
       ready = record {
         there = there_is cells s.names.strands p shows.there ∙ living_used (place_at s.names.strands p).life parts.other;
-        room = omega (arith, fits, queue, many, less, places, sum, most, room);
+        room = omega (arith, fits, queue, many, less, places, most, room);
       };
       tied = omega (arith, le, numbers);
     }
 
-pub not_gone : (b : Bool) → not (not b) ≡ true → b ≡ true
+pub not_gone : (b : Bool) → not b ≡ false → b ≡ true
 not_gone true is = refl
-not_gone false is = absurd (true≢false (sym is))
+not_gone false is = absurd (true≢false is)
 
+-- one more may be ready on a lane that is there
+pub entered_space : {H S : Type 0} (marks : H → Marks) (limits : Limits) (counts : Counts)
+    (names : Names) (cells : List (Cell H S)) (jobs : JobList (ReadyOp H)) (s : ContextState) (on : Lane) →
+    HasSpace limits s → is_lane_gone s.names on ≡ false → Shows marks limits counts names cells jobs s →
+    HasRoomFor on cells jobs
+entered_space marks limits counts names cells jobs s lane.Own space there shows =
+    own_space marks limits counts names cells jobs s space shows
+entered_space marks limits counts names cells jobs s (lane.Strand name) space there shows =
+    strand_space marks limits counts names cells jobs s name space shows (not_gone (is_alive s.names.strands name) there)
+
+pub there_if : (b : Bool) → not b ≡ true → b ≡ false
+there_if true is = absurd (true≢false (sym is))
+there_if false is = refl
+
+-- from outside
 pub posted_space : {H S : Type 0} (marks : H → Marks) (limits : Limits) (past : List Event) (counts : Counts)
     (names : Names) (cells : List (Cell H S)) (jobs : JobList (ReadyOp H)) (on : Lane) → IsLegal limits past →
     Shows marks limits counts names cells jobs (state_of limits past) → may_post (state_of limits past) on ≡ true →
     HasRoomFor on cells jobs
-posted_space marks limits past counts names cells jobs lane.Own legal shows may =
+posted_space marks limits past counts names cells jobs on legal shows may =
     let s = state_of limits past in
-    let parts = three (nat_lt 0 s.room) (nat_lt 0 (numbers_left s)) (not (is_lane_gone s.names lane.Own)) may in
-    own_space marks limits past counts names cells jobs legal shows (ltb-true 0 s.room parts.one)
-posted_space marks limits past counts names cells jobs (lane.Strand name) legal shows may =
-    let s = state_of limits past in
-    let parts = three (nat_lt 0 s.room) (nat_lt 0 (numbers_left s)) (not (is_lane_gone s.names (lane.Strand name))) may in
-    strand_space marks limits past counts names cells jobs name legal shows (ltb-true 0 s.room parts.one)
-    (ltb-true 0 (numbers_left s) parts.two) (not_gone (is_alive s.names.strands name) parts.three)
+    let parts = three (nat_lt 0 s.room) (nat_lt 0 (numbers_left s)) (not (is_lane_gone s.names on)) may in
+    let sum = sum_by-total (λ (op : Op). places_in op.phase) s.ops in
+    let places = places_add_up limits past legal in
+    let numbers = ltb-true 0 (numbers_left s) parts.two in
+    entered_space marks limits counts names cells jobs s on
+    (record {
+      places = omega (arith, sum, places);
+      fits = strands_fit limits past legal shows.going;
+      room = ltb-true 0 s.room parts.one;
+      numbers = omega (arith, numbers);
+    })
+    (there_if (is_lane_gone s.names on) parts.three) shows

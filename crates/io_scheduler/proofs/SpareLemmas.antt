@@ -7,6 +7,7 @@ use Rattle.io_rules.specs.declared.name.Name.{Name}
 use Rattle.io_rules.specs.declared.op.Op.{Op}
 use Rattle.io_rules.specs.declared.op.Phase.{Phase}
 use Rattle.io_rules.specs.declared.place.Place.{Place}
+use Rattle.io_rules.specs.declared.spares.Spares.{Spares}
 use Rattle.io_rules.specs.Executions.{spares_in}
 use Rattle.io_rules.specs.Names.{no_place, place_at}
 use Rattle.io_rules.specs.Ops.{op_at, phase_changed, without}
@@ -19,16 +20,25 @@ used_at old new p are =
     sym (get_or-map is_used_place new p no_place) ∙ ap (λ xs. slice_index_or xs p false) are
     ∙ get_or-map is_used_place old p no_place
 
-spare_less : (old new : List Place) (spare : Option Name) → map is_used_place new ≡ map is_used_place old →
-    IsUnusedSpare old spare → IsUnusedSpare new spare
-spare_less old new None are unused = tt
-spare_less old new (Some name) are unused = used_at old new name.place are ∙ unused
+-- where no place is used that wasn't
+abbrev pub UsesLess : List Place → List Place → Type 0
+UsesLess old new =
+    (k : ℕ) → is_used_place (place_at old k) ≡ false → is_used_place (place_at new k) ≡ false
+
+spare_fewer : (old new : List Place) (spare : Option Name) → UsesLess old new → IsUnusedSpare old spare →
+    IsUnusedSpare new spare
+spare_fewer old new None less unused = tt
+spare_fewer old new (Some name) less unused = less name.place unused
+
+pub spares_fewer : (old new : List Place) (ops : List Op) → UsesLess old new → SparesUnused old ops →
+    SparesUnused new ops
+spares_fewer old new [] less unused = tt
+spares_fewer old new (op ∷ ops) less unused =
+    (spare_fewer old new (spares_in op.phase).strand less unused.0, spares_fewer old new ops less unused.1)
 
 pub spares_less : (old new : List Place) (ops : List Op) → map is_used_place new ≡ map is_used_place old →
     SparesUnused old ops → SparesUnused new ops
-spares_less old new [] are unused = tt
-spares_less old new (op ∷ ops) are unused =
-    (spare_less old new (spares_in op.phase).strand are unused.0, spares_less old new ops are unused.1)
+spares_less old new ops are unused = spares_fewer old new ops (λ k isnt. used_at old new k are ∙ isnt) unused
 
 pub spares_push : (places : List Place) (ops : List Op) (op : Op) → SparesUnused places ops →
     IsUnusedSpare places (spares_in op.phase).strand → SparesUnused places (ops ++ op ∷ [])
@@ -47,6 +57,15 @@ spares_changed places n p [] unused own = tt
 spares_changed places n p (x ∷ ops) unused own =
     changed_here places p x ops (phase_changed n (λ op. p) ops) (x.number == n) unused
     (spares_changed places n p ops unused.1 own) own
+
+-- a change that leaves what is kept for each
+pub spares_kept : (places : List Place) (n : ℕ) (g : Op → Phase) → ((op : Op) → spares_in (g op) ≡ spares_in op.phase) →
+    (ops : List Op) → SparesUnused places ops → SparesUnused places (phase_changed n g ops)
+spares_kept places n g same [] unused = tt
+spares_kept places n g same (x ∷ ops) unused =
+    changed_here places (g x) x ops (phase_changed n g ops) (x.number == n) unused
+    (spares_kept places n g same ops unused.1)
+    (subst (λ (spares : Spares). IsUnusedSpare places spares.strand) (sym (same x)) unused.0)
 
 without_here : (places : List Place) (x : Op) (ops rest : List Op) (b : Bool) → SparesUnused places (x ∷ ops) →
     SparesUnused places rest → SparesUnused places (if b then ops else x ∷ rest)

@@ -2,15 +2,13 @@
 use Rattle.std.proofs.Common.{arith, ap, refl, subst, sym, ◌∙◌, ⊎_elim}
 use Rattle.std.proofs.lemmas.Bool.{cases_lt, lt-ltb, true≢false}
 use Rattle.std.proofs.lemmas.List.{get_or_past}
-use Rattle.std.specs.Prelude.{◌≡◌, ◌<◌, ◌≤◌, ℕ, ◌==◌, ◌&&◌, ◌||◌, Bool, true, false, List, [], ◌∷◌, Option, None, Some, length, map, nat_lt, not, slice_get, IsSome, if◌then◌else◌}
+use Rattle.std.specs.Prelude.{◌≡◌, ◌<◌, ◌≤◌, ℕ, ◌&&◌, ◌||◌, Bool, true, false, List, [], ◌∷◌, Option, None, Some, length, map, nat_lt, not, slice_get, IsSome}
 use Rattle.std.specs.List.{slice_set}
 use Rattle.std.specs.Option.{is_some}
 use Rattle.io_rules.specs.declared.event.Event.TheVariants as event
 use Rattle.io_rules.specs.declared.limits.Limits.{Limits}
 use Rattle.io_rules.specs.declared.name.Lane.{Lane}
 use Rattle.io_rules.specs.declared.name.Lane.TheVariants as lane
-use Rattle.io_rules.specs.declared.op.Op.{Op}
-use Rattle.io_rules.specs.declared.op.Phase.{Phase}
 use Rattle.io_rules.specs.declared.op.Phase.TheVariants as phase
 use Rattle.io_rules.specs.declared.place.Place.{Place}
 use Rattle.io_rules.specs.declared.request.Marks.{Marks}
@@ -18,7 +16,7 @@ use Rattle.io_rules.specs.declared.spares.Spares.{Spares}
 use Rattle.io_rules.specs.Executions.{MayBegin}
 use Rattle.io_rules.specs.Legal.{after}
 use Rattle.io_rules.specs.Names.{Names}
-use Rattle.io_rules.specs.Ops.{is_ready, op_at, passes, with_phase}
+use Rattle.io_rules.specs.Ops.{is_ready, op_at, passes}
 use Rattle.io_rules.specs.Room.{grant_of, numbers_left, one_if}
 use Rattle.io_rules.specs.Spares.{MayKeepAll, kept_for, no_spares}
 use Rattle.io_rules.specs.State.{ContextState, strand_at}
@@ -40,6 +38,7 @@ use Rattle.io_scheduler.specs.Taken.{IsTaken}
 use Rattle.io_scheduler.specs.Shown.{Shows, cell_at, lane_of_place, waits_own, waits_own_on}
 use Rattle.io_scheduler.proofs.ListedLemmas.{cell_is}
 use Rattle.io_scheduler.proofs.BegunLemmas.{begun_own, begun_state, begun_strand, first_ready, own_first}
+use Rattle.io_scheduler.proofs.ReadyLemmas.{at_changed}
 
 -- a strand on which a handler may begin is one of them
 may_within : {H S : Type 0} (cells : List (Cell H S)) (p : ℕ) → may_begin (cell_at cells p) ≡ true → p < length cells
@@ -150,29 +149,13 @@ shows_begun marks limits counts names cells new_cells jobs new_jobs s on op stat
     (sym (lane-found s.ops op.number r.op r.is ∙ r.lane))
     (shows_on marks limits counts names cells new_cells jobs new_jobs s on op state spares is may shows)
 
--- the operation that begins
-at_begun : (n : ℕ) (p : Phase) (ops : List Op) (it : Op) → op_at ops n ≡ Some it →
-    op_at (with_phase n p ops) n ≡ Some (record it { phase = p })
-at_begun n p [] it is = absurd (cc)
-at_begun n p (x ∷ ops) it is = by_number (x.number == n) refl is (at_begun n p ops it)
-  where
-    by_number : (b : Bool) → (x.number == n) ≡ b → (if b then Some x else op_at ops n) ≡ Some it →
-        (op_at ops n ≡ Some it → op_at (with_phase n p ops) n ≡ Some (record it { phase = p })) →
-        op_at (if b then record x { phase = p } ∷ ops else x ∷ with_phase n p ops) n ≡ Some (record it { phase = p })
-    by_number true same_number found later =
-        let it_is : x ≡ it = cc in
-        let changed : Op → Op = λ y. record y { phase = p } in
-        ap (λ c. if c then Some (changed x) else op_at ops n) same_number ∙ ap (λ y. Some (changed y)) it_is
-    by_number false other found later =
-        ap (λ c. if c then Some x else op_at (with_phase n p ops) n) other ∙ later found
-
 pub held_begun : {H : Type 0} (marks : H → Marks) (s : ContextState) (on : Lane) (op : ReadyOp H) (spares : Spares)
     (held : Option Held) → IsReadyAs marks s.ops on op →
     held ≡ holding op.number (op_at (after (event.Begun op.number spares) s).ops op.number) →
-    IsExecution op.number on (grant_of s) spares held
+    IsExecution op.number on true (grant_of s) spares held
 held_begun marks s on op spares held r is =
-    subst (IsExecution op.number on (grant_of s) spares)
-    (sym (is ∙ ap (holding op.number) (at_begun op.number (phase.Running true (grant_of s) spares) s.ops r.op r.is)))
+    subst (IsExecution op.number on true (grant_of s) spares)
+    (sym (is ∙ ap (holding op.number) (at_changed op.number (λ o. phase.Running true (grant_of s) spares) s.ops r.op r.is)))
     (record { number = refl; on = r.lane; runs = refl })
 
 pub held_some : {H : Type 0} (marks : H → Marks) (s : ContextState) (on : Lane) (op : ReadyOp H) (spares : Spares)
@@ -180,7 +163,7 @@ pub held_some : {H : Type 0} (marks : H → Marks) (s : ContextState) (on : Lane
     held ≡ holding op.number (op_at (after (event.Begun op.number spares) s).ops op.number) → IsSome held
 held_some marks s on op spares held r is =
     subst IsSome
-    (sym (is ∙ ap (holding op.number) (at_begun op.number (phase.Running true (grant_of s) spares) s.ops r.op r.is)))
+    (sym (is ∙ ap (holding op.number) (at_changed op.number (λ o. phase.Running true (grant_of s) spares) s.ops r.op r.is)))
     refl
 
 taken_state : {H S : Type 0} (on : Lane) (op : ReadyOp H) (state : Option S) (places : List Place)

@@ -11,6 +11,7 @@ use Rattle.io_rules.specs.declared.spares.Spares.{Spares}
 use Rattle.io_rules.specs.Executions.{MayBegin}
 use Rattle.io_rules.specs.Legal.{IsStep}
 use Rattle.io_rules.specs.Ops.{op_at}
+use Rattle.io_rules.specs.Room.{grant_of}
 use Rattle.io_rules.specs.State.{ContextState}
 use Rattle.io_history.specs.Steps.{holding}
 use Rattle.io_handlers.specs.declared.completion.Completion.{Completion}
@@ -39,6 +40,7 @@ pub record WasReady {H S : Type 0} (marks : H → Marks) (s : ContextState) (n :
 pub record IsBegun {H S : Type 0} (marks : H → Marks) (old new : ContextState) (runs : Execution) (handler : H)
     (done : Completion) (state : Option S) : Type 0 where
   pub step : IsStep old (event.Begun runs.op runs.spares) new
+  pub places : runs.places ≡ grant_of old + 1
   pub held_as : runs.held ≡ holding runs.op (op_at new.ops runs.op)
   pub was : WasReady marks old runs.op handler done state
 

@@ -42,3 +42,6 @@ may_post s lane =
 
 abbrev pub counts_stopped : Counts → Counts
 counts_stopped c = record c { stopped = true }
+
+abbrev pub counts_going : Counts → Counts
+counts_going c = record c { stopped = false }

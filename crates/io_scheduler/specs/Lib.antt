@@ -2,8 +2,15 @@ pub mod Begun
 pub mod Counted
 pub mod Ended
 pub mod Entered
+pub mod Holding
+pub mod Left
+pub mod Outside
 pub mod Posted
 pub mod Ready
 pub mod Running
 pub mod Shown
+pub mod Staged
+pub mod Steps
+pub mod Stranded
 pub mod Taken
+pub mod Tallied

@@ -1,6 +1,6 @@
 -- Posting an operation.
 use Rattle.std.specs.Prelude.{ℕ, ◌+◌, ◌-◌, None}
-use Rattle.asio_types.specs.declared.code.Code.TheVariants as code
+use Rattle.asio_types.specs.declared.code.Code.{Code}
 use Rattle.io_rules.specs.declared.name.Lane.{Lane}
 use Rattle.io_rules.specs.declared.operation.Operation.{Operation}
 use Rattle.io_rules.specs.declared.request.Marks.{Marks}
@@ -12,10 +12,14 @@ use Rattle.io_scheduler.specs.declared.counts.Counts.{Counts}
 abbrev pub posting : Lane → Operation → Marks → Request
 posting on kind marks = record { lane = on; binding = None; kind = kind; marks = marks }
 
--- it is ready at once, with this handler
-abbrev pub ready_posting : {H : Type 0} → ℕ → H → ReadyOp H
-ready_posting n handler = record { number = n; code = code.Ok; size = 0; handler = handler }
+-- it is ready, with this handler
+abbrev pub ready_posting : {H : Type 0} → ℕ → Code → H → ReadyOp H
+ready_posting n code handler = record { number = n; code = code; size = 0; handler = handler }
 
 -- a number and a place are taken
 abbrev pub counts_posted : Counts → Counts
 counts_posted c = record c { next = c.next + 1; room = c.room - 1 }
+
+-- the number is one of those that are kept for the handler that initiates it, and so is the place
+abbrev pub counts_called : Counts → Counts
+counts_called c = record c { next = c.next + 1; promised = c.promised - 1 }

@@ -7,7 +7,7 @@ use Rattle.io_rules.specs.declared.request.Marks.{Marks}
 use Rattle.io_rules.specs.Ops.{op_at}
 use Rattle.io_strands.specs.declared.ready.ReadyOp.{ReadyOp}
 use Rattle.io_jobs.specs.declared.job.Job.{Job}
-use Rattle.io_jobs.specs.declared.job.Job.TheVariants as job
+use Rattle.io_jobs.specs.Listed.{ops_in}
 
 -- an operation with its handler: it is ready on this lane, and so completed
 pub record IsReadyAs {H : Type 0} (marks : H → Marks) (ops : List Op) (on : Lane) (ready : ReadyOp H) :
@@ -31,6 +31,4 @@ AreReady marks ops on (ready ∷ rest) =
 
 -- the operations without a strand that may begin
 abbrev pub own_ops : {H : Type 0} → List (Job (ReadyOp H)) → List (ReadyOp H)
-own_ops [] = []
-own_ops (job.Strand strand ∷ jobs) = own_ops jobs
-own_ops (job.Own ready ∷ jobs) = ready ∷ own_ops jobs
+own_ops jobs = ops_in jobs

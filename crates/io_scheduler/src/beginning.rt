@@ -48,10 +48,12 @@ impl<H: Handler, C: Named> Scheduler<H, C> {
                 let claim = self.keeper.give_out(table);
                 self.counts.promised += u64::from(grant) + 1;
                 self.counts.room -= grant;
+                self.tally.begin();
                 let running = Running {
                     claim,
                     op: number,
                     lane,
+                    own: true,
                     grant,
                     spares,
                 };

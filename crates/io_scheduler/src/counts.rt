@@ -1,5 +1,6 @@
-ghost use Rattle.std.specs.Prelude.{◌≡◌};
+ghost use Rattle.std.specs.Prelude.{◌≡◌, ◌<◌};
 ghost use Rattle.io_scheduler.specs.Counted.{grant_in, left_of, new_counts};
+ghost use Rattle.io_scheduler.specs.Posted.{counts_called};
 
 use io_rules::{Limits, MOST_NUMBERS};
 
@@ -36,6 +37,19 @@ impl Counts {
             stopped: false,
             clock: 0,
         }
+    }
+
+    /// The number of an operation that a handler initiates.
+    pub(crate) fn take_kept(&mut self) -> u64
+        requires { self.old.next < 18446744073709551615 }
+        ensures number { result ≡ self.old.next }
+        ensures below { self.old.next < 18446744073709551615 }
+        ensures called { self.new ≡ counts_called self.old }
+    {
+        let number = self.next;
+        self.next += 1;
+        self.promised = self.promised.saturating_sub(1);
+        number
     }
 
     /// How many numbers are neither given nor kept.

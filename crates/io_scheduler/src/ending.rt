@@ -1,48 +1,80 @@
-ghost use Rattle.std.specs.Prelude.{◌≡◌, false, Some};
+ghost use Rattle.std.specs.Prelude.{◌≡◌, if◌then◌else◌, [], None, Some};
 ghost use Rattle.std.specs.Option.{is_some};
 ghost use Rattle.io_rules.specs.declared.event.Event.TheVariants as event;
 ghost use Rattle.io_rules.specs.Legal.{IsStep};
 ghost use Rattle.io_rules.specs.Strands.{is_last_on};
 ghost use Rattle.io_scheduler.specs.Begun.{is_strand};
 ghost use Rattle.io_scheduler.specs.Ended.{mark_of};
+ghost use Rattle.io_scheduler.specs.Staged.{IsEnded, staged_behind};
 
-use crate::leaving::leave;
+use crate::leaving::{forget_if, is_last, leave};
 use crate::noting::note_ended;
-use crate::running::Running;
+use crate::running::{Running, places_of};
 use crate::scheduler::Scheduler;
-use io_handlers::Handler;
+use io_handlers::{Handler, Staging};
 use io_history::{HistoryTable, Named};
 use std::marker::Brand;
 
 impl<H: Handler, C: Named> Scheduler<H, C> {
-    /// A handler that initiated nothing has returned this mark, and its strand stays, if it has one.
-    pub(crate) fn end_staying(
+    /// A handler has returned this mark. What it staged takes effect in the order of its calls, and then it
+    /// has ended. Answers the state of its strand, to be retired, where that is gone and this was its last
+    /// operation.
+    pub fn end(
         &mut self,
         table: &HistoryTable,
         running: Running<C>,
         state: Option<H::State>,
         mark: u64,
-    )
+        io: &mut Staging<H>,
+    ) -> Option<H::State>
         requires table { table.now ≡ C.table }
         requires mark { mark_of running.held ≡ Some mark }
         requires state { is_some state ≡ is_strand running.lane }
-        requires stays { is_last_on self.old running.lane ≡ false }
-        ensures { IsStep self.old (event.Ended running.op mark) self.new }
+        requires granted { io.old.granted ≡ running.places }
+        ensures ended { IsEnded H.marks running.op io.old.staged mark self.old self.new }
+        ensures taken { io.new ≡ record io.old { staged = [] } }
+        ensures retired { result
+            ≡ (if is_last_on (staged_behind H.marks running.op io.old.staged self.old) running.lane
+            then state else None) }
+    {
+        let left = self.commit_all(table, running, io);
+        self.end_now(table, left, state, mark)
+    }
+
+    /// A handler has returned this mark, and what it initiated is noted; answers the state of its strand
+    /// where that is forgotten.
+    pub(crate) fn end_now(
+        &mut self,
+        table: &HistoryTable,
+        running: Running<C>,
+        state: Option<H::State>,
+        mark: u64,
+    ) -> Option<H::State>
+        requires table { table.now ≡ C.table }
+        requires mark { mark_of running.held ≡ Some mark }
+        requires state { is_some state ≡ is_strand running.lane }
+        ensures ended { IsStep self.old (event.Ended running.op mark) self.new }
+        ensures retired { result ≡ (if is_last_on self.old running.lane then state else None) }
     {
         let Running {
             claim,
             op,
             lane,
+            own,
             grant,
             spares,
         } = running;
         self.keeper.take_back(table, claim);
         self.keeper.learn(table);
         note_ended::<C, Brand>(table, &mut self.keeper, op, mark);
+        let last = is_last(&self.names.strands, &self.strands, lane);
         self.names.give_back_all(&spares);
+        let places = places_of(own, grant);
         let _most = self.counts.limits.operations;
-        self.counts.promised = self.counts.promised.saturating_sub(1 + u64::from(grant));
-        self.counts.room += 1 + grant;
+        self.counts.promised = self.counts.promised.saturating_sub(places);
+        self.counts.room = (u64::from(self.counts.room) + places) as u32;
+        self.tally.end();
         leave(&mut self.strands, &mut self.jobs, lane, state);
+        forget_if(last, &mut self.names.strands, &mut self.strands, lane)
     }
 }

@@ -20,7 +20,7 @@ use io_strands::ReadyOp;
 use std::marker::Brand;
 
 /// Whether the strand of a lane is there, if it is a strand's.
-fn is_there(names: &NameTables, lane: Lane) -> bool
+pub(crate) fn is_there(names: &NameTables, lane: Lane) -> bool
     ensures { result ≡ not (is_lane_gone (names_of names.now) lane) }
 {
     match lane {
@@ -73,13 +73,14 @@ impl<H: Handler, C: Named> Scheduler<H, C> {
         note_posted::<H, C, Brand>(table, &mut self.keeper, op, lane, kind, &handler);
         self.counts.next += 1;
         self.counts.room -= 1;
+        self.tally.call();
         let ready = ReadyOp {
             number: op,
             code: Code::Ok,
             size: 0,
             handler,
         };
-        enter(&mut self.strands, &mut self.jobs, lane, ready);
+        enter(&mut self.strands, &mut self.jobs, false, lane, ready);
         op
     }
 }

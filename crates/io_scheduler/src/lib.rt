@@ -4,18 +4,30 @@
 #![tactic(auto)]
 
 mod beginning;
+mod calling;
+mod committing;
 mod counts;
 mod ending;
 mod entering;
+mod finishing;
+mod holding;
 mod initiating;
 mod leaving;
 mod making;
 mod noting;
+mod outside;
+mod remains;
+mod restarting;
 mod running;
 mod scheduler;
+mod states;
 mod stopping;
+mod stranding;
 mod taking;
+mod tally;
 
 pub use beginning::Begun;
+pub use remains::Remains;
 pub use running::Running;
 pub use scheduler::Scheduler;
+pub use states::States;

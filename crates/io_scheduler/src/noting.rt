@@ -1,15 +1,16 @@
 ghost use Rattle.std.specs.Prelude.{◌≡◌, ◌∷◌, None, Some};
+ghost use Rattle.asio_types.specs.declared.code.Code.TheVariants as code;
 ghost use Rattle.io_rules.specs.declared.control.Control.TheVariants as control;
 ghost use Rattle.io_rules.specs.declared.event.Event.TheVariants as event;
 ghost use Rattle.io_rules.specs.declared.request.Gone.TheVariants as gone;
 ghost use Rattle.io_rules.specs.Legal.{MayHappen, state_of};
 ghost use Rattle.io_rules.specs.Ops.{op_at};
-ghost use Rattle.io_history.specs.Steps.{held_op, holding};
+ghost use Rattle.io_history.specs.Steps.{held_op, held_still, holding};
 ghost use Rattle.io_scheduler.specs.Posted.{posting};
 
 use io_handlers::Handler;
 use io_history::{Happening, HistoryTable, Keeper, Named};
-use io_rules::{Lane, Operation, Spares};
+use io_rules::{Gone, Lane, Operation, Spares};
 
 /// Notes that an operation is posted from outside.
 pub(crate) fn note_posted<H: Handler, C: Named, E: Happening>(
@@ -41,6 +42,7 @@ pub(crate) fn note_begun<C: Named, E: Happening>(
     requires event { E.event ≡ event.Begun op spares }
     requires may { MayHappen (state_of C.limits keeper.old.past) E.event }
     requires none { keeper.old.held ≡ None }
+    ensures may { MayHappen (state_of C.limits keeper.old.past) (event.Begun op spares) }
     ensures past { keeper.new.past ≡ event.Begun op spares ∷ keeper.old.past }
     ensures held { keeper.new.held
         ≡ holding op (op_at (state_of C.limits (event.Begun op spares ∷ keeper.old.past)).ops op) }
@@ -59,6 +61,7 @@ pub(crate) fn note_ended<C: Named, E: Happening>(
     requires event { E.event ≡ event.Ended op mark }
     requires may { MayHappen (state_of C.limits keeper.old.past) E.event }
     requires held { held_op keeper.old.held ≡ Some op }
+    ensures may { MayHappen (state_of C.limits keeper.old.past) (event.Ended op mark) }
     ensures past { keeper.new.past ≡ event.Ended op mark ∷ keeper.old.past }
     ensures none { keeper.new.held ≡ None }
 {
@@ -73,6 +76,62 @@ pub(crate) fn note_stopped<C: Named, E: Happening>(table: &HistoryTable, keeper:
     requires none { keeper.old.held ≡ None }
     ensures past { keeper.new.past ≡ event.Changed None control.Stop ∷ keeper.old.past }
     ensures none { keeper.new.held ≡ None }
+{
+    keeper.note::<E>(table);
+}
+
+/// Notes that the handler that is held posts an operation.
+pub(crate) fn note_called<H: Handler, C: Named, E: Happening>(
+    table: &HistoryTable,
+    keeper: &mut Keeper<C>,
+    op: u64,
+    by: u64,
+    lane: Lane,
+    kind: Operation,
+    handler: &H,
+    given: Gone,
+)
+    requires table { table.now ≡ C.table }
+    requires event { E.event ≡ event.Called op (Some by) (posting lane kind (H.marks handler.now)) given }
+    requires may { MayHappen (state_of C.limits keeper.old.past) E.event }
+    requires held { held_op keeper.old.held ≡ Some by }
+    ensures past { keeper.new.past
+        ≡ event.Called op (Some by) (posting lane kind (H.marks handler.now)) given ∷ keeper.old.past }
+    ensures held { keeper.new.held ≡ held_still (state_of C.limits
+        (event.Called op (Some by) (posting lane kind (H.marks handler.now)) given ∷ keeper.old.past)) keeper.old.held }
+{
+    keeper.note::<E>(table);
+}
+
+/// Notes that an operation that names something gone completes.
+pub(crate) fn note_refused<C: Named, E: Happening>(
+    table: &HistoryTable,
+    keeper: &mut Keeper<C>,
+    op: u64,
+)
+    requires table { table.now ≡ C.table }
+    requires event { E.event ≡ event.Done op code.Bad 0 }
+    requires may { MayHappen (state_of C.limits keeper.old.past) E.event }
+    ensures past { keeper.new.past ≡ event.Done op code.Bad 0 ∷ keeper.old.past }
+    ensures held { keeper.new.held
+        ≡ held_still (state_of C.limits (event.Done op code.Bad 0 ∷ keeper.old.past)) keeper.old.held }
+{
+    keeper.note::<E>(table);
+}
+
+/// Notes that the handler that is held stops the context.
+pub(crate) fn note_stopped_by<C: Named, E: Happening>(
+    table: &HistoryTable,
+    keeper: &mut Keeper<C>,
+    by: u64,
+)
+    requires table { table.now ≡ C.table }
+    requires event { E.event ≡ event.Changed (Some by) control.Stop }
+    requires may { MayHappen (state_of C.limits keeper.old.past) E.event }
+    requires held { held_op keeper.old.held ≡ Some by }
+    ensures past { keeper.new.past ≡ event.Changed (Some by) control.Stop ∷ keeper.old.past }
+    ensures held { keeper.new.held
+        ≡ held_still (state_of C.limits (event.Changed (Some by) control.Stop ∷ keeper.old.past)) keeper.old.held }
 {
     keeper.note::<E>(table);
 }

@@ -3,6 +3,7 @@ ghost use Rattle.io_rules.specs.State.{first_state};
 
 use crate::counts::Counts;
 use crate::making::{destroy_all, make_strands};
+use crate::tally::Tally;
 use io_handlers::Handler;
 use io_history::{Keeper, Named};
 use io_jobs::Jobs;
@@ -22,6 +23,7 @@ pub struct Scheduler<H: Handler, C: Named> {
     pub(crate) strands: Vec<Strand<H, H::State>>,
     // what may begin
     pub(crate) jobs: Jobs<ReadyOp<H>>,
+    pub(crate) tally: Tally,
 }
 
 impl<H: Handler, C: Named> Model for Scheduler<H, C> {
@@ -30,13 +32,15 @@ impl<H: Handler, C: Named> Model for Scheduler<H, C> {
     ghost use Rattle.io_rules.specs.State.{ContextState};
     ghost use Rattle.io_names.specs.Tables.{names_of};
     ghost use Rattle.io_scheduler.specs.Shown.{Shows};
+    ghost use Rattle.io_scheduler.specs.Tallied.{IsTally};
 
     ghost Value = { ContextState };
 
     ghost view = { λ s. state_of C.limits s.keeper.past };
 
     ghost invariant = { λ s. (s.keeper.held ≡ None)
-        × Shows H.marks C.limits s.counts (names_of s.names) s.strands.items s.jobs (state_of C.limits s.keeper.past) };
+        × Shows H.marks C.limits s.counts (names_of s.names) s.strands.items s.jobs (state_of C.limits s.keeper.past)
+        × IsTally s.tally (state_of C.limits s.keeper.past) };
 }
 
 impl<H: Handler, C: Named> Scheduler<H, C> {
@@ -64,6 +68,7 @@ impl<H: Handler, C: Named> Scheduler<H, C> {
                 names,
                 strands,
                 jobs,
+                tally: Tally::new(),
             }),
             Err(_) => {
                 destroy_all(strands);

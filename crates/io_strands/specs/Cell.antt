@@ -45,6 +45,10 @@ abbrev pub begun : {H S : Type 0} → ReadyOp H → Cell H S → Cell H S
 begun x c =
     record c { queue = drop 1 c.queue; front = 0; runs = Some x.number; state = None }
 
+-- nothing is ready any more
+abbrev pub emptied : {H S : Type 0} → Cell H S → Cell H S
+emptied c = record c { queue = []; front = 0 }
+
 abbrev pub ended : {H S : Type 0} → S → Cell H S → Cell H S
 ended state c = record c { runs = None; tied = c.tied - 1; state = Some state }
 

@@ -1,8 +1,9 @@
-ghost use Rattle.std.specs.Prelude.{◌≡◌, [], false, true, length, slice_get, IfOk, Some};
+ghost use Rattle.std.specs.Prelude.{◌≡◌, ◌+◌, ◌≤◌, ◌++◌, [], false, true, length, slice_get, vec_capacity, vec_len, IfOk, Some};
+ghost use Rattle.std.specs.VecDeque.{deque_capacity};
 ghost use Rattle.std.specs.Option.{is_some};
 ghost use Rattle.io_rules.specs.Strands.{First, Last, Later};
 ghost use Rattle.io_strands.specs.declared.ready.ReadyOp.{ReadyOp};
-ghost use Rattle.io_strands.specs.Cell.{MayBeReady, MayBeTied, begun, called, ended, is_there, may_begin, readied, vacant};
+ghost use Rattle.io_strands.specs.Cell.{MayBeReady, MayBeTied, begun, called, emptied, ended, is_there, may_begin, readied, vacant};
 
 use crate::ready::ReadyOp;
 use asio_types::NoMemory;
@@ -54,6 +55,19 @@ impl<H, S> Model for Strand<H, S> {
     }) };
 }
 
+/// Moves all elements of a queue behind those of a list, which has room for them.
+fn move_all<T>(from: &mut VecDeque<T>, to: &mut Vec<T>)
+    requires { vec_len to.old + length from.old.items ≤ vec_capacity to.old }
+    ensures moved { to.new.items ≡ to.old.items ++ from.old.items }
+    ensures empty { from.new.items ≡ [] }
+    ensures room { vec_capacity to.new ≡ vec_capacity to.old }
+    ensures kept { deque_capacity from.new ≡ deque_capacity from.old }
+{
+    while let Some(one) = from.pop_front() {
+        to.push_reserved(one);
+    }
+}
+
 impl<H, S> Strand<H, S> {
     /// A place without a strand, with room for so many ready operations. Takes memory for all of them, and
     /// nothing takes memory later; `NoMemory` where it is refused.
@@ -92,6 +106,17 @@ impl<H, S> Strand<H, S> {
         self.tied = 0;
         self.runs = None;
         self.state.take()
+    }
+
+    /// Takes out all that is ready, behind what the list has, which has room for it.
+    pub fn empty_into(&mut self, left: &mut Vec<ReadyOp<H>>)
+        requires { vec_len left.old + length self.old.queue ≤ vec_capacity left.old }
+        ensures left { left.new.items ≡ left.old.items ++ self.old.queue }
+        ensures room { vec_capacity left.new ≡ vec_capacity left.old }
+        ensures strand { self.new ≡ emptied self.old }
+    {
+        move_all(&mut self.queue, left);
+        self.front = 0;
     }
 
     /// Gives its memory back. No strand is here.

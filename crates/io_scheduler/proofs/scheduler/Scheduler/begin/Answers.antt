@@ -4,6 +4,7 @@ use Rattle.io_rules.specs.Spares.{MayKeepAll, no_spares}
 use Rattle.io_names.specs.Tables.{names_of}
 use Rattle.io_scheduler.specs.Counted.{grant_in, left_of}
 use Rattle.io_scheduler.proofs.TakenLemmas.{held_begun, held_some, may_begin_taken, none_begins, shows_begun, taken_ready, was_ready}
+use Rattle.io_scheduler.proofs.TallyLemmas.{tally_begins, tally_more}
 use Rattle.io_scheduler.proofs.scheduler.Scheduler.begin.Goals as goal
 
 pub note_begun-requires-clause-may : goal.note_begun-requires-clause-may
@@ -31,6 +32,13 @@ give_out-claim-requires-clause-some g c =
     c.in-Some.field-0.state c.in-Some.ensures.taken c.self.invariant.1)
     c.note_begun.ensures.held
 
+pub begin-requires : goal.begin-requires
+begin-requires g c =
+    let more = tally_more c.self.inside.tally (state_of g.C.Named.limits c.self.inside.keeper.past)
+    c.in-Some.field-0.op.number c.keep_all-spares.result c.self.invariant.2 c.note_begun.ensures.may in
+    let next = ap (λ n. n.next) c.self.invariant.1.counts_are in
+    omega (arith, more, next, c.self.ranges)
+
 pub invariant_of-running : goal.invariant_of-running
 invariant_of-running g c =
     rw (c.grant-grant.ensures, ap grant_in c.self.invariant.1.counts_are)
@@ -53,6 +61,9 @@ invariant_of-self-in-Some g c =
           c.in-Some.field-0.state c.keep_all-spares.result c.in-Some.ensures.taken
           (subst (λ names. MayKeepAll names no_spares c.keep_all-spares.result) shows.names_are c.keep_all-spares.ensures.kept)
           shows),
+      rw (c.begin.ensures, c.give_out-claim.ensures.past, c.note_begun.ensures.past)
+          (tally_begins c.self.inside.tally (state_of g.C.Named.limits c.self.inside.keeper.past)
+          c.in-Some.field-0.op.number c.keep_all-spares.result c.self.invariant.2 c.note_begun.ensures.may),
     )
 
 pub returns-in-None-clause-none : goal.returns-in-None-clause-none
@@ -65,22 +76,14 @@ returns-in-None-clause-none g c =
 pub returns-in-Some-clause-begun : goal.returns-in-Some-clause-begun
 returns-in-Some-clause-begun g c =
     let shows = c.self.invariant.1 in
-    let left = ap left_of shows.counts_are in
-    let some = c.numbers_left.ensures in
-    let more = c.if-numbers_left-eq0.false in
     rw (← c.self.view_is, c.give_out-claim.ensures.past, c.note_begun.ensures.past)
     (record {
       step = record {
-        may = may_begin_taken g.H.Handler.marks g.C.Named.limits c.self.inside.counts (names_of c.self.inside.names)
-            c.self.inside.strands.items c.take_first.new.strands.items c.self.inside.jobs c.take_first.new.jobs
-            (state_of g.C.Named.limits c.self.inside.keeper.past) c.in-Some.field-0.lane c.in-Some.field-0.op
-            c.in-Some.field-0.state c.keep_all-spares.result
-            (sym (ap (λ n. n.stopped) shows.counts_are) ∙ c.if-self.false) (omega (arith, left, some, more))
-            c.in-Some.ensures.taken
-            (subst (λ names. MayKeepAll names no_spares c.keep_all-spares.result) shows.names_are c.keep_all-spares.ensures.kept)
-            shows;
+        may = c.note_begun.ensures.may;
         is = refl;
       };
+      places =
+          (let grant = c.grant-grant.ensures ∙ ap grant_in shows.counts_are in omega (arith, grant));
       held_as = c.give_out-claim.ensures.held ∙ c.note_begun.ensures.held;
       was = was_ready g.H.Handler.marks g.C.Named.limits c.self.inside.counts (names_of c.self.inside.names)
           c.self.inside.strands.items c.take_first.new.strands.items c.self.inside.jobs c.take_first.new.jobs

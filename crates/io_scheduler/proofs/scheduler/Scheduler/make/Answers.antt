@@ -1,5 +1,6 @@
 use Rattle.std.proofs.Common.{ap}
 use Rattle.io_scheduler.proofs.FirstLemmas.{shows_first, vacant_idle}
+use Rattle.io_scheduler.proofs.TallyLemmas.{tally_first}
 use Rattle.io_scheduler.proofs.scheduler.Scheduler.make.Goals as goal
 
 pub destroy_all-requires : goal.destroy_all-requires
@@ -10,4 +11,5 @@ invariant_of-result g c = (
   ap (λ k. k.held) c.requires.new,
   rw (c.new.ensures, c.in-Ok.ensures, c.in-Ok-make_strands.ensures, c.in-Ok-make.ensures, ap (λ k. k.past) c.requires.new, c.requires.limits)
       (shows_first g.H.Handler.marks g.C.Named.limits),
+  rw (c.new-in-Ok-make.ensures, ap (λ k. k.past) c.requires.new) (tally_first g.C.Named.limits),
 )

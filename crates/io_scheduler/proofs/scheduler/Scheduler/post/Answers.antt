@@ -5,8 +5,9 @@ use Rattle.io_rules.specs.declared.request.Gone.TheVariants as gone
 use Rattle.io_rules.specs.Legal.{state_of}
 use Rattle.io_names.specs.Tables.{names_of}
 use Rattle.io_scheduler.specs.Posted.{posting}
-use Rattle.io_scheduler.proofs.PostedLemmas.{may_be_posted, shows_posted}
+use Rattle.io_scheduler.proofs.PostedLemmas.{may_be_posted, shows_outside}
 use Rattle.io_scheduler.proofs.SpaceLemmas.{posted_space}
+use Rattle.io_scheduler.proofs.TallyLemmas.{tally_posts, tally_room}
 use Rattle.io_scheduler.proofs.scheduler.Scheduler.post.Goals as goal
 
 pub note_posted-requires : goal.note_posted-requires
@@ -21,6 +22,11 @@ note_posted-requires g c =
       none = rw c.learn.ensures.same c.self.invariant.0;
     }
 
+pub call-requires : goal.call-requires
+call-requires g c =
+    tally_room c.self.inside.tally (state_of g.C.Named.limits c.self.inside.keeper.past) c.args.lane c.self.invariant.2
+    (rw (← c.self.view_is) at c.requires.may)
+
 pub enter-requires : goal.enter-requires
 enter-requires g c =
     posted_space g.H.Handler.marks g.C.Named.limits c.self.inside.keeper.past c.self.inside.counts
@@ -33,11 +39,14 @@ invariant_of-self g c =
     let shows = c.self.invariant.1 in (
       c.note_posted.ensures.none,
       rw (c.enter.ensures.strands, c.enter.ensures.jobs, c.note_posted.ensures.past, c.learn.ensures.same)
-          (shows_posted g.H.Handler.marks g.C.Named.limits c.self.inside.counts
+          (shows_outside g.H.Handler.marks g.C.Named.limits c.self.inside.counts
           (names_of c.self.inside.names) c.self.inside.strands.items c.self.inside.jobs
           (state_of g.C.Named.limits c.self.inside.keeper.past) c.self.inside.counts.next c.args.lane c.args.kind
           c.args.handler (ap (λ n. n.next) shows.counts_are) c.requires.posting
           (rw (← c.self.view_is) at c.requires.may) shows),
+      rw (c.call.ensures, c.note_posted.ensures.past, c.learn.ensures.same)
+          (tally_posts c.self.inside.tally (state_of g.C.Named.limits c.self.inside.keeper.past)
+          c.self.inside.counts.next c.args.lane c.args.kind _ c.self.invariant.2 c.requires.posting),
     )
 
 pub returns : goal.returns

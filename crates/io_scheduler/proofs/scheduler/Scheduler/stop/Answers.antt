@@ -1,7 +1,10 @@
-use Rattle.std.proofs.Common.{ap}
+use Rattle.std.proofs.Common.{ap, refl}
+use Rattle.std.specs.Prelude.{None}
+use Rattle.io_rules.specs.declared.control.Control.TheVariants as control
 use Rattle.io_rules.specs.Legal.{state_of}
 use Rattle.io_names.specs.Tables.{names_of}
 use Rattle.io_scheduler.proofs.StoppedLemmas.{shows_stopped}
+use Rattle.io_scheduler.proofs.TallyLemmas.{tally_changes}
 use Rattle.io_scheduler.proofs.scheduler.Scheduler.stop.Goals as goal
 
 pub note_stopped-requires-clause-may : goal.note_stopped-requires-clause-may
@@ -15,6 +18,9 @@ invariant_of-self g c = (
       (shows_stopped g.H.Handler.marks g.C.Named.limits c.self.inside.counts (names_of c.self.inside.names)
       c.self.inside.strands.items c.self.inside.jobs (state_of g.C.Named.limits c.self.inside.keeper.past)
       c.self.invariant.1),
+  rw c.note_stopped.ensures.past
+      (tally_changes c.self.inside.tally (state_of g.C.Named.limits c.self.inside.keeper.past) None control.Stop
+      c.self.invariant.2 refl),
 )
 
 pub returns : goal.returns

@@ -1,8 +1,8 @@
 use Rattle.std.proofs.Common.{arith}
 use Rattle.io_handlers.proofs.RoomLemmas.{has_room-changed}
-use Rattle.io_handlers.proofs.initiator.Initiator.change.Goals as goal
+use Rattle.io_handlers.proofs.staging.Staging.change.Goals as goal
 
 pub invariant_of-self : goal.invariant_of-self
 invariant_of-self g c =
     rw (c.push_back_reserved.ensures.items, c.push_back_reserved.ensures.capacity)
-    (has_room-changed _ _ c.args.change c.self.invariant (omega arith))
+    (has_room-changed _ _ c.args.change c.self.invariant (omega arith) c.requires)

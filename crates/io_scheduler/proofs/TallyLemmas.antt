@@ -1,0 +1,286 @@
+-- How many operations wait and execute, as events come.
+use Rattle.std.proofs.Common.{arith, ap, refl, subst, sym, ◌∙◌}
+use Rattle.std.proofs.lemmas.Bool.{ltb-true, true≢false}
+use Rattle.std.specs.Prelude.{◌≡◌, ◌<◌, ◌≤◌, ℕ, ◌+◌, ◌&&◌, ◌||◌, ◌==◌, not, Bool, true, false, List, [], ◌∷◌, ◌++◌, replicate, suc, zero, Option, Some, None, length, nat_lt, sum_by}
+use Rattle.std.specs.List.{list_all}
+use Rattle.asio_types.specs.declared.code.Code.TheVariants as code
+use Rattle.io_rules.specs.declared.control.Control.{Control}
+use Rattle.io_rules.specs.declared.event.Event.TheVariants as event
+use Rattle.io_rules.specs.declared.limits.Limits.{Limits}
+use Rattle.io_rules.specs.declared.name.Lane.{Lane}
+use Rattle.io_rules.specs.declared.name.Lane.TheVariants as lane
+use Rattle.io_rules.specs.declared.op.Op.{Op}
+use Rattle.io_rules.specs.declared.op.Phase.{Phase}
+use Rattle.io_rules.specs.declared.op.Phase.TheVariants as phase
+use Rattle.io_rules.specs.declared.operation.Operation.{Operation}
+use Rattle.io_rules.specs.declared.request.Gone.TheVariants as gone
+use Rattle.io_rules.specs.declared.request.Marks.{Marks}
+use Rattle.io_rules.specs.declared.spares.Spares.{Spares}
+use Rattle.io_rules.specs.Calls.{is_lane_gone}
+use Rattle.io_rules.specs.Changes.{is_out, streams_changed}
+use Rattle.io_rules.specs.Executions.{MayBegin, MayEnd}
+use Rattle.io_rules.specs.Legal.{after}
+use Rattle.io_rules.specs.Ops.{is_ready, is_running}
+use Rattle.io_rules.specs.Operations.{is_posting}
+use Rattle.io_rules.specs.Room.{most_numbers, numbers_left, one_if, place_given, place_given_by}
+use Rattle.io_rules.specs.State.{ContextState, first_state, new_stream}
+use Rattle.io_rules.specs.Stopping.{IsAtRest, has_no_ops}
+use Rattle.io_rules.specs.Strands.{entry_of_dispatch, entry_of_kind}
+use Rattle.io_rules.proofs.FitLemmas.{if_prepared}
+use Rattle.io_rules.proofs.MoveLemmas.{begun-moves, ended-leaves}
+use Rattle.io_rules.proofs.OnceLemmas.{if_executing}
+use Rattle.io_rules.proofs.StageLemmas.{Stage, give_keeps, kept_of, stage_of, staged, total-other}
+use Rattle.io_rules.proofs.TotalLemmas.{sum_by-total, total, total-push}
+use Rattle.io_history.specs.declared.view.Held.{Held}
+use Rattle.io_scheduler.specs.declared.tally.Tally.{Tally}
+use Rattle.io_scheduler.specs.Counted.{may_post}
+use Rattle.io_scheduler.specs.Posted.{posting}
+use Rattle.io_scheduler.specs.Shown.{AreBelow}
+use Rattle.io_scheduler.proofs.CalledLemmas.{state_called}
+use Rattle.io_scheduler.proofs.EndedLemmas.{HeldOp}
+use Rattle.io_scheduler.proofs.PostedLemmas.{after_posting, called_state, outside_last, posted_op}
+use Rattle.io_scheduler.proofs.RefusedLemmas.{behind_refused}
+use Rattle.io_scheduler.proofs.SpaceLemmas.{three}
+use Rattle.io_scheduler.specs.Tallied.{IsTally, running_in, tally_begun, tally_called, tally_ended, waiting_in}
+
+abbrev one : ℕ → Lane → Stage → ℕ
+one n on stage = 1
+
+abbrev waits : ℕ → Lane → Stage → ℕ
+waits n on stage = if_prepared stage true
+
+abbrev executes : ℕ → Lane → Stage → ℕ
+executes n on stage = if_executing stage true
+
+total-same : (f g : Op → ℕ) → ((op : Op) → f op ≡ g op) → (ops : List Op) → total f ops ≡ total g ops
+total-same f g are [] = refl
+total-same f g are (op ∷ ops) = ap (λ n. n + total f ops) (are op) ∙ ap (λ n. g op + n) (total-same f g are ops)
+
+waits_is : (p : Phase) → one_if (is_ready p) ≡ if_prepared (stage_of p) true
+waits_is (phase.Pending moved cancelled) = refl
+waits_is (phase.Settled code size) = refl
+waits_is (phase.Ready code size) = refl
+waits_is (phase.Running own grant spares) = refl
+
+executes_is : (p : Phase) → one_if (is_running p) ≡ if_executing (stage_of p) true
+executes_is (phase.Pending moved cancelled) = refl
+executes_is (phase.Settled code size) = refl
+executes_is (phase.Ready code size) = refl
+executes_is (phase.Running own grant spares) = refl
+
+-- the three counts, as sums over stages
+waiting_total : (ops : List Op) → waiting_in ops ≡ total (staged waits) ops
+waiting_total ops =
+    sum_by-total (λ op. one_if (is_ready op.phase)) ops
+    ∙ total-same (λ op. one_if (is_ready op.phase)) (staged waits) (λ op. waits_is op.phase) ops
+
+running_total : (ops : List Op) → running_in ops ≡ total (staged executes) ops
+running_total ops =
+    sum_by-total (λ op. one_if (is_running op.phase)) ops
+    ∙ total-same (λ op. one_if (is_running op.phase)) (staged executes) (λ op. executes_is op.phase) ops
+
+length_total : (ops : List Op) → length ops ≡ total (staged one) ops
+length_total [] = refl
+length_total (op ∷ ops) = let rest = length_total ops in omega (arith, rest)
+
+-- as events move them
+moved : (t : Tally) (s new : ContextState) (new_t : Tally) → IsTally t s →
+    new_t.waiting ≡ total (staged waits) new.ops → new_t.running ≡ total (staged executes) new.ops →
+    total (staged one) new.ops ≡ new_t.waiting + new_t.running → length new.ops ≤ new.next →
+    new.streams ≡ s.streams → IsTally new_t new
+moved t s new new_t tally waiting running all few streams = record {
+  waiting = waiting ∙ sym (waiting_total new.ops);
+  running = running ∙ sym (running_total new.ops);
+  all = length_total new.ops ∙ all;
+  few = few;
+  sockets = ap (list_all (λ stream. not (is_out stream.out))) streams ∙ tally.sockets;
+}
+
+-- one more is posted, from outside or by a handler
+tally_pushed : (t : Tally) (s new : ContextState) (by : Option ℕ) (it : Op) → IsTally t s → is_ready it.phase ≡ true →
+    new.ops ≡ place_given_by by s.ops ++ it ∷ [] → new.next ≡ s.next + 1 → new.streams ≡ s.streams →
+    IsTally (tally_called t) new
+tally_pushed t s new by it tally ready ops next streams =
+    let waiting = tally.waiting ∙ waiting_total s.ops in let running = tally.running ∙ running_total s.ops in
+    let all = tally.all in let few = tally.few in let many = length_total s.ops in let more = length_total new.ops in
+    let w = more_by waits in let x = more_by executes in let o = more_by one in
+    let one_waits : if_prepared (stage_of it.phase) true ≡ 1 = sym (waits_is it.phase) ∙ ap one_if ready in
+    let none_runs : if_executing (stage_of it.phase) true ≡ 0 = ready_idle it.phase ready in
+    moved t s new (tally_called t) tally (omega (arith, waiting, w, one_waits)) (omega (arith, running, x, none_runs))
+    (omega (arith, all, many, o)) (omega (arith, many, more, o, few, next)) streams
+  where
+    more_by : (h : ℕ → Lane → Stage → ℕ) →
+        total (staged h) new.ops ≡ total (staged h) s.ops + h it.number it.lane (stage_of it.phase)
+    more_by h =
+        ap (total (staged h)) ops ∙ total-push (staged h) (place_given_by by s.ops) it
+        ∙ ap (λ n. n + h it.number it.lane (stage_of it.phase))
+        (kept_of h by (λ op. place_given op.phase) (λ op. give_keeps op.phase) s.ops)
+
+    ready_idle : (p : Phase) → is_ready p ≡ true → if_executing (stage_of p) true ≡ 0
+    ready_idle (phase.Ready code size) is = refl
+    ready_idle (phase.Pending moved cancelled) is = absurd (true≢false (sym is))
+    ready_idle (phase.Settled code size) is = absurd (true≢false (sym is))
+    ready_idle (phase.Running own grant spares) is = absurd (true≢false (sym is))
+
+pub tally_posts : (t : Tally) (s : ContextState) (n : ℕ) (on : Lane) (kind : Operation) (marks : Marks) → IsTally t s →
+    is_posting kind ≡ true → IsTally (tally_called t) (after (event.Called n None (posting on kind marks) gone.Nothing) s)
+tally_posts t s n on kind marks tally posts =
+    let new = posted_op n on kind marks code.Ok in
+    subst (IsTally (tally_called t)) (sym (after_posting false n None on kind marks s posts (outside_last on kind posts)))
+    (tally_pushed t s (called_state false n None on new s) None new tally refl refl refl refl)
+
+pub tally_calls : (t : Tally) (s : ContextState) (first : Bool) (n by : ℕ) (from on : Lane) (kind : Operation)
+    (marks : Marks) (own : Bool) (grant : ℕ) (spares : Spares) (held : Option Held) → IsTally t s →
+    is_posting kind ≡ true → HeldOp s by from own grant spares held → entry_of_kind from on kind ≡ entry_of_dispatch first →
+    IsTally (tally_called t) (after (event.Called n (Some by) (posting on kind marks) gone.Nothing) s)
+tally_calls t s first n by from on kind marks own grant spares held tally posts it enters =
+    let new = posted_op n on kind marks code.Ok in
+    subst (IsTally (tally_called t)) (sym (state_called s first n by from on kind marks own grant spares held posts it enters))
+    (tally_pushed t s (called_state first n (Some by) on new s) (Some by) new tally refl refl refl refl)
+
+-- what names a strand that is gone completes at once
+pub tally_refused : (t : Tally) (s : ContextState) (n by : ℕ) (on : Lane) (kind : Operation) (marks : Marks) →
+    IsTally t s → is_posting kind ≡ true → AreBelow n s.ops →
+    IsTally (tally_called t)
+    (after (event.Done n code.Bad 0) (after (event.Called n (Some by) (posting on kind marks) gone.Strand) s))
+tally_refused t s n by on kind marks tally posts below =
+    let new = posted_op n lane.Own kind marks code.Bad in
+    let behind = behind_refused n by on kind marks s posts below in
+    tally_pushed t s _ (Some by) new tally refl (ap (λ (x : ContextState). x.ops) behind)
+    (ap (λ (x : ContextState). x.next) behind) (ap (λ (x : ContextState). x.streams) behind)
+
+pub tally_below : (t : Tally) (s : ContextState) → IsTally t s → t.waiting ≤ s.next
+tally_below t s tally = let all = tally.all in let few = tally.few in omega (arith, all, few)
+
+pub tally_room : (t : Tally) (s : ContextState) (on : Lane) → IsTally t s → may_post s on ≡ true → t.waiting < most_numbers
+tally_room t s on tally may =
+    let parts = three (nat_lt 0 s.room) (nat_lt 0 (numbers_left s)) (not (is_lane_gone s.names on)) may in
+    let left = ltb-true 0 (numbers_left s) parts.two in
+    let all = tally.all in let few = tally.few in
+    omega (arith, left, all, few)
+
+-- a handler begins
+pub tally_begins : (t : Tally) (s : ContextState) (op : ℕ) (spares : Spares) → IsTally t s → MayBegin s op spares →
+    IsTally (tally_begun t) (after (event.Begun op spares) s)
+tally_begins t s op spares tally may =
+    let new = after (event.Begun op spares) s in
+    let waiting = tally.waiting ∙ waiting_total s.ops in let running = tally.running ∙ running_total s.ops in
+    let all = tally.all in let many = length_total s.ops in let more = length_total new.ops in
+    let w = begun-moves waits op spares s may in
+    let x = begun-moves executes op spares s may in
+    let o = begun-moves one op spares s may in
+    let few = tally.few in
+    moved t s new (tally_begun t) tally (omega (arith, waiting, w)) (omega (arith, running, x))
+    (omega (arith, waiting, all, many, w, o)) (omega (arith, many, more, o, few)) refl
+
+-- there is a number for it
+pub tally_more : (t : Tally) (s : ContextState) (op : ℕ) (spares : Spares) → IsTally t s → MayBegin s op spares →
+    t.running < s.next
+tally_more t s op spares tally may =
+    let waiting = tally.waiting ∙ waiting_total s.ops in
+    let all = tally.all in let few = tally.few in
+    let w = begun-moves waits op spares s may in
+    omega (arith, waiting, all, few, w)
+
+-- a handler has returned
+pub tally_ends : (t : Tally) (s : ContextState) (op mark : ℕ) → IsTally t s → MayEnd s op mark →
+    IsTally (tally_ended t) (after (event.Ended op mark) s)
+tally_ends t s op mark tally may =
+    let new = after (event.Ended op mark) s in
+    let waiting = tally.waiting ∙ waiting_total s.ops in let running = tally.running ∙ running_total s.ops in
+    let all = tally.all in let many = length_total s.ops in let more = length_total new.ops in
+    let w = ended-leaves waits op mark s may in
+    let x = ended-leaves executes op mark s may in
+    let o = ended-leaves one op mark s may in
+    let few = tally.few in
+    moved t s new (tally_ended t) tally (omega (arith, waiting, w)) (omega (arith, running, x))
+    (omega (arith, running, all, many, x, o)) (omega (arith, many, more, o, few)) refl
+
+-- a control call that leaves the streams
+pub tally_changes : (t : Tally) (s : ContextState) (by : Option ℕ) (change : Control) → IsTally t s →
+    streams_changed s change ≡ s.streams → IsTally t (after (event.Changed by change) s)
+tally_changes t s by change tally streams =
+    let new = after (event.Changed by change) s in
+    let waiting = tally.waiting ∙ waiting_total s.ops in let running = tally.running ∙ running_total s.ops in
+    let all = tally.all in let many = length_total s.ops in let more = length_total new.ops in
+    let w = total-other waits (event.Changed by change) s refl in
+    let x = total-other executes (event.Changed by change) s refl in
+    let o = total-other one (event.Changed by change) s refl in
+    let few = tally.few in
+    moved t s new t tally (omega (arith, waiting, w)) (omega (arith, running, x)) (omega (arith, all, many, o))
+    (omega (arith, many, more, o, few)) streams
+
+none_here : (p : Phase) (b : Bool) (rest : ℕ) → one_if (is_running p) + rest ≡ 0 → (rest ≡ 0 → b ≡ true) →
+    (not (is_running p) && b) ≡ true
+none_here (phase.Pending moved cancelled) b rest none later = later (omega (arith, none))
+none_here (phase.Settled code size) b rest none later = later (omega (arith, none))
+none_here (phase.Ready code size) b rest none later = later (omega (arith, none))
+none_here (phase.Running own grant spares) b rest none later = absurd (omega (arith, none))
+
+none_runs : (ops : List Op) → total (λ op. one_if (is_running op.phase)) ops ≡ 0 →
+    list_all (λ op. not (is_running op.phase)) ops ≡ true
+none_runs [] none = refl
+none_runs (op ∷ ops) none = none_here op.phase _ (total (λ op. one_if (is_running op.phase)) ops) none (none_runs ops)
+
+-- where none is counted none executes
+pub tally_rests : (t : Tally) (s : ContextState) → IsTally t s → t.running ≡ 0 →
+    list_all (λ op. not (is_running op.phase)) s.ops ≡ true
+tally_rests t s tally none =
+    none_runs s.ops (sym (sum_by-total (λ op. one_if (is_running op.phase)) s.ops) ∙ sym tally.running ∙ none)
+
+some_here : (p : Phase) (b : Bool) (rest : ℕ) → 0 < one_if (is_running p) + rest → (0 < rest → b ≡ false) →
+    (not (is_running p) && b) ≡ false
+some_here (phase.Pending moved cancelled) b rest some later = later (omega (arith, some))
+some_here (phase.Settled code size) b rest some later = later (omega (arith, some))
+some_here (phase.Ready code size) b rest some later = later (omega (arith, some))
+some_here (phase.Running own grant spares) b rest some later = refl
+
+some_runs : (ops : List Op) → 0 < total (λ op. one_if (is_running op.phase)) ops →
+    list_all (λ op. not (is_running op.phase)) ops ≡ false
+some_runs [] some = absurd (omega (arith, some))
+some_runs (op ∷ ops) some = some_here op.phase _ (total (λ op. one_if (is_running op.phase)) ops) some (some_runs ops)
+
+-- and where one is, one does
+pub tally_runs : (t : Tally) (s : ContextState) → IsTally t s → 0 < t.running →
+    list_all (λ op. not (is_running op.phase)) s.ops ≡ false
+tally_runs t s tally some =
+    let sum = sum_by-total (λ op. one_if (is_running op.phase)) s.ops in let running = tally.running in
+    some_runs s.ops (omega (arith, sum, running, some))
+
+-- no operation is left
+pub tally_none : (t : Tally) (s : ContextState) → IsTally t s → t.waiting + t.running ≡ 0 → has_no_ops s.ops ≡ true
+tally_none t s tally none = by_ops s.ops (tally.all ∙ none)
+  where
+    by_ops : (ops : List Op) → length ops ≡ 0 → has_no_ops ops ≡ true
+    by_ops [] none = refl
+    by_ops (op ∷ ops) none = absurd (omega (arith, none))
+
+pub tally_some : (t : Tally) (s : ContextState) → IsTally t s → 0 < t.waiting + t.running → has_no_ops s.ops ≡ false
+tally_some t s tally some = let all = tally.all in by_ops s.ops (omega (arith, all, some))
+  where
+    by_ops : (ops : List Op) → 0 < length ops → has_no_ops ops ≡ false
+    by_ops [] some = absurd (omega (arith, some))
+    by_ops (op ∷ ops) some = refl
+
+pub at_rest : (t : Tally) (s : ContextState) → IsTally t s → s.finishing ≡ false → t.running ≡ 0 → IsAtRest s
+at_rest t s tally going none = record { going = going; handlers = tally_rests t s tally none; sockets = tally.sockets }
+
+-- before the first event
+pub tally_first : (limits : Limits) → IsTally (record { waiting = 0; running = 0 }) (first_state limits)
+tally_first limits =
+    record { waiting = refl; running = refl; all = refl; few = omega arith; sockets = none_out limits.streams }
+  where
+    none_out : (n : ℕ) → list_all (λ stream. not (is_out stream.out)) (replicate n new_stream) ≡ true
+    none_out zero = refl
+    none_out (suc n) = none_out n
+
+-- a call of `run` that returns, and a restart, leave the operations
+pub tally_stays : (t : Tally) (s : ContextState) (stopped : Bool) → IsTally t s →
+    IsTally t (record s { stopped = stopped })
+tally_stays t s stopped tally = record {
+  waiting = tally.waiting;
+  running = tally.running;
+  all = tally.all;
+  few = tally.few;
+  sockets = tally.sockets;
+}

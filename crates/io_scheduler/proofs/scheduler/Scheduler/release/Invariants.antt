@@ -1,0 +1,7 @@
+use Rattle.std.specs.Prelude.{None}
+use Rattle.io_rules.specs.declared.control.Control.TheVariants as control
+use Rattle.io_rules.specs.declared.event.Event.TheVariants as event
+use Rattle.io_scheduler.proofs.scheduler.Scheduler.release.Given as goal
+
+abbrev pub ghosts-note_outside : goal.ghosts-note_outside
+ghosts-note_outside g a = record { event = event.Changed None control.Release }

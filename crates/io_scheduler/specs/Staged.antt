@@ -1,0 +1,79 @@
+-- What a handler staged while it executed takes effect in the order of its calls, and then it has ended.
+use Rattle.std.specs.Prelude.{◌≡◌, ◌+◌, ℕ, List, [], ◌∷◌, Some}
+use Rattle.asio_types.specs.declared.code.Code.TheVariants as code
+use Rattle.io_rules.specs.declared.event.Event.{Event}
+use Rattle.io_rules.specs.declared.event.Event.TheVariants as event
+use Rattle.io_rules.specs.declared.request.Gone.{Gone}
+use Rattle.io_rules.specs.declared.request.Gone.TheVariants as gone
+use Rattle.io_rules.specs.declared.request.Marks.{Marks}
+use Rattle.io_rules.specs.declared.request.Request.{Request}
+use Rattle.io_rules.specs.Calls.{gone_of}
+use Rattle.io_rules.specs.Legal.{IsStep, MayHappen, after}
+use Rattle.io_rules.specs.State.{ContextState}
+use Rattle.io_handlers.specs.declared.staged.Staged.{Staged}
+use Rattle.io_handlers.specs.declared.staged.Staged.TheVariants as staged
+use Rattle.io_handlers.specs.Initiated.{request_of}
+use Rattle.io_scheduler.specs.Ended.{mark_of}
+use Rattle.io_scheduler.specs.Running.{Execution}
+
+-- what names something gone completes at once
+abbrev pub done_at_once : ℕ → Gone → List Event
+done_at_once op gone.Nothing = []
+done_at_once op _ = event.Done op code.Bad 0 ∷ []
+
+abbrev pub called_by : ℕ → Request → ContextState → List Event
+called_by by request s =
+    event.Called s.next (Some by) request (gone_of s request)
+    ∷ done_at_once s.next (gone_of s request)
+
+-- the events of a call by the handler of this operation, oldest first
+abbrev pub events_of : {H : Type 0} → (H → Marks) → ℕ → Staged H → ContextState → List Event
+events_of marks by (staged.Called call) s = called_by by (request_of marks call) s
+events_of marks by (staged.Changed change) s = event.Changed (Some by) change ∷ []
+
+-- the state behind these events
+abbrev pub behind : List Event → ContextState → ContextState
+behind [] s = s
+behind (e ∷ events) s = behind events (after e s)
+
+-- they may come, one after another
+abbrev pub MayCome : List Event → ContextState → Type 0
+MayCome [] s = Unit {0}
+MayCome (e ∷ events) s = MayHappen s e × MayCome events (after e s)
+
+-- the handler of this operation initiates another one
+pub record IsCalled (by : ℕ) (request : Request) (old new : ContextState) : Type 0 where
+  pub may : MayCome (called_by by request old) old
+  pub is : new ≡ behind (called_by by request old) old
+
+-- one call takes effect
+pub record IsCommitted {H : Type 0} (marks : H → Marks) (by : ℕ) (call : Staged H) (old new : ContextState) :
+    Type 0 where
+  pub may : MayCome (events_of marks by call old) old
+  pub is : new ≡ behind (events_of marks by call old) old
+
+-- the state behind all calls
+abbrev pub staged_behind : {H : Type 0} → (H → Marks) → ℕ → List (Staged H) → ContextState → ContextState
+staged_behind marks by [] s = s
+staged_behind marks by (call ∷ calls) s =
+    staged_behind marks by calls (behind (events_of marks by call s) s)
+
+-- all calls take effect, one after another
+abbrev pub AreStaged : {H : Type 0} → (H → Marks) → ℕ → List (Staged H) → ContextState → Type 0
+AreStaged marks by [] s = Unit {0}
+AreStaged marks by (call ∷ calls) s =
+    MayCome (events_of marks by call s) s
+    × AreStaged marks by calls (behind (events_of marks by call s) s)
+
+-- all that its handler staged takes effect, and then it has ended with this mark
+pub record IsEnded {H : Type 0} (marks : H → Marks) (op : ℕ) (calls : List (Staged H)) (mark : ℕ)
+    (old new : ContextState) : Type 0 where
+  pub staged : AreStaged marks op calls old
+  pub ended : IsStep (staged_behind marks op calls old) (event.Ended op mark) new
+
+-- the same execution, which has initiated so many operations more
+pub record GoesOn (many : ℕ) (old new : Execution) : Type 0 where
+  pub op : new.op ≡ old.op
+  pub lane : new.lane ≡ old.lane
+  pub places : new.places + many ≡ old.places
+  pub mark : mark_of new.held ≡ mark_of old.held

@@ -1,0 +1,41 @@
+-- How many operations wait for their handlers' execution, and how many execute.
+use Rattle.std.specs.Prelude.{◌≡◌, ◌≤◌, ℕ, ◌+◌, ◌-◌, ◌||◌, not, Bool, true, List, length, sum_by}
+use Rattle.std.specs.List.{list_all}
+use Rattle.io_rules.specs.declared.op.Op.{Op}
+use Rattle.io_rules.specs.Changes.{is_out}
+use Rattle.io_rules.specs.Ops.{is_ready, is_running}
+use Rattle.io_rules.specs.Room.{one_if}
+use Rattle.io_rules.specs.State.{ContextState}
+use Rattle.io_rules.specs.Stopping.{is_out_of_work}
+use Rattle.io_scheduler.specs.declared.tally.Tally.{Tally}
+
+abbrev pub waiting_in : List Op → ℕ
+waiting_in ops = sum_by (λ (op : Op). one_if (is_ready op.phase)) ops
+
+abbrev pub running_in : List Op → ℕ
+running_in ops = sum_by (λ (op : Op). one_if (is_running op.phase)) ops
+
+-- no handler executes
+abbrev pub is_idle : ContextState → Bool
+is_idle s = list_all (λ op. not (is_running op.phase)) s.ops
+
+-- a call of `run` returns: it is stopped, or nothing is left to do
+abbrev pub is_over : ContextState → Bool
+is_over s = s.stopped || is_out_of_work s
+
+-- these are all: each operation has completed, and no socket is in a system call
+pub record IsTally (tally : Tally) (s : ContextState) : Type 0 where
+  pub waiting : tally.waiting ≡ waiting_in s.ops
+  pub running : tally.running ≡ running_in s.ops
+  pub all : length s.ops ≡ tally.waiting + tally.running
+  pub few : length s.ops ≤ s.next
+  pub sockets : list_all (λ stream. not (is_out stream.out)) s.streams ≡ true
+
+abbrev pub tally_called : Tally → Tally
+tally_called t = record t { waiting = t.waiting + 1 }
+
+abbrev pub tally_begun : Tally → Tally
+tally_begun t = record { waiting = t.waiting - 1; running = t.running + 1 }
+
+abbrev pub tally_ended : Tally → Tally
+tally_ended t = record t { running = t.running - 1 }

@@ -1,0 +1,46 @@
+ghost use Rattle.std.specs.Prelude.{◌≡◌, true};
+ghost use Rattle.io_rules.specs.declared.event.Event.TheVariants as event;
+ghost use Rattle.io_rules.specs.Legal.{IsStep};
+ghost use Rattle.io_scheduler.specs.Steps.{IsStepIf};
+ghost use Rattle.io_scheduler.specs.Tallied.{is_idle, is_over};
+
+use crate::outside::note_outside;
+use crate::scheduler::Scheduler;
+use io_handlers::Handler;
+use io_history::{HistoryTable, Named};
+use std::marker::Brand;
+
+impl<H: Handler, C: Named> Scheduler<H, C> {
+    /// Whether a call of `run` returns: the context is stopped, or out of work (no operation is left, and no
+    /// guard is out).
+    pub fn is_over(&self) -> bool
+        ensures { result ≡ is_over self.now }
+    {
+        self.counts.stopped || (self.tally.is_none() && self.counts.holds == 0)
+    }
+
+    /// A call of `run` returns: the context is stopped from now on (`io_context::run`).
+    pub fn returned(&mut self, table: &HistoryTable)
+        requires table { table.now ≡ C.table }
+        requires over { is_over self.old ≡ true }
+        ensures { IsStep self.old event.Returned self.new }
+    {
+        note_outside::<C, Brand>(table, &mut self.keeper);
+        self.counts.stopped = true;
+    }
+
+    /// Handlers may begin again (`io_context::restart`). `false` exactly where one executes, and then nothing
+    /// has changed.
+    pub fn restart(&mut self, table: &HistoryTable) -> bool
+        requires { table.now ≡ C.table }
+        ensures idle { result ≡ is_idle self.old }
+        ensures step { IsStepIf result self.old event.Restarted self.new }
+    {
+        if self.tally.running > 0 {
+            return false;
+        }
+        note_outside::<C, Brand>(table, &mut self.keeper);
+        self.counts.stopped = false;
+        true
+    }
+}

@@ -1,0 +1,55 @@
+ghost use Rattle.std.specs.Prelude.{◌≡◌, ◌+◌, ◌<◌, false, true};
+ghost use Rattle.io_scheduler.specs.Tallied.{tally_begun, tally_called, tally_ended};
+
+/// How many operations there are.
+#[derive(Clone, Copy)]
+pub(crate) struct Tally {
+    /// Those that wait for their handlers' execution.
+    pub(crate) waiting: u64,
+    /// Those whose handlers execute.
+    pub(crate) running: u64,
+}
+
+impl Tally {
+    /// Before the first event.
+    pub(crate) fn new() -> Tally
+        ensures { result ≡ record { waiting = 0; running = 0 } }
+    {
+        Tally {
+            waiting: 0,
+            running: 0,
+        }
+    }
+
+    /// One more is called, and ready.
+    pub(crate) fn call(&mut self)
+        requires { self.old.waiting < 18446744073709551615 }
+        ensures { self.new ≡ tally_called self.old }
+    {
+        self.waiting += 1;
+    }
+
+    /// One that waited begins.
+    pub(crate) fn begin(&mut self)
+        requires { self.old.running < 18446744073709551615 }
+        ensures { self.new ≡ tally_begun self.old }
+    {
+        self.waiting = self.waiting.saturating_sub(1);
+        self.running += 1;
+    }
+
+    /// One that executed has returned.
+    pub(crate) fn end(&mut self)
+        ensures { self.new ≡ tally_ended self.old }
+    {
+        self.running = self.running.saturating_sub(1);
+    }
+
+    /// Whether none is left.
+    pub(crate) fn is_none(&self) -> bool
+        ensures none { result ≡ true → self.now.waiting + self.now.running ≡ 0 }
+        ensures some { result ≡ false → 0 < self.now.waiting + self.now.running }
+    {
+        self.waiting == 0 && self.running == 0
+    }
+}
