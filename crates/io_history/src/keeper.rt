@@ -13,6 +13,7 @@ use std::marker::{Model, PhantomData};
 
 /// Whoever has this knows the whole history of a context, and is the only one to note events. Contracts
 /// see the history, newest event first, and the operation that it holds itself, if any.
+#[derive(Drop)]
 pub struct Keeper<C: Named> {
     seat: HistorySeat,
     of: PhantomData<C>,

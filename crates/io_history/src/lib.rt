@@ -16,6 +16,6 @@ mod witness;
 pub use claim::Claim;
 pub use keeper::Keeper;
 pub use named::{Happening, Named};
-pub use table::HistoryTable;
+pub use table::{HistorySeat, HistoryTable};
 pub use view::{Held, View};
 pub use witness::Witness;

@@ -3,6 +3,7 @@ use crate::table::HistorySeat;
 use std::marker::{Model, PhantomData};
 
 /// What was so far when it was given out: the history of that moment, which all later ones end with.
+#[derive(Drop)]
 pub struct Witness<C: Named> {
     pub(crate) seat: HistorySeat,
     pub(crate) of: PhantomData<C>,

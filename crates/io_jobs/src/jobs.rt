@@ -1,4 +1,4 @@
-ghost use Rattle.std.specs.Prelude.{◌≡◌, ◌<◌, ◌≤◌, ℕ, if◌then◌else◌, [], false, length, slice_get, vec_capacity, IfNone, IfOk, IfSome, Some};
+ghost use Rattle.std.specs.Prelude.{◌≡◌, ◌↔◌, ◌<◌, ◌≤◌, ℕ, if◌then◌else◌, [], false, length, slice_get, vec_capacity, IfNone, IfOk, IfSome, IsTrue, Some};
 ghost use Rattle.io_jobs.specs.Listed.{IsAmong, WasListed, is_listed, listed_without, no_jobs, ops_in, owns, taken, with_op, with_strand};
 
 use crate::job::Job;
@@ -107,6 +107,14 @@ impl<T> Jobs<T> {
         ensures { self.new ≡ with_op op self.old }
     {
         self.ring.push_back_reserved(Job::Own(op));
+    }
+
+    /// Whether nothing may begin.
+    pub fn is_empty(&self) -> bool
+        ensures empty { IsTrue result ↔ self.now.ring ≡ [] }
+        ensures none { IsTrue result → (strand : ℕ) → is_listed self.now strand ≡ false }
+    {
+        self.ring.is_empty()
     }
 
     /// Takes the first; `None` exactly where the list is empty, and then no strand is in it.

@@ -18,11 +18,11 @@ use Rattle.io_scheduler.specs.Holding.{counts_held, counts_released}
 use Rattle.io_scheduler.specs.Shown.{Shows}
 
 -- the state behind it; what waits for time is nothing that is shown
-abbrev counted_state : ℕ → Bool → List ℕ → List Wait → ContextState → ContextState
+abbrev pub counted_state : ℕ → Bool → List ℕ → List Wait → ContextState → ContextState
 counted_state holds stopped settled waits s =
     record s { holds = holds; stopped = stopped; settled = settled; waits = waits }
 
-shows_counted : {H S : Type 0} (marks : H → Marks) (limits : Limits) (counts : Counts) (names : Names)
+pub shows_counted : {H S : Type 0} (marks : H → Marks) (limits : Limits) (counts : Counts) (names : Names)
     (cells : List (Cell H S)) (jobs : JobList (ReadyOp H)) (s : ContextState) (change : Counts → Counts) (holds : ℕ)
     (stopped : Bool) (settled : List ℕ) (waits : List Wait) →
     change (counts_of s) ≡ counts_of (counted_state holds stopped settled waits s) → settled ≡ [] →
@@ -45,6 +45,14 @@ shows_counted marks limits counts names cells jobs s change holds stopped settle
   settled = none;
   going = shows.going;
 }
+
+pub shows_stopped : {H S : Type 0} (marks : H → Marks) (limits : Limits) (counts : Counts) (names : Names)
+    (cells : List (Cell H S)) (jobs : JobList (ReadyOp H)) (s : ContextState) →
+    Shows marks limits counts names cells jobs s →
+    Shows marks limits (counts_stopped counts) names cells jobs (after (event.Changed None control.Stop) s)
+shows_stopped marks limits counts names cells jobs s shows =
+    shows_counted marks limits counts names cells jobs s counts_stopped _ _ _ _ refl
+    (ap (λ xs. xs ++ []) shows.settled) shows
 
 pub shows_held : {H S : Type 0} (marks : H → Marks) (limits : Limits) (counts : Counts) (names : Names)
     (cells : List (Cell H S)) (jobs : JobList (ReadyOp H)) (s : ContextState) →

@@ -1,13 +1,12 @@
 -- The least of what is left is dropped.
-use Rattle.std.proofs.Common.{arith, ap, eqb, refl, subst, sym, ◌∙◌}
-use Rattle.std.proofs.lemmas.Bool.{true≢false}
-use Rattle.std.specs.Prelude.{◌≡◌, ℕ, ◌+◌, ◌==◌, Bool, true, false, List, [], ◌∷◌, Option, None, Some, length, if◌then◌else◌}
+use Rattle.std.proofs.Common.{arith, ap, refl, subst, sym, ◌∙◌}
+use Rattle.std.specs.Prelude.{◌≡◌, ◌+◌, ◌==◌, true, List, [], ◌∷◌, Option, Some, length, if◌then◌else◌}
 use Rattle.std.specs.Option.{option_map}
 use Rattle.io_rules.specs.declared.event.Event.TheVariants as event
 use Rattle.io_rules.specs.declared.op.Op.{Op}
 use Rattle.io_rules.specs.declared.request.Marks.{Marks}
 use Rattle.io_rules.specs.Executions.{drop_mark, marks_of}
-use Rattle.io_rules.specs.Legal.{MayHappen, after}
+use Rattle.io_rules.specs.Legal.{MayHappen}
 use Rattle.io_rules.specs.Ops.{op_at, without}
 use Rattle.io_rules.specs.State.{ContextState}
 use Rattle.io_rules.specs.Stopping.{first_number}

@@ -1,10 +1,10 @@
 -- Operations with their handlers: how often a number is among them.
-use Rattle.std.proofs.Common.{arith, ap, eqb, refl, subst, sym, ◌∙◌, length-append, ⊎_elim}
+use Rattle.std.proofs.Common.{arith, ap, refl, subst, sym, ◌∙◌, ⊎_elim}
 use Rattle.std.proofs.lemmas.Bool.{cases_lt}
 use Rattle.std.proofs.lemmas.List.Elements.{All-cons, All-head, All-nil, All-tail}
 use Rattle.std.proofs.lemmas.List.Sorted.{sum_by-IsPermutation}
 use Rattle.std.proofs.lemmas.List.Sums.{sum_by-cons}
-use Rattle.std.specs.Prelude.{◌≡◌, ◌<◌, ◌≤◌, ℕ, suc, ◌+◌, ◌==◌, Bool, true, false, List, [], ◌∷◌, ◌++◌, Option, None, Some, length, sum_by}
+use Rattle.std.specs.Prelude.{◌≡◌, ◌<◌, ◌≤◌, ℕ, ◌+◌, ◌==◌, true, List, [], ◌∷◌, ◌++◌, None, Some, length, sum_by}
 use Rattle.std.specs.List.{All}
 use Rattle.std.specs.List.Sorted.{IsPermutation}
 use Rattle.io_rules.specs.declared.name.Lane.{Lane}
@@ -13,7 +13,7 @@ use Rattle.io_rules.specs.declared.request.Marks.{Marks}
 use Rattle.io_rules.specs.Ops.{is_ready, op_at, without}
 use Rattle.io_rules.specs.Room.{one_if}
 use Rattle.io_rules.proofs.StrandLemmas.{by_test}
-use Rattle.io_rules.proofs.TotalLemmas.{apart, equal, same, total, total-without}
+use Rattle.io_rules.proofs.TotalLemmas.{equal, same, total, total-without}
 use Rattle.io_history.proofs.AtLemmas.{at-without}
 use Rattle.io_strands.specs.declared.ready.ReadyOp.{ReadyOp}
 use Rattle.io_scheduler.specs.Ready.{AreReady, IsNone}

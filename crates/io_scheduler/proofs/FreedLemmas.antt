@@ -9,7 +9,6 @@ use Rattle.io_rules.specs.declared.event.Event.{Event}
 use Rattle.io_rules.specs.declared.event.Event.TheVariants as event
 use Rattle.io_rules.specs.declared.limits.Limits.{Limits}
 use Rattle.io_rules.specs.declared.name.Kind.TheVariants as kind
-use Rattle.io_rules.specs.declared.name.Lane.{Lane}
 use Rattle.io_rules.specs.declared.name.Lane.TheVariants as lane
 use Rattle.io_rules.specs.declared.name.Name.{Name}
 use Rattle.io_rules.specs.declared.op.Wait.{Wait}
@@ -24,7 +23,7 @@ use Rattle.io_rules.specs.Legal.{IsLegal, after, state_of}
 use Rattle.io_rules.specs.Names.{Names, is_alive, is_current, is_living, is_unused, no_place, place_at, with_life}
 use Rattle.io_rules.specs.Room.{one_if}
 use Rattle.io_rules.specs.State.{ContextState, StrandState, new_strand, strand_at, with_strand}
-use Rattle.io_rules.proofs.StrandLemmas.{both, by_test, generation-with_life, strand_is}
+use Rattle.io_rules.proofs.StrandLemmas.{both, generation-with_life, strand_is}
 use Rattle.io_rules.proofs.StrandStateLemmas.{runs_tied, strands_fit, waits_tied}
 use Rattle.io_rules.proofs.TotalLemmas.{equal}
 use Rattle.io_strands.specs.declared.ready.ReadyOp.{ReadyOp}
@@ -33,11 +32,12 @@ use Rattle.io_strands.specs.Numbered.{numbered}
 use Rattle.io_jobs.specs.Listed.{JobList}
 use Rattle.io_scheduler.specs.declared.counts.Counts.{Counts}
 use Rattle.io_scheduler.specs.Ended.{forgotten_cells, forgotten_state}
-use Rattle.io_scheduler.specs.Shown.{Shows, ShowsCell, cell_at, is_used, is_used_place, lane_of_place}
+use Rattle.io_scheduler.specs.Shown.{Shows, ShowsCell, cell_at, is_used_place, lane_of_place}
 use Rattle.io_scheduler.specs.Stranded.{MayFree, names_freed}
+use Rattle.io_scheduler.proofs.CountedLemmas.{shows_counted}
 use Rattle.io_scheduler.proofs.ForgottenLemmas.{empty_there, shows_without}
 use Rattle.io_scheduler.proofs.ListedLemmas.{cell_is}
-use Rattle.io_scheduler.proofs.SpaceLemmas.{there_is, within_cells}
+use Rattle.io_scheduler.proofs.SpaceLemmas.{living_used, there_is, within_cells}
 use Rattle.io_scheduler.proofs.SpareLemmas.{spares_less}
 
 living_not : (l : Life) → is_living l ≡ true → is_unused l ≡ false
@@ -46,13 +46,6 @@ living_not life.Free is = absurd (true≢false (sym is))
 living_not (life.Kept op) is = refl
 living_not life.Closing is = refl
 living_not life.Spent is = refl
-
-living_used : (l : Life) → is_living l ≡ true → is_used l ≡ true
-living_used life.Alive is = refl
-living_used life.Free is = absurd (true≢false (sym is))
-living_used (life.Kept op) is = absurd (true≢false (sym is))
-living_used life.Closing is = refl
-living_used life.Spent is = absurd (true≢false (sym is))
 
 -- a strand that is there
 pub record AliveStrand {H S : Type 0} (cells : List (Cell H S)) (s : ContextState) (name : Name) : Type 0 where
@@ -130,23 +123,8 @@ shows_quiet : {H S : Type 0} (marks : H → Marks) (limits : Limits) (counts : C
     (cells : List (Cell H S)) (jobs : JobList (ReadyOp H)) (s : ContextState) (settled : List ℕ) (waits : List Wait) →
     settled ≡ [] → Shows marks limits counts names cells jobs s →
     Shows marks limits counts names cells jobs (record s { settled = settled; waits = waits })
-shows_quiet marks limits counts names cells jobs s settled waits none shows = record {
-  limits_are = shows.limits_are;
-  counts_are = shows.counts_are;
-  names_are = shows.names_are;
-  below = shows.below;
-  spares = shows.spares;
-  strands = shows.strands;
-  there = shows.there;
-  rooms = shows.rooms;
-  each = shows.each;
-  listed = shows.listed;
-  own = shows.own;
-  own_all = shows.own_all;
-  own_room = shows.own_room;
-  settled = none;
-  going = shows.going;
-}
+shows_quiet marks limits counts names cells jobs s settled waits none shows =
+    shows_counted marks limits counts names cells jobs s (λ c. c) s.holds s.stopped settled waits refl none shows
 
 lane_closing : (places : List Place) (name : Name) (k : ℕ) →
     lane_of_place places k ≡ lane_of_place (with_life life.Closing name places) k

@@ -1,8 +1,8 @@
 -- What is ready on strands is taken out, one strand after another.
-use Rattle.std.proofs.Common.{arith, add-one, append_assoc, ap, eqb, refl, subst, sym, ◌∙◌, drop-cons, length-append, ⊎_elim}
+use Rattle.std.proofs.Common.{arith, add-one, append_assoc, ap, refl, subst, sym, ◌∙◌, drop-cons, length-append, ⊎_elim}
 use Rattle.std.proofs.lemmas.Bool.{cases_lt}
 use Rattle.std.proofs.Math.ListN.{drop_of_length-le}
-use Rattle.std.proofs.lemmas.List.{append-nil, drop-set-lt, get_or-set_other, get_or-set_same, get_or_past, length-set}
+use Rattle.std.proofs.lemmas.List.{append-nil, drop-set-lt, get_or-set_other, get_or-set_same, get_or_past}
 use Rattle.std.specs.Prelude.{◌≡◌, ◌<◌, ◌≤◌, ℕ, zero, suc, ◌+◌, ◌==◌, ◌++◌, List, [], ◌∷◌, drop, length}
 use Rattle.std.specs.List.{slice_set}
 use Rattle.io_rules.proofs.StrandLemmas.{by_test}

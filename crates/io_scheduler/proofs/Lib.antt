@@ -19,6 +19,6 @@ pub mod SortedLemmas
 pub mod SpaceLemmas
 pub mod SpareLemmas
 pub mod StagedLemmas
-pub mod StoppedLemmas
 pub mod TakenLemmas
 pub mod TallyLemmas
+pub mod ToldLemmas

@@ -35,7 +35,7 @@ ready-kept marks old new on (r ∷ rest) keeps are = (
   ready-kept marks old new on rest keeps are.2,
 )
 
-differ : (m n : ℕ) → m ≢ n → eqb m n ≡ false
+pub differ : (m n : ℕ) → m ≢ n → eqb m n ≡ false
 differ m n other =
     ⊎_elim (λ (t : (eqb m n ≡ true) × (m ≡ n)). absurd (other t.1))
     (λ (t : (eqb m n ≡ false) × (m ≢ n)). t.0) (eqb_tells m n)

@@ -55,7 +55,7 @@ three true true false is = absurd (true≢false (sym is))
 three true false r is = absurd (true≢false (sym is))
 three false q r is = absurd (true≢false (sym is))
 
-one_at_most : (b : Bool) → one_if b ≤ 1
+pub one_at_most : (b : Bool) → one_if b ≤ 1
 one_at_most true = omega arith
 one_at_most false = omega arith
 
@@ -80,7 +80,7 @@ owns_are [] = refl
 owns_are (job.Strand strand ∷ ring) = let rest = owns_are ring in omega (arith, rest)
 owns_are (job.Own op ∷ ring) = let rest = owns_are ring in omega (arith, rest)
 
-living_used : (l : Life) → is_living l ≡ true → is_used l ≡ true
+pub living_used : (l : Life) → is_living l ≡ true → is_used l ≡ true
 living_used life.Alive is = refl
 living_used life.Free is = absurd (true≢false (sym is))
 living_used (life.Kept op) is = absurd (true≢false (sym is))

@@ -14,3 +14,4 @@ pub mod Steps
 pub mod Stranded
 pub mod Taken
 pub mod Tallied
+pub mod Told

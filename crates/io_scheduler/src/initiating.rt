@@ -7,9 +7,11 @@ ghost use Rattle.io_rules.specs.Operations.{is_posting};
 ghost use Rattle.io_names.specs.Tables.{names_of};
 ghost use Rattle.io_scheduler.specs.Counted.{may_post};
 ghost use Rattle.io_scheduler.specs.Posted.{posting};
+ghost use Rattle.io_scheduler.specs.Told.{IsNewest};
 
 use crate::entering::enter;
 use crate::noting::note_posted;
+use crate::receipt::Receipt;
 use crate::scheduler::Scheduler;
 use asio_types::Code;
 use io_handlers::Handler;
@@ -37,19 +39,21 @@ impl<H: Handler, C: Named> Scheduler<H, C> {
         self.counts.room > 0 && self.counts.numbers_left() > 0 && is_there(&self.names, lane)
     }
 
-    /// Posts a handler from outside of all handlers (`post`, `defer`, `dispatch`), and answers the number of
-    /// its operation; gives it back where no place or no number is free, or the strand is gone.
+    /// Posts a handler from outside of all handlers (`post`, `defer`, `dispatch`), and answers that the
+    /// call stands in the history; gives it back where no place or no number is free, or the strand is gone.
     pub fn initiate(
         &mut self,
         table: &HistoryTable,
         lane: Lane,
         kind: Operation,
         handler: H,
-    ) -> Result<u64, H>
+    ) -> Result<Receipt<C>, H>
         requires table { table.now ≡ C.table }
         requires posting { is_posting kind ≡ true }
-        ensures initiated { IfOk result (λ op. IsStep self.old
-            (event.Called op None (posting lane kind (H.marks handler)) gone.Nothing) self.new) }
+        ensures initiated { IfOk result (λ receipt. IsStep self.old
+            (event.Called receipt.op None (posting lane kind (H.marks handler)) gone.Nothing) self.new) }
+        ensures told { IfOk result (λ receipt. IsNewest
+            (event.Called receipt.op None (posting lane kind (H.marks handler)) gone.Nothing) receipt.told) }
         ensures refused { OnErr result (may_post self.old lane ≡ false) }
         ensures same { OnErr result (self.new ≡ self.old) }
         ensures back { IfErr result (λ back. back ≡ handler) }
@@ -61,16 +65,18 @@ impl<H: Handler, C: Named> Scheduler<H, C> {
     }
 
     /// Posts a handler where it may.
-    fn post(&mut self, table: &HistoryTable, lane: Lane, kind: Operation, handler: H) -> u64
+    fn post(&mut self, table: &HistoryTable, lane: Lane, kind: Operation, handler: H) -> Receipt<C>
         requires table { table.now ≡ C.table }
         requires posting { is_posting kind ≡ true }
         requires may { may_post self.old lane ≡ true }
-        ensures { IsStep self.old
-            (event.Called result None (posting lane kind (H.marks handler)) gone.Nothing) self.new }
+        ensures initiated { IsStep self.old
+            (event.Called result.op None (posting lane kind (H.marks handler)) gone.Nothing) self.new }
+        ensures told { IsNewest
+            (event.Called result.op None (posting lane kind (H.marks handler)) gone.Nothing) result.told }
     {
         self.keeper.learn(table);
         let op = self.counts.next;
-        note_posted::<H, C, Brand>(table, &mut self.keeper, op, lane, kind, &handler);
+        let told = note_posted::<H, C, Brand>(table, &mut self.keeper, op, lane, kind, &handler);
         self.counts.next += 1;
         self.counts.room -= 1;
         self.tally.call();
@@ -81,6 +87,6 @@ impl<H: Handler, C: Named> Scheduler<H, C> {
             handler,
         };
         enter(&mut self.strands, &mut self.jobs, false, lane, ready);
-        op
+        Receipt { op, told }
     }
 }

@@ -3,6 +3,7 @@
 //! the history of the context is a legal one. The context stands on it.
 #![tactic(auto)]
 
+mod asking;
 mod beginning;
 mod calling;
 mod committing;
@@ -16,6 +17,7 @@ mod leaving;
 mod making;
 mod noting;
 mod outside;
+mod receipt;
 mod remains;
 mod restarting;
 mod running;
@@ -27,6 +29,7 @@ mod taking;
 mod tally;
 
 pub use beginning::Begun;
+pub use receipt::Receipt;
 pub use remains::Remains;
 pub use running::Running;
 pub use scheduler::Scheduler;

@@ -9,10 +9,10 @@ ghost use Rattle.io_history.specs.Steps.{held_op, held_still, holding};
 ghost use Rattle.io_scheduler.specs.Posted.{posting};
 
 use io_handlers::Handler;
-use io_history::{Happening, HistoryTable, Keeper, Named};
+use io_history::{Happening, HistoryTable, Keeper, Named, Witness};
 use io_rules::{Gone, Lane, Operation, Spares};
 
-/// Notes that an operation is posted from outside.
+/// Notes that an operation is posted from outside, and tells the history up to it.
 pub(crate) fn note_posted<H: Handler, C: Named, E: Happening>(
     table: &HistoryTable,
     keeper: &mut Keeper<C>,
@@ -20,15 +20,17 @@ pub(crate) fn note_posted<H: Handler, C: Named, E: Happening>(
     lane: Lane,
     kind: Operation,
     handler: &H,
-)
+) -> Witness<C>
     requires table { table.now ≡ C.table }
     requires event { E.event ≡ event.Called op None (posting lane kind (H.marks handler.now)) gone.Nothing }
     requires may { MayHappen (state_of C.limits keeper.old.past) E.event }
     requires none { keeper.old.held ≡ None }
     ensures past { keeper.new.past ≡ E.event ∷ keeper.old.past }
     ensures none { keeper.new.held ≡ None }
+    ensures told { result ≡ E.event ∷ keeper.old.past }
 {
     keeper.note::<E>(table);
+    keeper.tell(table)
 }
 
 /// Notes that a handler begins, and holds its operation.
@@ -63,18 +65,6 @@ pub(crate) fn note_ended<C: Named, E: Happening>(
     requires held { held_op keeper.old.held ≡ Some op }
     ensures may { MayHappen (state_of C.limits keeper.old.past) (event.Ended op mark) }
     ensures past { keeper.new.past ≡ event.Ended op mark ∷ keeper.old.past }
-    ensures none { keeper.new.held ≡ None }
-{
-    keeper.note::<E>(table);
-}
-
-/// Notes that the context is stopped.
-pub(crate) fn note_stopped<C: Named, E: Happening>(table: &HistoryTable, keeper: &mut Keeper<C>)
-    requires table { table.now ≡ C.table }
-    requires event { E.event ≡ event.Changed None control.Stop }
-    requires may { MayHappen (state_of C.limits keeper.old.past) E.event }
-    requires none { keeper.old.held ≡ None }
-    ensures past { keeper.new.past ≡ event.Changed None control.Stop ∷ keeper.old.past }
     ensures none { keeper.new.held ≡ None }
 {
     keeper.note::<E>(table);

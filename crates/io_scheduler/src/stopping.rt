@@ -3,7 +3,7 @@ ghost use Rattle.io_rules.specs.declared.control.Control.TheVariants as control;
 ghost use Rattle.io_rules.specs.declared.event.Event.TheVariants as event;
 ghost use Rattle.io_rules.specs.Legal.{IsStep};
 
-use crate::noting::note_stopped;
+use crate::outside::note_outside;
 use crate::scheduler::Scheduler;
 use io_handlers::Handler;
 use io_history::{HistoryTable, Named};
@@ -15,7 +15,7 @@ impl<H: Handler, C: Named> Scheduler<H, C> {
         requires { table.now ≡ C.table }
         ensures { IsStep self.old (event.Changed None control.Stop) self.new }
     {
-        note_stopped::<C, Brand>(table, &mut self.keeper);
+        note_outside::<C, Brand>(table, &mut self.keeper);
         self.counts.stopped = true;
     }
 

@@ -3,7 +3,7 @@ use Rattle.std.specs.Prelude.{Some}
 use Rattle.io_rules.specs.declared.control.Control.TheVariants as control
 use Rattle.io_rules.specs.Legal.{state_of}
 use Rattle.io_names.specs.Tables.{names_of}
-use Rattle.io_scheduler.proofs.StoppedLemmas.{shows_stopped}
+use Rattle.io_scheduler.proofs.CountedLemmas.{shows_stopped}
 use Rattle.io_scheduler.proofs.TallyLemmas.{tally_changes}
 use Rattle.io_scheduler.proofs.scheduler.Scheduler.stop_by.Goals as goal
 

@@ -1,0 +1,66 @@
+-- The laws of the rules, of one history.
+use Rattle.std.proofs.Common.{arith, subst, sym, ◌∙◌}
+use Rattle.std.specs.Prelude.{◌≡◌, ◌≤◌, ℕ, suc, Bool, true, false, List, [], ◌∷◌, ◌++◌, if◌then◌else◌}
+use Rattle.io_rules.specs.declared.event.Event.{Event}
+use Rattle.io_rules.specs.declared.event.Event.TheVariants as event
+use Rattle.io_rules.specs.declared.limits.Limits.{Limits}
+use Rattle.io_rules.specs.Alone.{AloneOnStrand}
+use Rattle.io_rules.specs.History.{calls, is_over, times}
+use Rattle.io_rules.specs.InOrder.{BeginInOrder}
+use Rattle.io_rules.specs.Legal.{IsLegal, IsWhole, state_of}
+use Rattle.io_rules.specs.Once.{AllAreOver, BegunBeforeEnded, BegunOrDropped, CalledOnce}
+use Rattle.io_rules.specs.Stopped.{NothingBeginsStopped}
+use Rattle.io_history.specs.Rule.{EndsWith}
+use Rattle.io_scheduler.specs.Told.{is_newest_call}
+use Rattle.io_context.specs.Laws.{KeepsLaws}
+
+-- an older history is legal too
+legal_end : (limits : Limits) (later before : List Event) → IsLegal limits (later ++ before) → IsLegal limits before
+legal_end limits [] before legal = legal
+legal_end limits (e ∷ later) before legal = legal_end limits later before legal.1
+
+legal_at : (limits : Limits) (past later before : List Event) → past ≡ later ++ before → IsLegal limits past →
+    IsLegal limits before
+legal_at limits past later before is legal =
+    legal_end limits later before (subst (IsLegal limits) is legal)
+
+pub keeps_laws : CalledOnce → AllAreOver → BegunOrDropped → BegunBeforeEnded → AloneOnStrand → BeginInOrder →
+    NothingBeginsStopped → (limits : Limits) (past : List Event) → IsLegal limits past →
+    IsWhole (state_of limits past) → KeepsLaws limits past
+keeps_laws called all dropped begun alone order stopped limits past legal whole = record {
+  initiated_once = called limits past legal;
+  over_once = all limits past legal whole;
+  begun_or_dropped = dropped limits past legal;
+  begun_before = begun limits past legal;
+  alone = λ since before op other spares strand is on other_on.
+      alone limits before op other spares strand
+      (legal_at limits past since (event.Begun op spares ∷ before) is legal) on other_on;
+  in_order = order limits past legal;
+  stopped = λ later since before stop is stops never.
+      stopped limits since stop before (legal_at limits past later (since ++ (stop ∷ before)) is legal) stops never;
+}
+
+one_more : (b : Bool) (n : ℕ) → 1 ≤ n → 1 ≤ (if b then suc n else n)
+one_more true n least = omega (arith, least)
+one_more false n least = least
+
+first_one : (b : Bool) (n : ℕ) → b ≡ true → 1 ≤ (if b then suc n else n)
+first_one true n is = omega arith
+first_one false n is = absurd (cc)
+
+-- what came last in an older history came
+told_once : (op : ℕ) (later told : List Event) → is_newest_call op told ≡ true → 1 ≤ times (calls op) (later ++ told)
+told_once op [] [] newest = absurd (cc)
+told_once op [] (e ∷ before) newest = first_one (calls op e) (times (calls op) before) newest
+told_once op (e ∷ later) told newest =
+    one_more (calls op e) (times (calls op) (later ++ told)) (told_once op later told newest)
+
+pub is_over_once : CalledOnce → AllAreOver → (limits : Limits) (past told : List Event) (op : ℕ) →
+    IsLegal limits past → IsWhole (state_of limits past) → EndsWith past told → is_newest_call op told ≡ true →
+    times (is_over op) past ≡ 1
+is_over_once called all limits past told op legal whole ends newest =
+    let least : 1 ≤ times (calls op) past =
+    subst (λ p. 1 ≤ times (calls op) p) (sym ends.1) (told_once op ends.0 told newest) in
+    let most : times (calls op) past ≤ 1 = called limits past legal op in
+    let one : times (calls op) past ≡ 1 = omega (arith, least, most) in
+    all limits past legal whole op ∙ one

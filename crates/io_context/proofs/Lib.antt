@@ -1,0 +1,2 @@
+mod InvokedLemmas
+mod LawLemmas

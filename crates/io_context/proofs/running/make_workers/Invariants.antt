@@ -1,0 +1,6 @@
+use Rattle.std.proofs.Common.{◌≡◌, ◌≤◌}
+use Rattle.std.specs.Vec.{vec_capacity, vec_len}
+use Rattle.io_context.proofs.running.make_workers.Given as goal
+
+abbrev pub invariant-workers : goal.invariant-workers
+invariant-workers g l = (vec_len l.workers ≡ l.counter) × (l.many ≤ vec_capacity l.workers)

@@ -1,0 +1,5 @@
+pub mod Invoked
+pub mod Laws
+pub mod Naming
+pub mod Refused
+pub mod Sleeping

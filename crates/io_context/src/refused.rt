@@ -1,0 +1,69 @@
+ghost use Rattle.std.specs.Prelude.{◌≡◌, false};
+ghost use Rattle.io_context.specs.Refused.{NoStrandWasFree, WasRefused};
+ghost use Rattle.io_rules.specs.Names.{any_free};
+ghost use Rattle.io_scheduler.specs.Counted.{may_post};
+
+use io_handlers::Handler;
+use io_history::{HistoryTable, Named, Witness};
+use io_rules::Lane;
+use io_scheduler::Scheduler;
+
+/// Why a call from outside of all handlers is refused.
+#[derive(Clone, Copy, Debug, PartialEq, Eq)]
+pub enum Refusal {
+    /// No place for one more is free.
+    Full,
+    /// Its strand is gone.
+    Gone,
+}
+
+/// A call from outside of all handlers that is refused: what it was given comes back.
+#[derive(Drop)]
+pub struct Refused<T, C: Named> {
+    /// What it was given.
+    pub back: T,
+    /// Why.
+    pub why: Refusal,
+    /// The history at that moment.
+    pub told: Witness<C>,
+}
+
+/// A handler that isn't accepted on this lane.
+pub(crate) fn refuse<H: Handler, C: Named>(
+    scheduler: &mut Scheduler<H, C>,
+    table: &HistoryTable,
+    lane: Lane,
+    back: H,
+) -> Refused<H, C>
+    requires table { table.now ≡ C.table }
+    requires may { may_post scheduler.old lane ≡ false }
+    ensures same { scheduler.new ≡ scheduler.old }
+    ensures refused { WasRefused C.limits lane result.why result.told }
+    ensures back { result.back ≡ back }
+{
+    let told = scheduler.tell(table);
+    if scheduler.has_lane(lane) {
+        let why = Refusal::Full;
+        Refused { back, why, told }
+    } else {
+        let why = Refusal::Gone;
+        Refused { back, why, told }
+    }
+}
+
+/// The state of a strand that isn't made.
+pub(crate) fn refuse_strand<H: Handler, C: Named>(
+    scheduler: &mut Scheduler<H, C>,
+    table: &HistoryTable,
+    back: H::State,
+) -> Refused<H::State, C>
+    requires table { table.now ≡ C.table }
+    requires none { any_free scheduler.old.names.strands ≡ false }
+    ensures same { scheduler.new ≡ scheduler.old }
+    ensures refused { NoStrandWasFree C.limits result.told }
+    ensures back { result.back ≡ back }
+{
+    let told = scheduler.tell(table);
+    let why = Refusal::Full;
+    Refused { back, why, told }
+}
