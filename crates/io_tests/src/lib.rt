@@ -1,0 +1,14 @@
+//! Tests of an io_context: what no clause can say, with handlers that count, meet and go on. Nothing stands
+//! on it.
+#![tactic(auto)]
+
+#[cfg(test)]
+mod chain;
+#[cfg(test)]
+mod handlers;
+#[cfg(test)]
+mod many;
+#[cfg(test)]
+mod meeting;
+#[cfg(test)]
+mod running;
