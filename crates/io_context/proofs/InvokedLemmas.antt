@@ -1,17 +1,14 @@
 -- A handler that has begun is that of its operation.
 use Rattle.std.proofs.Common.{ap, refl, ◌∙◌}
-use Rattle.std.specs.Prelude.{◌≡◌, ℕ, ◌==◌, Bool, true, false, List, [], ◌∷◌, Option, Some, None, if◌then◌else◌}
-use Rattle.std.specs.Option.{is_some}
+use Rattle.std.specs.Prelude.{◌≡◌, ℕ, ◌==◌, Bool, true, false, List, [], ◌∷◌, Option, Some, if◌then◌else◌}
 use Rattle.io_rules.specs.declared.op.Op.{Op}
 use Rattle.io_rules.specs.declared.op.Phase.{Phase}
 use Rattle.io_rules.specs.declared.op.Phase.TheVariants as phase
 use Rattle.io_rules.specs.declared.request.Marks.{Marks}
-use Rattle.io_rules.specs.Executions.{after_begin}
 use Rattle.io_rules.specs.Ops.{op_at, with_phase}
 use Rattle.io_rules.specs.Room.{grant_of}
 use Rattle.io_rules.specs.State.{ContextState}
 use Rattle.io_handlers.specs.declared.completion.Completion.{Completion}
-use Rattle.io_history.specs.declared.view.Held.{Held}
 use Rattle.io_history.specs.Steps.{holding}
 use Rattle.io_scheduler.specs.Begun.{IsBegun, is_strand}
 use Rattle.io_scheduler.specs.Ended.{mark_of}

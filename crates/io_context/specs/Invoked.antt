@@ -1,5 +1,5 @@
 -- Invoking a handler.
-use Rattle.std.specs.Prelude.{◌≡◌, Bool, true, false, Option, Some, None}
+use Rattle.std.specs.Prelude.{◌≡◌, Option, Some, None}
 use Rattle.std.specs.Option.{is_some}
 use Rattle.io_rules.specs.declared.request.Marks.{Marks}
 use Rattle.io_handlers.specs.declared.completion.Completion.{Completion}

@@ -1,7 +1,7 @@
 -- What the checker keeps behind a line is what the definitions say of it.
 use Rattle.std.proofs.Common.{◌≡◌, ℕ, ◌<◌, List, [], ◌∷◌, length, refl, ap, subst, sym, ◌∙◌, inl, inr, ⊎_elim, arith}
 use Rattle.std.proofs.lemmas.Bool.{or_left, or_right, eqb-true, eq-eqb, ne_eqb, cases_Bool, cond_both, both_ways, false_from_ne_true}
-use Rattle.std.specs.Prelude.{Bool, true, false, ◌==◌, ◌||◌, ◌⊎◌, if◌then◌else◌, Option, Some, None, IsSome, nat_eq}
+use Rattle.std.specs.Prelude.{Bool, true, false, ◌==◌, ◌||◌, ◌⊎◌, if◌then◌else◌, Option, Some, None, IsSome, is_some, nat_eq}
 use Rattle.std.specs.List.{list_any}
 use Rattle.std.specs.Option.{option_eq, option_map, option_or}
 use Rattle.run_lines.specs.declared.code.Code.{Code}
@@ -10,6 +10,7 @@ use Rattle.run_lines.specs.declared.line.Doing.TheVariants as doing
 use Rattle.run_lines.specs.declared.line.Line.{Line}
 use Rattle.run_rules.specs.declared.frame.Frame.{Frame}
 use Rattle.run_rules.specs.declared.frame.Frame.TheVariants.{Execution}
+use Rattle.run_rules.specs.Against.{executing_after, is_executing}
 use Rattle.run_rules.specs.Stacks.{stack, stack_after, outer, frame, same_frame}
 use Rattle.run_rules.specs.Calls.{Calling, Completion, Waits, call_of, done_of, is_begun, is_dropped, is_posting, last_call_after, strand_of}
 use Rattle.run_rules.specs.Entries.{Entry, entry_by}
@@ -566,3 +567,21 @@ held-next past line legal may kept own holder chained goes held other strand =
     on-next plain past line strand (stack (line ∷ past) other) may
     (stack_called_before plain past line other may (stack_called plain past legal other))
     ∙ held_by_doing past legal kept line.thread other strand own holder line.does may chained goes held
+
+-- what is kept as an execution goes on
+pub executing-next : (outer own : Option ℕ) (does : Doing) (op : ℕ) (new old : Option Kept) (past : List Line)
+    → new ≡ execution_after outer own does op old → is_some old ≡ is_executing past op
+    → is_some new ≡ executing_after does op (is_executing past op)
+executing-next outer own does op new old past is before =
+    ap is_some is ∙ by_doing does ∙ ap (executing_after does op) before
+  where
+    chosen : (b : Bool) (one other : Option Kept) → is_some (if b then one else other) ≡ (if b then is_some one else is_some other)
+    chosen true one other = refl
+    chosen false one other = refl
+
+    by_doing : (d : Doing) → is_some (execution_after outer own d op old) ≡ executing_after d op (is_some old)
+    by_doing (doing.Begin number what size) =
+        chosen (number == op) (Some (record { outer = outer; strand = own })) old
+    by_doing (doing.End number) = chosen (number == op) None old
+    by_doing (doing.Throw number) = chosen (number == op) None old
+    by_doing _ = refl

@@ -9,3 +9,4 @@ pub mod EntryLemmas
 pub mod FollowLemmas
 pub mod QueuedLemmas
 pub mod StepLemmas
+pub mod LongestLemmas

@@ -485,18 +485,17 @@ entry_says_by true call completion place le = le
 entry_says_by false call None place le = le
 entry_says_by false call (Some c) place le = le
 
-pub before_says : (past : List Line) (op strand : ℕ) (waiter : Waiter) → Says past op waiter
-    → SomeGoesBefore past strand waiter.entry → (first : ℕ) × GoesBefore past first op strand
-before_says past op strand waiter says before =
-    let first : ℕ = before.0 in
-    let place : ℕ = before.1 in
-    let parts = spot_parts (is_spent past first) (strand_of past first) (placed_at past first) strand place before.2 in
+-- what stands in the queue of the strand since the entry of an operation or longer goes before that one
+pub spot_goes : (past : List Line) (op strand : ℕ) (waiter : Waiter) → Says past op waiter → (first place : ℕ)
+    → spot_of past first ≡ Some (strand, place) → IsSomeAnd waiter.entry (λ e. place ≤ e)
+    → GoesBefore past first op strand × (placed_at past first ≡ Some place)
+spot_goes past op strand waiter says first place spot upto =
+    let parts = spot_parts (is_spent past first) (strand_of past first) (placed_at past first) strand place spot in
     let unspent = or_parts (is_begun past first) (is_dropped past first) parts.0 in
     let entry : IsSomeAnd (entry_of past op) (λ (e : Entry). place ≤ e.place) =
     subst (λ (o : Option Calling). IsSomeAnd (entry_from o (done_of past op)) (λ (e : Entry). place ≤ e.place)) (sym says.called)
     (says_entry_by (is_posting says.call.word) says.call (done_of past op) place
-    (subst (λ (w : Waiter). IsSomeAnd w.entry (λ e. place ≤ e)) (sym says.is) before.3)) in (
-      first,
+    (subst (λ (w : Waiter). IsSomeAnd w.entry (λ e. place ≤ e)) (sym says.is) upto)) in (
       record {
         waits = record {
           called = strand_called (call_of past first) strand parts.1;
@@ -508,29 +507,43 @@ before_says past op strand waiter says before =
         placed = subst (λ (o : Option ℕ). IsSomeAnd o (λ p. IsSomeAnd (entry_of past op) (λ (e : Entry). p ≤ e.place)))
             (sym parts.2) entry;
       },
+      parts.2,
     )
+
+pub before_says : (past : List Line) (op strand : ℕ) (waiter : Waiter) → Says past op waiter
+    → SomeGoesBefore past strand waiter.entry → (first : ℕ) × GoesBefore past first op strand
+before_says past op strand waiter says before =
+    (before.0, (spot_goes past op strand waiter says before.0 before.1 before.2 before.3).0)
 
 placed_is : (o : Option ℕ) (entry : Option Entry) → IsSomeAnd o (λ place. IsSomeAnd entry (λ (e : Entry). place ≤ e.place))
     → (place : ℕ) × (o ≡ Some place) × IsSomeAnd entry (λ (e : Entry). place ≤ e.place)
 placed_is None entry is = absurd is
 placed_is (Some place) entry is = (place, refl, is)
 
-pub says_before : (past : List Line) (op strand first : ℕ) (waiter : Waiter) → Says past op waiter
-    → GoesBefore past first op strand → SomeGoesBefore past strand waiter.entry
-says_before past op strand first waiter says before =
-    let found = placed_is (placed_at past first) (entry_of past op) before.placed in
-    let place : ℕ = found.0 in
+pub goes_spot : (past : List Line) (op strand first place : ℕ) (waiter : Waiter) → Says past op waiter
+    → GoesBefore past first op strand → placed_at past first ≡ Some place
+    → (spot_of past first ≡ Some (strand, place)) × IsSomeAnd waiter.entry (λ e. place ≤ e)
+goes_spot past op strand first place waiter says before placed =
     let unspent : is_spent past first ≡ false = rw (before.waits.not_begun, before.waits.not_dropped) refl in
     let spot : spot_of past first ≡ Some (strand, place) =
     ap (λ (b : Bool). spot_from b (strand_of past first) (placed_at past first)) unspent
     ∙ ap (λ (o : Option ℕ). spot_from false o (placed_at past first)) before.same
-    ∙ ap (λ (o : Option ℕ). spot_from false (Some strand) o) found.1 in
+    ∙ ap (λ (o : Option ℕ). spot_from false (Some strand) o) placed in
+    let late : IsSomeAnd (entry_of past op) (λ (e : Entry). place ≤ e.place) =
+    subst (λ (o : Option ℕ). IsSomeAnd o (λ p. IsSomeAnd (entry_of past op) (λ (e : Entry). p ≤ e.place))) placed before.placed in
     let entry : IsSomeAnd (option_map (λ (e : Entry). e.place)
     (entry_by (is_posting says.call.word) says.call (done_of past op))) (λ e. place ≤ e) =
     entry_says_by (is_posting says.call.word) says.call (done_of past op) place
     (subst (λ (o : Option Calling). IsSomeAnd (entry_from o (done_of past op)) (λ (e : Entry). place ≤ e.place)) says.called
-    found.2) in
-    (first, place, spot, subst (λ (w : Waiter). IsSomeAnd w.entry (λ e. place ≤ e)) says.is entry)
+    late) in
+    (spot, subst (λ (w : Waiter). IsSomeAnd w.entry (λ e. place ≤ e)) says.is entry)
+
+pub says_before : (past : List Line) (op strand first : ℕ) (waiter : Waiter) → Says past op waiter
+    → GoesBefore past first op strand → SomeGoesBefore past strand waiter.entry
+says_before past op strand first waiter says before =
+    let found = placed_is (placed_at past first) (entry_of past op) before.placed in
+    let spot = goes_spot past op strand first found.0 waiter says before found.1 in
+    (first, found.0, spot.0, spot.1)
 
 pub if_spot : (past : List Line) (checker : Checker) → IsAfter past checker → (strand : ℕ) (first : Option (ℕ × ℕ))
     → IfSome first (λ f. spot_at checker.queues f.1 ≡ Some (strand, f.0))

@@ -26,7 +26,7 @@ use Rattle.run_check.specs.Takings.{AreCounted}
 use Rattle.run_check.specs.Waiting.{waiting_at}
 use Rattle.run_check.specs.declared.checker.Checker.{Checker}
 use Rattle.run_check.specs.declared.waiting.Waiter.{Waiter}
-use Rattle.run_check.proofs.FollowLemmas.{executions-next, held-next, innermost-next, last_calls-next, waiter_of-next}
+use Rattle.run_check.proofs.FollowLemmas.{executing-next, executions-next, held-next, innermost-next, last_calls-next, waiter_of-next}
 use Rattle.run_check.proofs.QueuedLemmas.{spot_of-next, unplaced_yet, unused_yet, waiter_strand}
 
 -- what a line gives back was taken, if it may come
@@ -104,6 +104,8 @@ followed_after past line who own entered old new after may follows who_is goes e
       executions = λ thread. executions-next past line after.legal may old.stacks new.stacks own goes
           (λ q. follows.executions q ∙ ap (λ (o : Option ℕ). execution_after o own line.does q (execution_of old.stacks q))
           (after.innermost line.thread)) thread (after.executions thread);
+      live = λ op. executing-next (innermost_of old.stacks line.thread) own line.does op (execution_of new.stacks op)
+          (execution_of old.stacks op) past (follows.executions op) (after.live op);
       held = λ thread strand. held-next past line after.legal may old.stacks own (holder_of old.strands)
           (after.executions line.thread) goes after.held thread strand
           ∙ ap (λ (o : Option ℕ). option_eq nat_eq o (Some thread)) (sym (follows.held strand));

@@ -1,5 +1,5 @@
 -- What a checker keeps behind a list of lines, of which the newest stands first.
-use Rattle.std.specs.Prelude.{◌≡◌, ℕ, List, [], ◌∷◌, Bool, true, false, ◌||◌, if◌then◌else◌, length, Option, Some, None, Result, MatchResult, nat_eq}
+use Rattle.std.specs.Prelude.{◌≡◌, ℕ, List, [], ◌∷◌, Bool, true, false, ◌||◌, if◌then◌else◌, length, Option, Some, None, Result, MatchResult, is_some, nat_eq}
 use Rattle.std.specs.List.{list_any}
 use Rattle.std.specs.Option.{option_eq, option_map, option_or}
 use Rattle.run_lines.specs.declared.line.Doing.{Doing}
@@ -11,6 +11,7 @@ use Rattle.run_rules.specs.declared.level.Level.{Level}
 use Rattle.run_rules.specs.declared.rule.Rule.{Rule}
 use Rattle.run_rules.specs.Stacks.{stack}
 use Rattle.run_rules.specs.Calls.{Calling, Completion, call_of, done_of, is_begun, is_dropped, is_posting, strand_of}
+use Rattle.run_rules.specs.Against.{is_executing}
 use Rattle.run_rules.specs.Entries.{Entry, entry_by, placed_at}
 use Rattle.run_rules.specs.Takings.{taken}
 use Rattle.run_rules.specs.Starting.{is_on}
@@ -104,6 +105,7 @@ pub record IsAfter (past : List Line) (checker : Checker) : Type 0 where
   pub entered : (thread : ℕ) → entered_of checker.entered thread ≡ entered_last past thread
   pub innermost : (thread : ℕ) → innermost_of checker.stacks thread ≡ first_of (stack past thread)
   pub executions : (thread : ℕ) → AreChained past checker.stacks (stack past thread)
+  pub live : (op : ℕ) → is_some (execution_of checker.stacks op) ≡ is_executing past op
   pub held : (thread strand : ℕ) → list_any (is_on past strand) (stack past thread) ≡ option_eq nat_eq (holder_of checker.strands strand) (Some thread)
   pub waiting : (op : ℕ) → waiting_at checker.waiting op ≡ waiter_of past op
   pub ordered : AreInOrder checker.queues

@@ -1,5 +1,6 @@
 -- What the checker answers, by what it keeps.
 use Rattle.std.specs.Prelude.{ℕ, Bool, true, false, ◌==◌, ◌&&◌, nat_lt, nat_le, if◌then◌else◌, Option, Some, None, Result, Ok, Err}
+use Rattle.std.specs.Option.{option_map}
 use Rattle.run_rules.specs.declared.rule.Rule.{Rule}
 use Rattle.run_rules.specs.declared.rule.Rule.TheVariants as rule
 use Rattle.run_check.specs.declared.waiting.CallKind.{CallKind}
@@ -47,6 +48,10 @@ abbrev pub is_upto : Option (ℕ × ℕ) → Option ℕ → Bool
 is_upto None entry = false
 is_upto (Some first) None = false
 is_upto (Some first) (Some entry) = nat_le first.0 entry
+
+-- the place since which it does, if so
+abbrev pub place_upto : Option (ℕ × ℕ) → Option ℕ → Option ℕ
+place_upto first entry = if is_upto first entry then option_map (λ (f : ℕ × ℕ). f.0) first else None
 
 -- the strand that a begin lets in: its own, if this thread doesn't hold it
 abbrev pub let_in_by : Option ℕ → Option ℕ → ℕ → Option ℕ

@@ -1,4 +1,4 @@
-ghost use Rattle.std.specs.Prelude.{◌≡◌, ◌↔◌, ℕ, [], ◌∷◌, false, length, IfOk, IfSome, List, Option, Some, IsTrue, MatchResult};
+ghost use Rattle.std.specs.Prelude.{◌≡◌, ◌↔◌, ℕ, [], ◌∷◌, false, length, IfOk, List, Option, Some, IsTrue, MatchResult};
 ghost use Rattle.run_lines.specs.declared.line.Line.{Line};
 ghost use Rattle.run_lines.specs.declared.line.Doing.{Doing};
 ghost use Rattle.run_lines.specs.declared.word.Word.{Word};
@@ -13,7 +13,7 @@ ghost use Rattle.run_rules.specs.declared.frame.Frame.{Frame};
 use crate::entered::Entered;
 use crate::judging::{
     asked, is_above, is_number, is_upto, judge_completion, judge_end, judge_start, let_in_by,
-    may_have_outcome,
+    may_have_outcome, place_upto,
 };
 use crate::last_calls::LastCalls;
 use crate::marks::Marks;
@@ -65,14 +65,15 @@ fn is_execution(who: Frame, op: u64) -> bool
 }
 
 impl Checker {
-    ghost use Rattle.run_check.specs.After.{IsAfter, JudgesDoing, called_last, is_spent, let_in, plain, spot_of, waiter_of};
+    ghost use Rattle.run_check.specs.After.{IsAfter, JudgesDoing, called_last, is_spent, let_in, plain, waiter_of};
+    ghost use Rattle.run_rules.specs.Against.{StandsLongest, is_executing};
     ghost use Rattle.run_check.specs.Steps.{GoesWith, Steps};
     ghost use Rattle.run_check.specs.Entered.{entered_last, entered_of};
     ghost use Rattle.run_check.specs.Following.{to_place};
     ghost use Rattle.run_check.specs.Waiting.{waiting_at};
     ghost use Rattle.run_rules.specs.Stacks.{frame, stack};
     ghost use Rattle.run_rules.specs.Starting.{Holds};
-    ghost use Rattle.run_rules.specs.Takings.{taken};
+    ghost use Rattle.run_rules.specs.Takings.{has_taken, is_taken_by, taken};
     ghost use Rattle.run_rules.specs.MayCome.{last_call};
     ghost use Rattle.run_rules.specs.Calls.{Waits, strand_of};
     ghost use Rattle.run_check.specs.Beginning.{BeginsInside, MayHaveOutcome, SomeGoesBefore};
@@ -145,12 +146,57 @@ impl Checker {
         self.strands.holder(strand)
     }
 
-    /// The operation that stands longest in the queue of a strand, behind the place since which it
-    /// is known to stand there.
-    pub fn first(&self, strand: u64) -> Option<(u64, u64)>
-        ensures { (past : List Line) → IsAfter past self.now → IfSome result (λ first. spot_of past first.1 ≡ Some (strand, first.0)) }
+    /// Since which place that operation is known to stand in the queue that has to begin before this
+    /// one, which waits, and that stands there longest.
+    pub fn longest(&self, op: u64) -> Option<u64>
+        ensures { (past : List Line) → IsAfter past self.now → Waits past op → (place : ℕ) → (result ≡ Some place) ↔ StandsLongest past op place }
     {
-        self.queues.first(strand)
+        match self.waiting.get(op) {
+            Some(waiter) => self.longest_before(&waiter),
+            None => None,
+        }
+    }
+
+    fn longest_before(&self, waiter: &Waiter) -> Option<u64>
+        ensures { (past : List Line) → IsAfter past self.now → (op : ℕ) → waiter_of past op ≡ Some waiter.now
+            → (place : ℕ) → (result ≡ Some place) ↔ StandsLongest past op place }
+    {
+        match waiter.strand {
+            Some(strand) => place_upto(self.queues.first(strand), waiter.entry),
+            None => None,
+        }
+    }
+
+    /// The strand of an operation that waits.
+    pub fn strand(&self, op: u64) -> Option<u64>
+        ensures { (past : List Line) → IsAfter past self.now → Waits past op → result ≡ strand_of past op }
+    {
+        self.waiting.strand(op)
+    }
+
+    /// Whether the handler of an operation has begun, and hasn't ended.
+    pub fn is_executing(&self, op: u64) -> bool
+        ensures { (past : List Line) → IsAfter past self.now → result ≡ is_executing past op }
+    {
+        self.stacks.has(op)
+    }
+
+    /// Whether a thread has taken this.
+    pub fn has_taken(&self, thread: u64, resource: Resource) -> bool
+        ensures { (past : List Line) → IsAfter past self.now → result ≡ has_taken past thread resource }
+    {
+        self.takings.has_by(thread, resource)
+    }
+
+    /// Whether a frame of a thread has taken this.
+    pub fn is_taken_by(&self, thread: u64, frame: Frame, resource: Resource) -> bool
+        ensures { (past : List Line) → IsAfter past self.now → result ≡ is_taken_by past thread frame resource }
+    {
+        self.takings.has(Taking {
+            thread,
+            frame,
+            resource,
+        })
     }
 
     /// How many operations wait.

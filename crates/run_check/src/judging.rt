@@ -1,6 +1,6 @@
 ghost use Rattle.std.specs.Prelude.{◌≡◌, ◌↔◌, IsTrue};
 ghost use Rattle.run_check.specs.Beginning.{MayHaveOutcome};
-ghost use Rattle.run_check.specs.Judging.{asked, is_above, is_number, completion_judged, start_judged, end_judged, is_upto, let_in_by};
+ghost use Rattle.run_check.specs.Judging.{asked, is_above, is_number, completion_judged, start_judged, end_judged, is_upto, let_in_by, place_upto};
 
 use crate::waiting::{CallKind, Waiter};
 use run_lines::Code;
@@ -109,6 +109,20 @@ pub(crate) fn is_upto(first: Option<(u64, u64)>, entry: Option<u64>) -> bool
             None => false,
         },
         None => false,
+    }
+}
+
+/// The place since which the first of a queue stands there, if that is this entry or before.
+pub(crate) fn place_upto(first: Option<(u64, u64)>, entry: Option<u64>) -> Option<u64>
+    ensures { result ≡ place_upto first entry }
+{
+    if is_upto(first, entry) {
+        match first {
+            Some((place, _)) => Some(place),
+            None => None,
+        }
+    } else {
+        None
     }
 }
 

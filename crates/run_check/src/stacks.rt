@@ -1,4 +1,4 @@
-ghost use Rattle.std.specs.Prelude.{◌≡◌, ◌==◌, ◌↔◌, if◌then◌else◌, IfOk, ℕ, Some, None};
+ghost use Rattle.std.specs.Prelude.{◌≡◌, ◌==◌, ◌↔◌, if◌then◌else◌, IfOk, ℕ, Some, None, is_some};
 ghost use Rattle.run_check.specs.Stacks.{innermost_of, execution_of, frame_at, outer_of, strand_let_in};
 ghost use Rattle.run_check.specs.Following.{innermost_after, execution_after};
 
@@ -38,6 +38,13 @@ impl Stacks {
         ensures { result ≡ innermost_of self.now thread }
     {
         self.innermost.get(&thread).copied()
+    }
+
+    /// Whether the handler of this operation is executed.
+    pub(crate) fn has(&self, op: u64) -> bool
+        ensures { result ≡ is_some (execution_of self.now op) }
+    {
+        self.executions.contains_key(&op)
     }
 
     /// On how many threads something executes.

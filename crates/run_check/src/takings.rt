@@ -5,7 +5,8 @@ ghost use Rattle.run_rules.specs.declared.taking.Resource.{Resource};
 ghost use Rattle.run_rules.specs.declared.taking.Taking.{Taking};
 ghost use Rattle.run_rules.specs.Takings.{taken_after, without};
 ghost use Rattle.run_check.specs.Following.{GivesWhatIsTaken};
-ghost use Rattle.run_check.specs.Takings.{AreCounted, is_in, has_frame, IsAlone};
+ghost use Rattle.std.specs.List.{list_any};
+ghost use Rattle.run_check.specs.Takings.{AreCounted, is_in, is_of, has_frame, IsAlone};
 
 use crate::counts::Counts;
 use crate::refusal::NoRoom;
@@ -66,6 +67,13 @@ impl Takings {
         ensures { (all : List Taking) → AreCounted all self.now → result ≡ has_frame who all }
     {
         0 < self.by_frame.get(who)
+    }
+
+    /// Whether a thread has taken this.
+    pub(crate) fn has_by(&self, thread: u64, resource: Resource) -> bool
+        ensures { (all : List Taking) → AreCounted all self.now → result ≡ list_any (is_of thread resource) all }
+    {
+        0 < self.by_thread.get(Claimant { thread, resource })
     }
 
     /// Whether no other thread has taken this.

@@ -29,8 +29,8 @@ impl Status {
             | Ending::NoHeader
             | Ending::NoLineFeed { .. }
             | Ending::TooLong { .. } => Status::Bad,
-            Ending::ReadFault => Status::ReadFault,
-            Ending::NoRoom => Status::NoMemory,
+            Ending::ReadFault { .. } => Status::ReadFault,
+            Ending::NoRoom { .. } => Status::NoMemory,
         }
     }
 

@@ -1,6 +1,9 @@
 -- The lines of a text, one after another.
-use Rattle.std.specs.Prelude.{◌≡◌, ℕ, ◌<◌, List, [], ◌∷◌, ◌++◌, length, Option, Some, None}
+use Rattle.std.specs.Prelude.{◌≡◌, ℕ, ◌<◌, Bool, List, [], ◌∷◌, ◌++◌, length, Option, Some, None, Result, Ok, Err}
+use Rattle.asio_types.specs.Faults.{Rose}
 use Rattle.run_reader.specs.Buffer.{HasNoLineFeed, most_held}
+use Rattle.run_reader.specs.declared.fault.ReadFault.{ReadFault}
+use Rattle.run_reader.specs.declared.fault.ReadFault.TheVariants as fault
 
 -- the line that is read, and what is held behind its line feed
 pub record Reading : Type 0 where
@@ -24,9 +27,20 @@ abbrev pub HasNoLastLineFeed : List ℕ → Option (List ℕ) → Type 0
 HasNoLastLineFeed held None = Unit {0}
 HasNoLastLineFeed held (Some left) = (0 < length (held ++ left)) × HasNoLineFeed (held ++ left)
 
--- the next bytes, as many as are held at most, have no line feed
+-- the first bytes of a text, as many as are held at most, have no line feed
+abbrev pub IsTooLong : List ℕ → Type 0
+IsTooLong text =
+    (front : List ℕ) × (back : List ℕ) × (text ≡ front ++ back) × (length front ≡ most_held)
+    × HasNoLineFeed front
+
+-- the line that is held and left is too long
 abbrev pub BeginsTooLong : List ℕ → Option (List ℕ) → Type 0
 BeginsTooLong held None = Unit {0}
-BeginsTooLong held (Some left) =
-    (front : List ℕ) × (back : List ℕ) × (held ++ left ≡ front ++ back) × (length front ≡ most_held)
-    × HasNoLineFeed front
+BeginsTooLong held (Some left) = IsTooLong (held ++ left)
+
+-- a failure of the source raises its count of faults, and every other answer leaves it
+abbrev pub CountsReading : Result Bool ReadFault → ℕ → ℕ → Type 0
+CountsReading (Err fault.Failed) old new = Rose old new
+CountsReading (Err fault.NoLineFeed) old new = new ≡ old
+CountsReading (Err fault.TooLong) old new = new ≡ old
+CountsReading (Ok more) old new = new ≡ old

@@ -1,7 +1,6 @@
 ghost use Rattle.std.specs.Prelude.{◌≡◌, [], Ok, Err, true, false, IfOk};
-ghost use Rattle.asio_types.specs.Faults.{Rose};
 ghost use Rattle.run_reader.specs.Buffer.{HasNoLineFeed, KeepsText};
-ghost use Rattle.run_reader.specs.Reader.{BeginsTooLong, HasNoLastLineFeed, IsWhollyRead, TakesLine};
+ghost use Rattle.run_reader.specs.Reader.{BeginsTooLong, CountsReading, HasNoLastLineFeed, IsWhollyRead, TakesLine};
 
 use crate::buffer::{Buffer, Sought};
 use crate::fault::ReadFault;
@@ -60,7 +59,7 @@ impl LineReader {
             HasNoLastLineFeed self.old.held (S.left source.old) }
         ensures too_long { result ≡ Err ReadFault.TooLong →
             BeginsTooLong self.old.held (S.left source.old) }
-        ensures failed { result ≡ Err ReadFault.Failed → Rose (S.faults source.old) (S.faults source.new) }
+        ensures counts { CountsReading result (S.faults source.old) (S.faults source.new) }
         ensures kept { result ≡ Err ReadFault.Failed →
             KeepsText self.old.held (S.left source.old) self.new.held (S.left source.new) }
     {

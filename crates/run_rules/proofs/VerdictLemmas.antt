@@ -1,8 +1,10 @@
 -- A run has one verdict.
-use Rattle.std.proofs.Common.{◌≡◌, ℕ, List, [], ◌∷◌, sym, ◌∙◌, ⊎_elim}
+use Rattle.std.proofs.Common.{◌≡◌, ℕ, List, [], ◌∷◌, Option, refl, ap, sym, ◌∙◌, ⊎_elim}
+use Rattle.run_lines.specs.declared.code.Code.{Code}
 use Rattle.run_lines.specs.declared.line.Doing.{Doing}
 use Rattle.run_lines.specs.declared.line.Doing.TheVariants as doing
 use Rattle.run_lines.specs.declared.line.Line.{Line}
+use Rattle.run_lines.specs.declared.word.Word.{Word}
 use Rattle.run_rules.specs.declared.level.Level.{Level}
 use Rattle.run_rules.specs.declared.rule.Rule.{Rule}
 use Rattle.run_rules.specs.declared.rule.Rule.TheVariants as rule
@@ -11,7 +13,7 @@ use Rattle.run_rules.specs.declared.verdict.Verdict.TheVariants as verdict
 use Rattle.run_rules.specs.Breaks.{BreaksByDoing}
 use Rattle.run_rules.specs.MayCome.{MayDo}
 use Rattle.run_rules.specs.Legal.{IsLegalSoFar}
-use Rattle.run_rules.specs.Verdicts.{IsIllegalAt, IsVerdict, AgreeOnPlace}
+use Rattle.run_rules.specs.Verdicts.{IsIllegalAt, IsVerdict}
 
 -- a line that breaks a rule may not come
 pub broken_not : (level : Level) (past : List Line) (thread : ℕ) (does : Doing) (rule : Rule) → BreaksByDoing level past thread does rule → MayDo level past thread does → ⊥
@@ -43,21 +45,158 @@ illegal_not level [] place rule illegal legal = absurd illegal
 illegal_not level (line ∷ past) place rule illegal legal =
     ⊎_elim (λ earlier. illegal_not level past place rule earlier legal.0) (λ here. broken_not level past line.thread line.does rule here.1 legal.1) illegal
 
--- the first line that may not come is one
-pub one_place : (level : Level) (past : List Line) (one other : ℕ) (broken named : Rule) → IsIllegalAt level past one broken → IsIllegalAt level past other named → one ≡ other
+-- of the rules of one line the first that it doesn't keep is one
+
+one_of_call : (level : Level) (past : List Line) (thread op context : ℕ) (word : Word) (strand thing : Option ℕ) (one other : Rule)
+    → BreaksByDoing level past thread (doing.Call op word context strand thing) one
+    → BreaksByDoing level past thread (doing.Call op word context strand thing) other → one ≡ other
+one_of_call level past thread op context word strand thing rule.New rule.New a b = refl
+one_of_call level past thread op context word strand thing rule.New rule.Single a b = absurd (a b.0)
+one_of_call level past thread op context word strand thing rule.Single rule.New a b = absurd (b a.0)
+one_of_call level past thread op context word strand thing rule.Single rule.Single a b = refl
+one_of_call level past thread op context word strand thing rule.New _ a b = absurd b
+one_of_call level past thread op context word strand thing rule.Single _ a b = absurd b
+one_of_call level past thread op context word strand thing _ _ a b = absurd a
+
+one_of_done : (level : Level) (past : List Line) (thread op : ℕ) (code : Code) (size : ℕ) (one other : Rule)
+    → BreaksByDoing level past thread (doing.Done op code size) one → BreaksByDoing level past thread (doing.Done op code size) other
+    → one ≡ other
+one_of_done level past thread op code size rule.Waiting rule.Waiting a b = refl
+one_of_done level past thread op code size rule.Waiting rule.Asynchronous a b = absurd (a b.0)
+one_of_done level past thread op code size rule.Waiting rule.DoneOnce a b = absurd (a b.0)
+one_of_done level past thread op code size rule.Asynchronous rule.Waiting a b = absurd (b a.0)
+one_of_done level past thread op code size rule.Asynchronous rule.Asynchronous a b = refl
+one_of_done level past thread op code size rule.Asynchronous rule.DoneOnce a b = absurd (b.1 a.1)
+one_of_done level past thread op code size rule.DoneOnce rule.Waiting a b = absurd (b a.0)
+one_of_done level past thread op code size rule.DoneOnce rule.Asynchronous a b = absurd (a.1 b.1)
+one_of_done level past thread op code size rule.DoneOnce rule.DoneOnce a b = refl
+one_of_done level past thread op code size rule.Waiting _ a b = absurd b
+one_of_done level past thread op code size rule.Asynchronous _ a b = absurd b
+one_of_done level past thread op code size rule.DoneOnce _ a b = absurd b
+one_of_done level past thread op code size _ _ a b = absurd a
+
+one_of_begin : (level : Level) (past : List Line) (thread op : ℕ) (code : Code) (size : ℕ) (one other : Rule)
+    → BreaksByDoing level past thread (doing.Begin op code size) one → BreaksByDoing level past thread (doing.Begin op code size) other
+    → one ≡ other
+one_of_begin level past thread op code size rule.Waiting rule.Waiting a b = refl
+one_of_begin level past thread op code size rule.Waiting rule.Outcome a b = absurd (a b.0)
+one_of_begin level past thread op code size rule.Waiting rule.Free a b = absurd (a b.0)
+one_of_begin level past thread op code size rule.Waiting rule.First a b = absurd (a b.0)
+one_of_begin level past thread op code size rule.Outcome rule.Waiting a b = absurd (b a.0)
+one_of_begin level past thread op code size rule.Outcome rule.Outcome a b = refl
+one_of_begin level past thread op code size rule.Outcome rule.Free a b = absurd (a.1 b.1)
+one_of_begin level past thread op code size rule.Outcome rule.First a b = absurd (a.1 b.1)
+one_of_begin level past thread op code size rule.Free rule.Waiting a b = absurd (b a.0)
+one_of_begin level past thread op code size rule.Free rule.Outcome a b = absurd (b.1 a.1)
+one_of_begin level past thread op code size rule.Free rule.Free a b = refl
+one_of_begin level past thread op code size rule.Free rule.First a b = absurd (a.2 b.2)
+one_of_begin level past thread op code size rule.First rule.Waiting a b = absurd (b a.0)
+one_of_begin level past thread op code size rule.First rule.Outcome a b = absurd (b.1 a.1)
+one_of_begin level past thread op code size rule.First rule.Free a b = absurd (b.2 a.2)
+one_of_begin level past thread op code size rule.First rule.First a b = refl
+one_of_begin level past thread op code size rule.Waiting _ a b = absurd b
+one_of_begin level past thread op code size rule.Outcome _ a b = absurd b
+one_of_begin level past thread op code size rule.Free _ a b = absurd b
+one_of_begin level past thread op code size rule.First _ a b = absurd b
+one_of_begin level past thread op code size _ _ a b = absurd a
+
+one_of_end : (level : Level) (past : List Line) (thread op : ℕ) (one other : Rule)
+    → BreaksByDoing level past thread (doing.End op) one → BreaksByDoing level past thread (doing.End op) other → one ≡ other
+one_of_end level past thread op rule.Innermost rule.Innermost a b = refl
+one_of_end level past thread op rule.Innermost rule.Clean a b = absurd (a b.0)
+one_of_end level past thread op rule.Clean rule.Innermost a b = absurd (b a.0)
+one_of_end level past thread op rule.Clean rule.Clean a b = refl
+one_of_end level past thread op rule.Innermost _ a b = absurd b
+one_of_end level past thread op rule.Clean _ a b = absurd b
+one_of_end level past thread op _ _ a b = absurd a
+
+-- an exception ends a handler by the same rules
+thrown : (level : Level) (past : List Line) (thread op : ℕ) (broken : Rule) → BreaksByDoing level past thread (doing.Throw op) broken
+    → BreaksByDoing level past thread (doing.End op) broken
+thrown level past thread op rule.Innermost breaks = breaks
+thrown level past thread op rule.Clean breaks = breaks
+thrown level past thread op _ breaks = absurd breaks
+
+-- lines with one rule, or none
+one_of_return : (level : Level) (past : List Line) (thread op : ℕ) (broken : Rule)
+    → BreaksByDoing level past thread (doing.Back op) broken → broken ≡ rule.Returns
+one_of_return level past thread op rule.Returns breaks = refl
+one_of_return level past thread op _ breaks = absurd breaks
+
+one_of_drop : (level : Level) (past : List Line) (thread op : ℕ) (broken : Rule)
+    → BreaksByDoing level past thread (doing.Drop op) broken → broken ≡ rule.Waiting
+one_of_drop level past thread op rule.Waiting breaks = refl
+one_of_drop level past thread op _ breaks = absurd breaks
+
+one_of_claim : (level : Level) (past : List Line) (thread thing : ℕ) (broken : Rule)
+    → BreaksByDoing level past thread (doing.Claim thing) broken → broken ≡ rule.Untouched
+one_of_claim level past thread thing rule.Untouched breaks = refl
+one_of_claim level past thread thing _ breaks = absurd breaks
+
+one_of_release : (level : Level) (past : List Line) (thread thing : ℕ) (broken : Rule)
+    → BreaksByDoing level past thread (doing.Release thing) broken → broken ≡ rule.Claimed
+one_of_release level past thread thing rule.Claimed breaks = refl
+one_of_release level past thread thing _ breaks = absurd breaks
+
+one_of_lock : (level : Level) (past : List Line) (thread lock : ℕ) (broken : Rule)
+    → BreaksByDoing level past thread (doing.Lock lock) broken → broken ≡ rule.Unlocked
+one_of_lock level past thread lock rule.Unlocked breaks = refl
+one_of_lock level past thread lock _ breaks = absurd breaks
+
+one_of_unlock : (level : Level) (past : List Line) (thread lock : ℕ) (broken : Rule)
+    → BreaksByDoing level past thread (doing.Unlock lock) broken → broken ≡ rule.Locked
+one_of_unlock level past thread lock rule.Locked breaks = refl
+one_of_unlock level past thread lock _ breaks = absurd breaks
+
+one_of_after : (level : Level) (past : List Line) (thread mark : ℕ) (broken : Rule)
+    → BreaksByDoing level past thread (doing.After mark) broken → broken ≡ rule.Marked
+one_of_after level past thread mark rule.Marked breaks = refl
+one_of_after level past thread mark _ breaks = absurd breaks
+
+one_rule : (level : Level) (past : List Line) (thread : ℕ) (does : Doing) (one other : Rule)
+    → BreaksByDoing level past thread does one → BreaksByDoing level past thread does other → one ≡ other
+one_rule level past thread (doing.Call op word context strand thing) one other a b =
+    one_of_call level past thread op context word strand thing one other a b
+one_rule level past thread (doing.Done op code size) one other a b = one_of_done level past thread op code size one other a b
+one_rule level past thread (doing.Begin op code size) one other a b = one_of_begin level past thread op code size one other a b
+one_rule level past thread (doing.End op) one other a b = one_of_end level past thread op one other a b
+one_rule level past thread (doing.Throw op) one other a b =
+    one_of_end level past thread op one other (thrown level past thread op one a) (thrown level past thread op other b)
+one_rule level past thread (doing.Back op) one other a b =
+    one_of_return level past thread op one a ∙ sym (one_of_return level past thread op other b)
+one_rule level past thread (doing.Drop op) one other a b =
+    one_of_drop level past thread op one a ∙ sym (one_of_drop level past thread op other b)
+one_rule level past thread (doing.Claim thing) one other a b =
+    one_of_claim level past thread thing one a ∙ sym (one_of_claim level past thread thing other b)
+one_rule level past thread (doing.Release thing) one other a b =
+    one_of_release level past thread thing one a ∙ sym (one_of_release level past thread thing other b)
+one_rule level past thread (doing.Lock lock) one other a b =
+    one_of_lock level past thread lock one a ∙ sym (one_of_lock level past thread lock other b)
+one_rule level past thread (doing.Unlock lock) one other a b =
+    one_of_unlock level past thread lock one a ∙ sym (one_of_unlock level past thread lock other b)
+one_rule level past thread (doing.After mark) one other a b =
+    one_of_after level past thread mark one a ∙ sym (one_of_after level past thread mark other b)
+one_rule level past thread _ one other a b = absurd a
+
+-- the first line that may not come is one, and so is the rule
+pub one_place : (level : Level) (past : List Line) (one other : ℕ) (broken named : Rule) → IsIllegalAt level past one broken
+    → IsIllegalAt level past other named → (one ≡ other) × (broken ≡ named)
 one_place level [] one other broken named first second = absurd first
 one_place level (line ∷ past) one other broken named first second =
     ⊎_elim
     (λ earlier. ⊎_elim (λ too. one_place level past one other broken named earlier too) (λ here. absurd (illegal_not level past one broken earlier here.0)) second)
-    (λ here. ⊎_elim (λ earlier. absurd (illegal_not level past other named earlier here.0)) (λ too. here.2 ∙ sym too.2) second) first
+    (λ here. ⊎_elim (λ earlier. absurd (illegal_not level past other named earlier here.0))
+    (λ too. (here.2 ∙ sym too.2, one_rule level past line.thread line.does broken named here.1 too.1)) second) first
 
-pub one_verdict : (level : Level) (past : List Line) (one other : Verdict) → IsVerdict level past one → IsVerdict level past other → AgreeOnPlace one other
-one_verdict level past verdict.Legal verdict.Legal first second = tt
+pub one_verdict : (level : Level) (past : List Line) (one other : Verdict) → IsVerdict level past one → IsVerdict level past other → one ≡ other
+one_verdict level past verdict.Legal verdict.Legal first second = refl
 one_verdict level past verdict.Legal verdict.LegalSoFar first second = absurd (second.1 first.1)
 one_verdict level past verdict.Legal (verdict.Illegal place rule) first second = absurd (illegal_not level past place rule second first.0)
 one_verdict level past verdict.LegalSoFar verdict.Legal first second = absurd (first.1 second.1)
-one_verdict level past verdict.LegalSoFar verdict.LegalSoFar first second = tt
+one_verdict level past verdict.LegalSoFar verdict.LegalSoFar first second = refl
 one_verdict level past verdict.LegalSoFar (verdict.Illegal place rule) first second = absurd (illegal_not level past place rule second first.0)
 one_verdict level past (verdict.Illegal place rule) verdict.Legal first second = absurd (illegal_not level past place rule first second.0)
 one_verdict level past (verdict.Illegal place rule) verdict.LegalSoFar first second = absurd (illegal_not level past place rule first second.0)
-one_verdict level past (verdict.Illegal place rule) (verdict.Illegal other named) first second = one_place level past place other rule named first second
+one_verdict level past (verdict.Illegal place rule) (verdict.Illegal other named) first second =
+    let same = one_place level past place other rule named first second in
+    ap (λ (n : ℕ). verdict.Illegal n rule) same.0 ∙ ap (λ (r : Rule). verdict.Illegal other r) same.1

@@ -7,4 +7,5 @@ pub mod MayCome
 pub mod Breaks
 pub mod Legal
 pub mod Verdicts
+pub mod Against
 pub mod Laws

@@ -19,12 +19,5 @@ IsVerdict level past verdict.Legal = IsLegalSoFar level past × IsWhole past
 IsVerdict level past verdict.LegalSoFar = IsLegalSoFar level past × ¬ (IsWhole past)
 IsVerdict level past (verdict.Illegal place rule) = IsIllegalAt level past place rule
 
--- two verdicts say the same, whichever rule they name
-abbrev pub AgreeOnPlace : Verdict → Verdict → Type 0
-AgreeOnPlace verdict.Legal verdict.Legal = Unit {0}
-AgreeOnPlace verdict.LegalSoFar verdict.LegalSoFar = Unit {0}
-AgreeOnPlace (verdict.Illegal place rule) (verdict.Illegal other named) = place ≡ other
-AgreeOnPlace _ _ = ⊥
-
 abbrev pub HasOneVerdict : Level → List Line → Type 0
-HasOneVerdict level past = (one other : Verdict) → IsVerdict level past one → IsVerdict level past other → AgreeOnPlace one other
+HasOneVerdict level past = (one other : Verdict) → IsVerdict level past one → IsVerdict level past other → one ≡ other

@@ -33,7 +33,7 @@ pub fn strands_keep_the_order_of_calls()
     ensures { (level : Level) (past : List Line) → KeepTheOrderOfCalls level past }
 {}
 
-/// A run has one verdict, up to the name of the rule that its first illegal line breaks.
+/// A run has one verdict: its first illegal line is one, and so is the rule that is named.
 pub fn verdicts_are_unique()
     ensures { (level : Level) (past : List Line) → HasOneVerdict level past }
 {}

@@ -1,7 +1,8 @@
 //! Runs, and what is said of them. What is expected was worked out by hand from the rules.
 
 use asio_types::{SureSink, SureSource};
-use run_lines::{Code, Doing, Word};
+use run_lines::{BadLine, Code, Doing, Line, Word};
+use run_reader::LineReader;
 use run_rules::{Level, Rule};
 use run_verdict::{Against, Ending, Judge, find_against, judge_run, take_run, write_ending};
 use std::alloc::Global;
@@ -13,7 +14,7 @@ const STREAMS: Level = Level { streams: true };
 
 /// Lines behind the header that may come, the next line, the rule that it breaks, and the number of
 /// the line that stands against it: 0 where none does.
-const BROKEN: [(&str, &str, Rule, u64); 24] = [
+const BROKEN: [(&str, &str, Rule, u64); 27] = [
     ("0 call 1 post 0 - -", "0 call 1 post 0 - -", Rule::New, 2),
     (
         "0 call 0 read 0 - 9",
@@ -128,6 +129,24 @@ const BROKEN: [(&str, &str, Rule, u64); 24] = [
         Rule::Free,
         6,
     ),
+    (
+        "name strand 0 room / name thing 1 members / 0 call 0 post 0 0 - / 0 call 1 post 0 0 - / 1 begin 0 ok 0 / 1 claim 1 / 1 call 2 wait 0 - 9 / 1 release 1 / 1 end 0 / 2 begin 1 ok 0 / 2 claim 1 / 2 cancel 9 / 1 begin 2 aborted 0 / 1 lock 3",
+        "1 claim 1",
+        Rule::Untouched,
+        12,
+    ),
+    (
+        "0 call 0 post 0 - - / 1 begin 0 ok 0 / 1 end 0",
+        "1 end 0",
+        Rule::Innermost,
+        4,
+    ),
+    (
+        "0 call 0 dispatch 0 5 - / 1 begin 0 ok 0 / 1 call 1 dispatch 0 5 - / 1 begin 1 ok 0 / 0 call 2 post 0 5 -",
+        "2 begin 2 ok 0",
+        Rule::Free,
+        5,
+    ),
 ];
 
 /// Runs behind the header, and what is said of them.
@@ -214,16 +233,19 @@ fn found_by(
     judge: &mut Judge,
     source: &mut SureSource,
     again: &mut SureSource,
-) -> (Option<Rule>, u64) {
+) -> Result<(Option<Rule>, u64), Fail> {
     // the borrow checker's plan has to be told of the types within
     let _word: Option<Word> = None;
     let _code: Option<Code> = None;
     let _does: Option<Doing> = None;
-    let ending = take_run(alloc, judge, source);
+    let mut reader = LineReader::make(alloc)?;
+    let mut reader_again = LineReader::make(alloc)?;
+    let ending = take_run(&mut reader, judge, source);
     let rule = rule_of(&ending);
-    match find_against(alloc, STREAMS, judge, &ending, again) {
-        Ok(against) => (rule, number_of(&against)),
-        Err(_) => (None, 0),
+    let mut judge_again = Judge::new(alloc, STREAMS);
+    match find_against(&mut reader_again, judge, &mut judge_again, &ending, again) {
+        Ok(against) => Ok((rule, number_of(&against))),
+        Err(_) => Ok((None, 0)),
     }
 }
 
@@ -232,7 +254,7 @@ fn broken_by(alloc: Global, run: &[u8]) -> Result<(Option<Rule>, u64), Fail> {
     let mut source = SureSource::make(alloc, run)?;
     let mut again = SureSource::make(alloc, run)?;
     let mut judge = Judge::new(alloc, STREAMS);
-    Ok(found_by(alloc, &mut judge, &mut source, &mut again))
+    found_by(alloc, &mut judge, &mut source, &mut again)
 }
 
 #[test]
@@ -249,11 +271,17 @@ fn each_rule_is_broken_by_a_line_and_another_stands_against_it(
 
 /// Whether this is said of a run with this text behind its header.
 fn is_said(alloc: Global, text: &str, wanted: &str) -> Result<bool, Fail> {
+    // the borrow checker's plan has to be told of the types within
+    let _word: Option<Word> = None;
+    let _code: Option<Code> = None;
+    let _does: Option<Doing> = None;
+    let _line: Option<Line> = None;
+    let _bad: Option<BadLine> = None;
     let mut run = Vec::from_slice(alloc, b"run 1\n")?;
     run.extend_from_slice(text.as_bytes())?;
     let mut source = SureSource::make(alloc, run.as_slice())?;
     let mut said = SureSink::make(alloc, 512)?;
-    let ending = judge_run(alloc, STREAMS, &mut source);
+    let ending = judge_run(alloc, STREAMS, &mut source)?;
     write_ending(&mut said, &ending)?;
     Ok(said.bytes() == wanted.as_bytes())
 }

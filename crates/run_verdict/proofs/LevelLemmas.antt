@@ -13,7 +13,8 @@ use Rattle.run_rules.specs.MayCome.{IsSingle, MayCome, MayDo}
 use Rattle.run_check.specs.After.{IsAfter, plain}
 use Rattle.run_verdict.specs.declared.judge.Judge.{Judge}
 use Rattle.run_verdict.specs.Judges.{HasJudged, is_single}
-use Rattle.run_verdict.specs.Streams.{AreStreams, IsPending, pending_in}
+use Rattle.run_rules.specs.Against.{IsPending}
+use Rattle.run_verdict.specs.Streams.{AreStreams, pending_in}
 use Rattle.run_verdict.proofs.StreamLemmas.{pending_is, pending_none}
 
 false_true : false ≡ true → ⊥

@@ -4,3 +4,8 @@ pub mod StreamLemmas
 pub mod LevelLemmas
 pub mod VerdictLemmas
 pub mod ReadLemmas
+pub mod GoingLemmas
+pub mod SearchLemmas
+pub mod OwingLemmas
+pub mod AgainstLemmas
+pub mod TextLemmas

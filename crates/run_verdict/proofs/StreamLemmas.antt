@@ -19,7 +19,8 @@ use Rattle.run_verdict.specs.declared.streams.Streams.{Streams}
 use Rattle.run_verdict.specs.declared.uses.Uses.{Uses}
 use Rattle.run_verdict.specs.declared.uses.Way.{Way}
 use Rattle.run_verdict.specs.declared.uses.Way.TheVariants as way
-use Rattle.run_verdict.specs.Streams.{AreStreams, IsPending, pending_in}
+use Rattle.run_rules.specs.Against.{IsPending}
+use Rattle.run_verdict.specs.Streams.{AreStreams, pending_in}
 use Rattle.run_verdict.specs.Uses.{ArePaired, AreUses, IsNewUse, is_by, letters_of, stream_at, stream_in, use_after, use_of, user_at}
 use Rattle.run_verdict.proofs.UseLemmas.{use_of-next}
 
@@ -183,10 +184,9 @@ pending_is past kept word (Some stream) op streams is = by_tests (is_by way.Read
     by_tests false r true e found = pending_by way.Write past kept.writes word stream op streams.writes e found
     by_tests false r false e found = absurd (none_some op found)
 
-none_by : (how : Way) (past : List Line) (kept : Uses) (word : Word) (stream op : ℕ) → AreUses how past kept
-    → is_by how word ≡ true → user_at kept stream ≡ None
-    → IsPending past word (Some stream) op → ⊥
-none_by how past kept word stream op uses test none pending =
+user_by : (how : Way) (past : List Line) (kept : Uses) (word : Word) (stream op : ℕ) → AreUses how past kept
+    → is_by how word ≡ true → IsPending past word (Some stream) op → user_at kept stream ≡ Some op
+user_by how past kept word stream op uses test pending =
     let same : word ≡ Other (letters_of how) = word_is how word test in
     let usage : IsUse how past op stream =
     record {
@@ -195,17 +195,22 @@ none_by how past kept word stream op uses test none pending =
       same_thing =
           pending.same_thing;
     } in
-    none_some op (sym none ∙ uses.paired.found op stream (uses.uses op ∙ use_from how past op stream usage))
+    uses.paired.found op stream (uses.uses op ∙ use_from how past op stream usage)
+
+pub pending_found : (past : List Line) (kept : Streams) (word : Word) (thing : Option ℕ) (op : ℕ) → AreStreams past kept
+    → IsPending past word thing op → pending_in kept word thing ≡ Some op
+pending_found past kept word None op streams pending = absurd (false_true pending.stream)
+pending_found past kept word (Some stream) op streams pending =
+    by_tests (is_by way.Read word) refl (is_by way.Write word) refl
+  where
+    by_tests : (r : Bool) → is_by way.Read word ≡ r → (w : Bool) → is_by way.Write word ≡ w
+        → (if r then user_at kept.reads stream else (if w then user_at kept.writes stream else None)) ≡ Some op
+    by_tests true r w e = user_by way.Read past kept.reads word stream op streams.reads r pending
+    by_tests false r true e = user_by way.Write past kept.writes word stream op streams.writes e pending
+    by_tests false r false e = absurd (used_by word pending.used r e)
 
 pub pending_none : (past : List Line) (kept : Streams) (word : Word) (thing : Option ℕ) (op : ℕ) → AreStreams past kept
     → pending_in kept word thing ≡ None
     → IsPending past word thing op → ⊥
-pending_none past kept word None op streams is pending = false_true pending.stream
-pending_none past kept word (Some stream) op streams is pending =
-    by_tests (is_by way.Read word) refl (is_by way.Write word) refl is
-  where
-    by_tests : (r : Bool) → is_by way.Read word ≡ r → (w : Bool) → is_by way.Write word ≡ w
-        → (if r then user_at kept.reads stream else (if w then user_at kept.writes stream else None)) ≡ None → ⊥
-    by_tests true r w e none = none_by way.Read past kept.reads word stream op streams.reads r none pending
-    by_tests false r true e none = none_by way.Write past kept.writes word stream op streams.writes e none pending
-    by_tests false r false e none = used_by word pending.used r e
+pending_none past kept word thing op streams is pending =
+    none_some op (sym is ∙ pending_found past kept word thing op streams pending)

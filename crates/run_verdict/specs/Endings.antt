@@ -1,5 +1,6 @@
 -- What came of reading a run, told of its whole text.
-use Rattle.std.specs.Prelude.{◌≡◌, ◌⊎◌, ◌<◌, ◌+◌, ℕ, List, [], ◌∷◌, ◌++◌, length, reverse, Option, Some, None}
+use Rattle.std.specs.Prelude.{◌≡◌, ◌⊎◌, ◌<◌, ◌+◌, ◌^◌, ℕ, List, [], ◌∷◌, ◌++◌, length, reverse, Option, Some, None}
+use Rattle.asio_types.specs.Faults.{Rose}
 use Rattle.run_lines.specs.declared.line.Line.{Line}
 use Rattle.run_lines.specs.BadLine.{IsBadLine}
 use Rattle.run_lines.specs.Entry.{IsEntry, IsEntryText, PlainEntry, entry_text, line}
@@ -7,12 +8,13 @@ use Rattle.run_lines.specs.Line.{IsLine, line_text}
 use Rattle.run_lines.specs.Run.{AreEntries, IsRunText, header, lines_of, run_text}
 use Rattle.run_lines.specs.Words.{words_of}
 use Rattle.run_reader.specs.Buffer.{HasNoLineFeed}
-use Rattle.run_reader.specs.Reader.{HasNoLastLineFeed, IsWhollyRead, TakesLine}
+use Rattle.run_reader.specs.Reader.{BeginsTooLong, HasNoLastLineFeed, IsTooLong, IsWhollyRead, TakesLine}
 use Rattle.run_reader.specs.declared.fault.ReadFault.{ReadFault}
 use Rattle.run_reader.specs.declared.fault.ReadFault.TheVariants as fault
 use Rattle.run_rules.specs.declared.level.Level.{Level}
 use Rattle.run_rules.specs.Breaks.{BreaksRule}
 use Rattle.run_rules.specs.Legal.{IsLegalRun, IsLegalSoFar, IsWhole}
+use Rattle.run_rules.specs.MayCome.{MayCome}
 use Rattle.run_verdict.specs.declared.ending.Ending.{Ending}
 use Rattle.run_verdict.specs.declared.ending.Ending.TheVariants as ending
 use Rattle.run_verdict.specs.declared.judge.Judge.{Judge}
@@ -49,14 +51,46 @@ SaysOf level text (ending.NoLineFeed at) =
     ((at ≡ 1) × HasNoLineFeed text)
     ⊎ ((entries : List PlainEntry) × (rest : List ℕ) × BeginsWith level text entries rest at × (0 < length rest)
     × HasNoLineFeed rest)
-SaysOf level text (ending.TooLong at) = Unit {0}
-SaysOf level text ending.ReadFault = Unit {0}
-SaysOf level text ending.NoRoom = Unit {0}
+SaysOf level text (ending.TooLong at) =
+    ((at ≡ 1) × IsTooLong text)
+    ⊎ ((entries : List PlainEntry) × (rest : List ℕ) × BeginsWith level text entries rest at × IsTooLong rest)
+SaysOf level text (ending.ReadFault at) =
+    (at ≡ 1) ⊎ ((entries : List PlainEntry) × (rest : List ℕ) × BeginsWith level text entries rest at)
+SaysOf level text (ending.NoRoom at) =
+    (entries : List PlainEntry) × (rest : List ℕ) × BeginsWith level text entries rest at
+    × ((at + 1 ≡ 2 ^ 64) ⊎ ((happened : Line) × (after : List ℕ) × (rest ≡ line_text happened ++ 10 ∷ after)
+    × MayCome level (past_of entries) happened))
 
 -- the same, where the source tells its text
 abbrev pub Says : Level → Option (List ℕ) → Ending → Type 0
 Says level None ending = Unit {0}
 Says level (Some text) ending = SaysOf level text ending
+
+-- where a line breaks a rule, the judge has followed the lines before it, and no more
+abbrev pub StopsAt : Level → List ℕ → Ending → Judge → Type 0
+StopsAt level text (ending.Illegal at rule happened) judge =
+    (entries : List PlainEntry) × (rest : List ℕ) × BeginsWith level text entries (line_text happened ++ 10 ∷ rest) at
+    × BreaksRule level (past_of entries) happened rule × HasJudged level (past_of entries) judge
+StopsAt level text _ judge = Unit {0}
+
+-- the same, where the source tells its text
+abbrev pub Stops : Level → Option (List ℕ) → Ending → Judge → Type 0
+Stops level None ending judge = Unit {0}
+Stops level (Some text) ending judge = StopsAt level text ending judge
+
+-- both
+abbrev pub EndsWith : Level → List ℕ → Ending → Judge → Type 0
+EndsWith level text ending judge = SaysOf level text ending × StopsAt level text ending judge
+
+-- reading failed where the source's count of faults rose, and nowhere else
+abbrev pub CountsFaultsOf : Ending → ℕ → ℕ → Type 0
+CountsFaultsOf (ending.ReadFault at) old new = Rose old new
+CountsFaultsOf _ old new = new ≡ old
+
+-- the same of a line
+abbrev pub CountsNext : Next → ℕ → ℕ → Type 0
+CountsNext (next.Fault fault.Failed) old new = Rose old new
+CountsNext _ old new = new ≡ old
 
 -- what stands next: the line that was taken off the text, and what it says
 abbrev pub NextGives : Next → List ℕ → Option (List ℕ) → List ℕ → Option (List ℕ) → Type 0
@@ -69,7 +103,8 @@ NextGives next.End held left held_after left_after = IsWhollyRead held left
 NextGives (next.Bad bad) held left held_after left_after =
     (bytes : List ℕ) × TakesLine held left bytes held_after left_after × HasNoLineFeed bytes × IsBadLine (words_of bytes) bad
 NextGives (next.Fault fault.NoLineFeed) held left held_after left_after = HasNoLastLineFeed held left
-NextGives (next.Fault _) held left held_after left_after = Unit {0}
+NextGives (next.Fault fault.TooLong) held left held_after left_after = BeginsTooLong held left
+NextGives (next.Fault fault.Failed) held left held_after left_after = Unit {0}
 
 -- what bytes say that are a line without its line feed
 abbrev pub IsSaidBy : List ℕ → Next → Type 0
@@ -86,11 +121,11 @@ IsReading level text held (Some left) judge at =
     (entries : List PlainEntry) × BeginsWith level text entries (held ++ left) at × HasJudged level (past_of entries) judge
 
 -- what a line comes to that ends a run
-abbrev pub EndsLine : Level → List Line → Line → ℕ → Ending → Type 0
-EndsLine level past happened at (ending.Illegal where_at rule named) =
-    (where_at ≡ at) × (named ≡ happened) × BreaksRule level past happened rule
-EndsLine level past happened at ending.NoRoom = Unit {0}
-EndsLine level past happened at _ = ⊥
+abbrev pub EndsLine : Level → List Line → Line → ℕ → Judge → Ending → Type 0
+EndsLine level past happened at judge (ending.Illegal where_at rule named) =
+    (where_at ≡ at) × (named ≡ happened) × BreaksRule level past happened rule × HasJudged level past judge
+EndsLine level past happened at judge (ending.NoRoom where_at) = (where_at ≡ at) × MayCome level past happened
+EndsLine level past happened at judge _ = ⊥
 
 -- what the end of the text comes to
 abbrev pub EndsRun : Level → List Line → ℕ → Ending → Type 0
@@ -100,7 +135,7 @@ EndsRun level past lines _ = ⊥
 
 -- the ending where there is no next line
 abbrev pub ended_by : ReadFault → ℕ → Ending
-ended_by fault.Failed at = ending.ReadFault
+ended_by fault.Failed at = ending.ReadFault at
 ended_by fault.NoLineFeed at = ending.NoLineFeed at
 ended_by fault.TooLong at = ending.TooLong at
 

@@ -1,12 +1,22 @@
-use crate::ending::Ending;
+ghost use Rattle.std.specs.Prelude.{◌≡◌, ◌↔◌, ◌&&◌, ◌==◌, List, IsTrue, not};
+ghost use Rattle.run_lines.specs.declared.line.Line.{Line};
+ghost use Rattle.run_rules.specs.declared.level.Level.{Level};
+ghost use Rattle.run_rules.specs.Against.{BeginsOnStrand, CallsPending, StandsAgainst, StandsAgainstOp, TakesElsewhere, TakesInside, TakesIt, TellsOfExecution};
+ghost use Rattle.run_rules.specs.Calls.{Waits};
+ghost use Rattle.run_rules.specs.MayCome.{MayCome};
+ghost use Rattle.run_rules.specs.Takings.{same_resource};
+ghost use Rattle.run_check.specs.Judging.{is_number};
+ghost use Rattle.run_verdict.specs.Doings.{both_same};
+ghost use Rattle.run_verdict.specs.Judges.{HasJudged};
+ghost use Rattle.run_verdict.specs.Search.{Confronts, IsOfWaiting};
+
+use crate::doings::{
+    begins, begun_by, calls, calls_from, calls_some, completes, op_of, settles, spends, taken_by,
+    tells_of,
+};
 use crate::judge::Judge;
-use crate::run::{Next, next_line, read_header};
-use asio_types::{NoMemory, Source};
-use run_check::Outcome;
-use run_lines::{Code, Doing, Line, Word};
-use run_reader::LineReader;
-use run_rules::{Frame, Level, Resource, Rule};
-use std::alloc::Global;
+use run_lines::{Doing, Line};
+use run_rules::{Frame, Resource, Rule};
 
 /// A line that stands against another one.
 #[derive(Clone, Copy, Debug, PartialEq, Eq)]
@@ -16,310 +26,192 @@ pub struct Against {
     pub line: Line,
 }
 
-/// Which line stands against one that breaks a rule.
-#[derive(Clone, Copy)]
-enum Wanted {
-    /// None: what the rule wants never happened.
-    Nothing,
-    /// The call of this operation.
-    Call { op: u64 },
-    /// Its completion.
-    Done { op: u64 },
-    /// The begin of its handler.
-    Begin { op: u64 },
-    /// The begin or the drop of its handler.
-    Spend { op: u64 },
-    /// The latest call by this word on this thing.
-    CallBy { word: Word, thing: Option<u64> },
-    /// The begin since which this strand is held.
-    Hold { strand: u64 },
-    /// The line with so many before it, names left out.
-    Place { place: u64 },
-    /// The latest claim or lock of this.
-    Taking { resource: Resource },
-    /// A claim or lock of this operation's execution that isn't given back.
-    Kept { op: u64 },
+/// Whether both are one number.
+fn both_same(one: Option<u64>, other: Option<u64>) -> bool
+    ensures { result ≡ both_same one other }
+{
+    match one {
+        Some(one) => is_number(other, one),
+        None => false,
+    }
 }
 
-/// What a line takes.
-fn taken_by(does: &Doing) -> Option<Resource> {
+/// Whether a number is this one.
+fn is_number(found: Option<u64>, number: u64) -> bool
+    ensures { result ≡ is_number found number }
+{
+    match found {
+        Some(found) => found == number,
+        None => false,
+    }
+}
+
+fn both(one: bool, other: bool) -> bool
+    ensures { result ≡ (one && other) }
+{
+    one && other
+}
+
+fn differs(one: u64, other: u64) -> bool
+    ensures { result ≡ not (one == other) }
+{
+    one != other
+}
+
+/// Whether both are one thing, or one lock.
+fn is_same(resource: Resource, other: Resource) -> bool
+    ensures { IsTrue result ↔ IsTrue (same_resource resource other) }
+{
+    resource == other
+}
+
+/// Whether a frame is the execution of this operation.
+fn is_execution(who: Frame, op: u64) -> bool
+    ensures { IsTrue result ↔ (who ≡ Frame.Execution op) }
+{
+    match who {
+        Frame::Execution { op: other } => other == op,
+        Frame::Outside { .. } => false,
+    }
+}
+
+/// Whether a line calls what is pending where this one calls.
+fn calls_pending(judge: &Judge, does: &Doing, found: &Doing) -> bool
+    ensures { (level : Level) (past : List Line) → HasJudged level past judge.now → IsTrue level.streams
+        → IsTrue result ↔ CallsPending past does.now found.now }
+{
     match *does {
-        Doing::Claim { thing } => Some(Resource::Thing { thing }),
-        Doing::Lock { lock } => Some(Resource::Lock { lock }),
-        _ => None,
-    }
-}
-
-/// What a line gives back.
-fn given_by(does: &Doing) -> Option<Resource> {
-    match *does {
-        Doing::Release { thing } => Some(Resource::Thing { thing }),
-        Doing::Unlock { lock } => Some(Resource::Lock { lock }),
-        _ => None,
-    }
-}
-
-/// The operation of a line that completes, begins, ends or drops one.
-fn op_of(does: &Doing) -> Option<u64> {
-    match *does {
-        Doing::Done { op, .. }
-        | Doing::Begin { op, .. }
-        | Doing::End { op }
-        | Doing::Throw { op }
-        | Doing::Drop { op } => Some(op),
-        _ => None,
-    }
-}
-
-/// The call of an operation, if there is one.
-fn call_of(op: Option<u64>) -> Wanted {
-    match op {
-        Some(op) => Wanted::Call { op },
-        None => Wanted::Nothing,
-    }
-}
-
-/// The strand on which an operation waits.
-fn strand_of(judge: &Judge, op: u64) -> Option<u64> {
-    // the borrow checker's plan has to be told of the types within
-    let _outcome: Option<Outcome> = None;
-    let _code: Option<Code> = None;
-    match judge.checker().waiter(op) {
-        Some(waiter) => waiter.strand,
-        None => None,
-    }
-}
-
-/// What stands against a begin by its strand: who holds it, or what has to begin before.
-fn wanted_on_strand(judge: &Judge, op: u64, rule: Rule) -> Wanted {
-    let Some(strand) = strand_of(judge, op) else {
-        return Wanted::Nothing;
-    };
-    if rule == Rule::Free {
-        return Wanted::Hold { strand };
-    }
-    match judge.checker().first(strand) {
-        Some((place, _)) => Wanted::Place { place },
-        None => Wanted::Nothing,
-    }
-}
-
-/// What stands against an end: what executes in its place.
-fn wanted_innermost(judge: &Judge, thread: u64, op: u64) -> Wanted {
-    match judge.checker().frame(thread) {
-        Frame::Execution { op } => Wanted::Begin { op },
-        Frame::Outside { .. } => Wanted::Begin { op },
-    }
-}
-
-/// What an operation completed with, or that it is a posting.
-fn wanted_outcome(judge: &Judge, op: u64) -> Wanted {
-    // the borrow checker's plan has to be told of the types within
-    let _outcome: Option<Outcome> = None;
-    let _code: Option<Code> = None;
-    match judge.checker().waiter(op) {
-        Some(waiter) => match waiter.outcome {
-            Some(_) => Wanted::Done { op },
-            None => Wanted::Call { op },
-        },
-        None => Wanted::Nothing,
-    }
-}
-
-/// What stands against a line of one operation that breaks this rule.
-fn wanted_of_op(judge: &Judge, thread: u64, op: u64, rule: Rule) -> Wanted {
-    match rule {
-        Rule::Waiting => Wanted::Spend { op },
-        Rule::Asynchronous => Wanted::Call { op },
-        Rule::DoneOnce => Wanted::Done { op },
-        Rule::Outcome => wanted_outcome(judge, op),
-        Rule::Free | Rule::First => wanted_on_strand(judge, op, rule),
-        Rule::Innermost => wanted_innermost(judge, thread, op),
-        Rule::Clean => Wanted::Kept { op },
-        _ => Wanted::Nothing,
-    }
-}
-
-/// What stands against a line that breaks this rule.
-fn wanted_for(judge: &Judge, line: &Line, rule: Rule) -> Wanted {
-    if let Some(op) = op_of(&line.does) {
-        return wanted_of_op(judge, line.thread, op, rule);
-    }
-    if let Some(resource) = taken_by(&line.does) {
-        return Wanted::Taking { resource };
-    }
-    match line.does {
-        Doing::Call { word, thing, .. } => {
-            if rule == Rule::Single {
-                Wanted::CallBy { word, thing }
-            } else {
-                call_of(judge.checker().greatest())
-            }
-        }
-        Doing::Back { .. } => call_of(judge.checker().last_call(line.thread)),
-        _ => Wanted::Nothing,
-    }
-}
-
-/// Whether this begin lets a strand in that nobody held.
-fn holds(judge: &Judge, does: &Doing, strand: u64) -> bool {
-    match *does {
-        Doing::Begin { op, .. } => {
-            strand_of(judge, op) == Some(strand) && judge.checker().holder(strand).is_none()
-        }
+        Doing::Call { word, thing, .. } => calls_some(found, judge.pending(&word, thing)),
         _ => false,
     }
 }
 
-/// Whether a line, as the next one, is what is wanted.
-fn fits(wanted: Wanted, judge: &Judge, line: &Line) -> bool {
-    match wanted {
-        Wanted::Nothing => false,
-        Wanted::Call { op: wanted } => matches!(line.does, Doing::Call { op, .. } if op == wanted),
-        Wanted::Done { op: wanted } => matches!(line.does, Doing::Done { op, .. } if op == wanted),
-        Wanted::Begin { op: wanted } =>
-            matches!(line.does, Doing::Begin { op, .. } if op == wanted),
-        Wanted::Spend { op: wanted } => match line.does {
-            Doing::Begin { op, .. } | Doing::Drop { op } => op == wanted,
-            _ => false,
-        },
-        Wanted::CallBy {
-            word: wanted,
-            thing: on,
-        } => match line.does {
-            Doing::Call { word, thing, .. } => word == wanted && thing == on,
-            _ => false,
-        },
-        Wanted::Hold { strand } => holds(judge, &line.does, strand),
-        Wanted::Place { place } => judge.lines() == place,
-        Wanted::Taking { resource } => taken_by(&line.does) == Some(resource),
-        Wanted::Kept { op } => {
-            taken_by(&line.does).is_some()
-                && judge.checker().frame(line.thread) == Frame::Execution { op }
+/// Whether a line begins an execution that goes on, on the strand of this operation.
+fn begins_on_strand(judge: &Judge, again: &Judge, op: u64, found: &Line) -> bool
+    ensures { (level : Level) (past before : List Line) → HasJudged level past judge.now → Waits past op
+        → HasJudged level before again.now → MayCome level before found.now → IsTrue result ↔ BeginsOnStrand past op before found.now.does }
+{
+    match begun_by(&found.does) {
+        Some(other) => {
+            let there = again.checker().strand(other);
+            let strand = judge.checker().strand(op);
+            both(
+                both_same(there, strand),
+                judge.checker().is_executing(other),
+            )
         }
+        None => false,
     }
 }
 
-/// A search for the line that stands against another one.
-#[derive(Drop)]
-struct Search {
-    wanted: Wanted,
-    found: Vec<Against>,
+/// Whether a line begins what executes in this frame, or tells of this operation where nothing does.
+fn tells_of_execution(who: Frame, op: u64, found: &Doing) -> bool
+    ensures { IsTrue result ↔ TellsOfExecution who op found.now }
+{
+    match who {
+        Frame::Execution { op: innermost } => begins(found, innermost),
+        Frame::Outside { .. } => tells_of(found, op),
+    }
 }
 
-impl Search {
-    /// Looks at a line, which is to be followed next. Of claims and locks all are held that aren't
-    /// given back; of all else the latest.
-    fn look(&mut self, judge: &Judge, at: u64, line: &Line) -> Result<(), NoMemory> {
-        // the borrow checker's plan has to be told of the types within
-        let _word: Option<Word> = None;
-        let _code: Option<Code> = None;
-        let _does: Option<Doing> = None;
-        if fits(self.wanted, judge, line) {
-            if !matches!(self.wanted, Wanted::Kept { .. }) {
-                self.found.clear();
-            }
-            self.found.push(Against { at, line: *line })?;
-        } else if let Wanted::Kept { op } = self.wanted {
-            self.give(judge, op, line);
+/// Whether a line takes what the execution of this operation has taken and not given back.
+fn takes_inside(judge: &Judge, again: &Judge, op: u64, found: &Line) -> bool
+    ensures { (level : Level) (past before : List Line) → HasJudged level past judge.now
+        → HasJudged level before again.now → IsTrue result ↔ TakesInside past op before found.now }
+{
+    match taken_by(&found.does) {
+        Some(resource) => {
+            let inside = is_execution(again.checker().frame(found.thread), op);
+            let execution = Frame::Execution { op };
+            both(
+                inside,
+                judge
+                    .checker()
+                    .is_taken_by(found.thread, execution, resource),
+            )
         }
-        Ok(())
+        None => false,
     }
+}
 
-    /// The first that is found.
-    fn first(&self) -> Option<Against> {
-        self.found.as_slice().first().copied()
-    }
-
-    /// Lets go of what the execution of an operation gives back by this line.
-    fn give(&mut self, judge: &Judge, op: u64, line: &Line) {
-        let given = given_by(&line.does);
-        if given.is_none() || judge.checker().frame(line.thread) != (Frame::Execution { op }) {
-            return;
+/// Whether a line takes this on another thread, which has it still.
+fn has_elsewhere(judge: &Judge, thread: u64, resource: Resource, found: &Line) -> bool
+    ensures { (level : Level) (past : List Line) → HasJudged level past judge.now
+        → IsTrue result ↔ TakesIt past thread resource found.now }
+{
+    match taken_by(&found.does) {
+        Some(other) => {
+            let elsewhere = differs(found.thread, thread);
+            let kept = judge.checker().has_taken(found.thread, resource);
+            both(is_same(other, resource), both(elsewhere, kept))
         }
-        let place = self
-            .found
-            .iter()
-            .position(|one| taken_by(&one.line.does) == given);
-        if let Some(place) = place {
-            if place < self.found.len() {
-                self.found.remove(place);
-            }
-        }
+        None => false,
     }
 }
 
-/// Goes over the lines of a run up to this one.
-fn search_lines<S: Source>(
-    reader: &mut LineReader,
-    judge: &mut Judge,
-    search: &mut Search,
-    source: &mut S,
-    end: u64,
-) -> Result<(), NoMemory> {
-    for at in 2..end {
-        match next_line(reader, source) {
-            Next::Line(line) => {
-                search.look(judge, at, &line)?;
-                if judge.follow(&line).is_err() {
-                    return Err(NoMemory);
-                }
-            }
-            Next::Name => {}
-            Next::End | Next::Bad(_) | Next::Fault(_) => return Ok(()),
-        }
-    }
-    Ok(())
-}
-
-/// Reads a run again from its start, up to this line.
-fn read_again<S: Source>(
-    alloc: Global,
-    again: &mut Judge,
-    search: &mut Search,
-    source: &mut S,
-    end: u64,
-) -> Result<(), NoMemory> {
-    let mut reader = LineReader::make(alloc)?;
-    if read_header(&mut reader, source).is_some() {
-        return Ok(());
-    }
-    search_lines(&mut reader, again, search, source, end)
-}
-
-/// The line that stands against this one, found by a judge that has followed nothing.
-fn search_by<S: Source>(
-    alloc: Global,
-    again: &mut Judge,
-    wanted: Wanted,
-    source: &mut S,
-    end: u64,
-) -> Result<Option<Against>, NoMemory> {
-    let mut search = Search {
-        wanted,
-        found: Vec::new(alloc),
-    };
-    match read_again(alloc, again, &mut search, source, end) {
-        Ok(()) => Ok(search.first()),
-        Err(error) => Err(error),
+/// Whether a line takes what this one would, on another thread, which has it still.
+fn takes_elsewhere(judge: &Judge, line: &Line, found: &Line) -> bool
+    ensures { (level : Level) (past : List Line) → HasJudged level past judge.now
+        → IsTrue result ↔ TakesElsewhere past line.now.thread line.now.does found.now }
+{
+    match taken_by(&line.does) {
+        Some(resource) => has_elsewhere(judge, line.thread, resource, found),
+        None => false,
     }
 }
 
-/// Where a run was found illegal, by this judge, the line that stands against the one that breaks a
-/// rule, found in the same run read again from its start.
-pub fn find_against<S: Source>(
-    alloc: Global,
-    level: Level,
+/// Whether a line stands against one of this operation, by a rule that speaks of one operation.
+fn stands_against_op(
     judge: &Judge,
-    ending: &Ending,
-    source: &mut S,
-) -> Result<Option<Against>, NoMemory> {
-    match *ending {
-        Ending::Illegal { at, rule, line } => {
-            let wanted = wanted_for(judge, &line, rule);
-            let mut again = Judge::new(alloc, level);
-            search_by(alloc, &mut again, wanted, source, at)
-        }
-        _ => Ok(None),
+    again: &Judge,
+    thread: u64,
+    op: u64,
+    rule: Rule,
+    found: &Line,
+) -> bool
+    ensures { (level : Level) (past before : List Line) → HasJudged level past judge.now → IsOfWaiting past op rule
+        → HasJudged level before again.now → MayCome level before found.now
+        → IsTrue result ↔ StandsAgainstOp past thread op rule before found.now }
+{
+    match rule {
+        Rule::New => calls_from(&found.does, op),
+        Rule::Returns => calls_some(&found.does, judge.checker().last_call(thread)),
+        Rule::Waiting => spends(&found.does, op),
+        Rule::Asynchronous => calls(&found.does, op),
+        Rule::DoneOnce => completes(&found.does, op),
+        Rule::Outcome => settles(&found.does, op),
+        Rule::Free => begins_on_strand(judge, again, op, found),
+        Rule::First => is_number(judge.checker().longest(op), again.lines()),
+        Rule::Innermost => tells_of_execution(judge.checker().frame(thread), op, &found.does),
+        Rule::Clean => takes_inside(judge, again, op, found),
+        Rule::Single
+        | Rule::Untouched
+        | Rule::Unlocked
+        | Rule::Claimed
+        | Rule::Locked
+        | Rule::Marked => false,
+    }
+}
+
+/// Whether a line, the next one for the second judge, stands against one that breaks a rule, which is
+/// the next one for the first judge.
+pub(crate) fn stands_against(
+    judge: &Judge,
+    again: &Judge,
+    line: &Line,
+    rule: Rule,
+    found: &Line,
+) -> bool
+    ensures { (level : Level) (past before : List Line) → Confronts level past line.now rule judge.now before found.now again.now
+        → IsTrue result ↔ StandsAgainst past line.now rule before found.now }
+{
+    match rule {
+        Rule::Single => calls_pending(judge, &line.does, &found.does),
+        Rule::Untouched => takes_elsewhere(judge, line, found),
+        Rule::Unlocked => takes_elsewhere(judge, line, found),
+        _ => match op_of(&line.does) {
+            Some(op) => stands_against_op(judge, again, line.thread, op, rule, found),
+            None => false,
+        },
     }
 }

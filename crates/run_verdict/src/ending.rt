@@ -28,10 +28,10 @@ pub enum Ending {
     NoHeader,
     /// Bytes stand behind the last line feed, as this line.
     NoLineFeed { at: u64 },
-    /// This line is longer than any line of a run.
+    /// This line is longer than the judge reads.
     TooLong { at: u64 },
-    /// Reading failed.
-    ReadFault,
-    /// Memory was asked for and not given.
-    NoRoom,
+    /// Reading failed in this line; the lines before it may come.
+    ReadFault { at: u64 },
+    /// This line may come, and the memory to follow it was asked for and not given.
+    NoRoom { at: u64 },
 }

@@ -1,6 +1,7 @@
-ghost use Rattle.std.specs.Prelude.{◌≡◌, ◌↔◌, ℕ, [], ◌∷◌, length, IfOk, IsTrue, List, MatchResult};
+ghost use Rattle.std.specs.Prelude.{◌≡◌, ◌↔◌, ℕ, [], ◌∷◌, length, IfOk, IsTrue, List, MatchResult, Some};
 ghost use Rattle.run_lines.specs.declared.line.Line.{Line};
 ghost use Rattle.run_rules.specs.declared.level.Level.{Level};
+ghost use Rattle.run_rules.specs.Against.{IsPending};
 ghost use Rattle.run_rules.specs.Breaks.{BreaksRule};
 ghost use Rattle.run_rules.specs.Legal.{IsWhole};
 ghost use Rattle.run_rules.specs.MayCome.{MayCome};
@@ -10,7 +11,7 @@ ghost use Rattle.run_verdict.specs.Judges.{HasJudged, IsOwed, StepsAt, is_single
 use crate::ending::Owed;
 use crate::streams::Streams;
 use run_check::{Checker, NoRoom, Refusal};
-use run_lines::{Doing, Line};
+use run_lines::{Doing, Line, Word};
 use run_rules::{Level, Rule};
 use std::alloc::Global;
 
@@ -51,6 +52,15 @@ impl Judge {
             }
             _ => true,
         }
+    }
+
+    /// The operation that is pending on a stream where a call by this word on this thing would be, too,
+    /// at a level that looks at streams.
+    pub fn pending(&self, word: &Word, thing: Option<u64>) -> Option<u64>
+        ensures { (level : Level) (past : List Line) → HasJudged level past self.now → IsTrue level.streams
+            → (op : ℕ) → (result ≡ Some op) ↔ IsPending past word.now thing op }
+    {
+        self.streams.pending(word, thing)
     }
 
     /// Whether this line may come next, or the first rule that it would break.

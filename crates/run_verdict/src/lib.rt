@@ -4,17 +4,22 @@
 #![tactic(auto)]
 
 mod against;
+mod doings;
 mod ending;
 mod judge;
+mod owing;
 mod run;
+mod search;
 mod streams;
 mod text;
 mod uses;
 mod verdict;
 
-pub use against::{Against, find_against};
+pub use against::Against;
 pub use ending::{Ending, Owed};
 pub use judge::Judge;
+pub use owing::{NotTold, write_owed_lines};
 pub use run::{judge_run, take_run};
+pub use search::find_against;
 pub use text::{write_against, write_ending};
 pub use verdict::verdict_on;

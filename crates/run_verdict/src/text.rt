@@ -1,3 +1,7 @@
+ghost use Rattle.std.specs.Prelude.{◌≡◌, OnOk};
+ghost use Rattle.asio_types.specs.Sink.{Extends};
+ghost use Rattle.run_verdict.specs.Text.{IsWritten, against_text, bad_text, illegal_text, name_of, numbered, owed_part, owed_text};
+
 use crate::against::Against;
 use crate::ending::{Ending, Owed};
 use asio_types::{Failed, Sink, write_all};
@@ -6,19 +10,23 @@ use run_lines::{BadLine, Line, LineText};
 use run_rules::Rule;
 
 /// A number between two texts.
-fn write_number<K: Sink>(
+pub(crate) fn write_number<K: Sink>(
     out: &mut K,
     front: &[u8],
     number: u64,
     back: &[u8],
-) -> Result<(), Failed> {
+) -> Result<(), Failed>
+    ensures { OnOk result (Extends (K.written out.old) (numbered front.now number back.now) (K.written out.new)) }
+{
     write_all(out, front)?;
     write_all(out, Buffer::new().format(number).as_bytes())?;
     write_all(out, back)
 }
 
 /// The name of a rule.
-fn name_of(rule: Rule) -> &'static str {
+fn name_of(rule: Rule) -> &'static str
+    ensures { result.now ≡ name_of rule }
+{
     match rule {
         Rule::New => "New",
         Rule::Single => "Single",
@@ -65,79 +73,94 @@ fn sense_of(rule: Rule) -> &'static str {
     }
 }
 
-fn write_owed<K: Sink>(out: &mut K, owed: &Owed) -> Result<(), Failed> {
-    if owed.waiting > 0 {
-        write_number(
-            out,
-            b"owed: ",
-            owed.waiting as u64,
-            b" operations that wait\n",
-        )?;
+/// A line on one kind of what is under way, if there is any.
+fn write_part<K: Sink>(out: &mut K, number: u64, kind: &[u8]) -> Result<(), Failed>
+    ensures { OnOk result (Extends (K.written out.old) (owed_part number kind.now) (K.written out.new)) }
+{
+    if number == 0 {
+        return Ok(());
     }
-    if owed.executing > 0 {
-        write_number(
-            out,
-            b"owed: ",
-            owed.executing as u64,
-            b" threads that execute handlers\n",
-        )?;
-    }
-    if owed.taken > 0 {
-        write_number(out, b"owed: ", owed.taken, b" claims and locks\n")?;
-    }
-    Ok(())
+    write_number(out, b"owed: ", number, kind)
 }
 
-fn write_illegal<K: Sink>(out: &mut K, at: u64, rule: Rule, line: &Line) -> Result<(), Failed> {
+fn write_owed<K: Sink>(out: &mut K, owed: &Owed) -> Result<(), Failed>
+    ensures { OnOk result (Extends (K.written out.old) (owed_text owed.now) (K.written out.new)) }
+{
+    write_part(out, owed.waiting as u64, b" operations that wait\n")?;
+    write_part(
+        out,
+        owed.executing as u64,
+        b" threads that execute handlers\n",
+    )?;
+    write_part(out, owed.taken, b" claims and locks\n")
+}
+
+fn write_illegal<K: Sink>(
+    out: &mut K,
+    at: u64,
+    rule: Rule,
+    line: &Line,
+    words: &[u8],
+) -> Result<(), Failed>
+    ensures { OnOk result (Extends (K.written out.old) (illegal_text at rule line.now words.now) (K.written out.new)) }
+{
     write_number(out, b"illegal at line ", at, b": ")?;
     write_all(out, LineText::of(line).as_slice())?;
     write_all(out, b"\nrule: ")?;
     write_all(out, name_of(rule).as_bytes())?;
     write_all(out, b"\nwanted: ")?;
-    write_all(out, sense_of(rule).as_bytes())?;
+    write_all(out, words)?;
     write_all(out, b"\n")
 }
 
-fn write_bad<K: Sink>(out: &mut K, at: u64, bad: BadLine) -> Result<(), Failed> {
+fn write_bad<K: Sink>(out: &mut K, at: u64, bad: BadLine) -> Result<(), Failed>
+    ensures { OnOk result (Extends (K.written out.old) (bad_text at bad) (K.written out.new)) }
+{
     write_number(out, b"bad run at line ", at, b": ")?;
-    write_number(out, b"word ", u64::from(bad.word), b": expected ")?;
+    write_number(out, b"word ", bad.word as u64, b": expected ")?;
     write_all(out, bad.wants.as_str().as_bytes())?;
     write_all(out, b"\n")
 }
 
-/// Writes what came of a run. A fault of reading or of memory has no text here.
-pub fn write_ending<K: Sink>(out: &mut K, ending: &Ending) -> Result<(), Failed> {
+/// Writes what came of a run. A fault of reading or of memory has no text here. Takes no memory.
+pub fn write_ending<K: Sink>(out: &mut K, ending: &Ending) -> Result<(), Failed>
+    ensures { OnOk result (IsWritten ending.now (K.written out.old) (K.written out.new)) }
+{
     match ending {
         Ending::Legal => write_all(out, b"legal\n"),
         Ending::SoFar { lines, owed } => {
             write_number(out, b"legal so far, ", *lines, b" lines\n")?;
             write_owed(out, owed)
         }
-        Ending::Illegal { at, rule, line } => write_illegal(out, *at, *rule, line),
+        Ending::Illegal { at, rule, line } => write_illegal(
+            out,
+            *at,
+            *rule,
+            line,
+            sense_of(*rule).as_bytes(),
+        ),
         Ending::Bad { at, bad } => write_bad(out, *at, *bad),
         Ending::NoHeader => write_all(out, b"bad run at line 1: expected run 1\n"),
-        Ending::NoLineFeed { at } => {
-            write_number(
-                out,
-                b"bad run at line ",
-                *at,
-                b": expected a line feed at its end\n",
-            )
-        }
-        Ending::TooLong { at } => {
-            write_number(
-                out,
-                b"bad run at line ",
-                *at,
-                b": expected less than 65536 bytes\n",
-            )
-        }
-        Ending::ReadFault | Ending::NoRoom => Ok(()),
+        Ending::NoLineFeed { at } => write_number(
+            out,
+            b"bad run at line ",
+            *at,
+            b": expected a line feed at its end\n",
+        ),
+        Ending::TooLong { at } => write_number(
+            out,
+            b"bad run at line ",
+            *at,
+            b": expected less than 65536 bytes\n",
+        ),
+        Ending::ReadFault { .. } | Ending::NoRoom { .. } => Ok(()),
     }
 }
 
-/// Writes which line stands against one that breaks a rule.
-pub fn write_against<K: Sink>(out: &mut K, against: &Against) -> Result<(), Failed> {
+/// Writes which line stands against one that breaks a rule. Takes no memory.
+pub fn write_against<K: Sink>(out: &mut K, against: &Against) -> Result<(), Failed>
+    ensures { OnOk result (Extends (K.written out.old) (against_text against.now) (K.written out.new)) }
+{
     write_number(out, b"against: line ", against.at, b": ")?;
     write_all(out, LineText::of(&against.line).as_slice())?;
     write_all(out, b"\n")

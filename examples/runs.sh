@@ -1,0 +1,102 @@
+#!/usr/bin/env bash
+# Judges runs: the first run of docs/RUNS.md, each example of its table of rules (the last line has to break the rule of its row, and the
+# lines before it none) and of its legal cases; what stands against a line; and a run of 1,000,000 lines, in under two seconds of
+# processor time and in no more memory than one of 10,000. Ends with 'runs: N passed, M failed'.
+set -u
+cd "$(dirname "$0")/.." || exit 1
+. examples/common.sh runs run_judge
+
+# The run with the lines $1, with ' / ' between two, as $room/run.
+write_run() {
+  { echo 'run 1' && sed 's| / |\n|g' <<< "$1"; } > "$room/run"
+}
+
+# The first run.
+awk '/^run 1$/ { inside = 1 } /^```$/ { if (inside) exit } inside' docs/RUNS.md > "$room/run"
+[ "$("$room/run_judge" check "$room/run")" = legal ] && [ "$(wc -l < "$room/run")" -gt 5 ]
+count $? "the first run is $("$room/run_judge" check "$room/run")"
+
+# A rule a row: its name, and the example at its end.
+rules=0
+while IFS='|' read -r _ rule _ _ example _; do
+  rule=${rule// /}
+  example=${example#*\`}
+  example=${example%\`*}
+  write_run "$example"
+  last=$(wc -l < "$room/run")
+  said=$("$room/run_judge" check --streams "$room/run")
+  [[ $said == "illegal at line $last: ${example##* / }"* && $said == *$'\n'"rule: $rule"$'\n'* ]]
+  count $? "$rule: $example: $said"
+  sed -i '$d' "$room/run"
+  said=$("$room/run_judge" check --streams "$room/run")
+  [[ $said == legal* ]]
+  count $? "$rule, without the last line: $example: $said"
+  rules=$((rules + 1))
+done < <(grep -E '^\| [A-Z][A-Za-z]+ \|.* \| `[0-9].* / .*` \|$' docs/RUNS.md)
+[ "$rules" = 16 ]
+count $? "docs/RUNS.md has examples of $rules rules"
+
+# Legal cases.
+legal=0
+while read -r example; do
+  write_run "$example"
+  said=$("$room/run_judge" check --streams "$room/run")
+  [[ $said == legal* ]]
+  count $? "$example: $said"
+  legal=$((legal + 1))
+done < <(grep -E '^- ' docs/RUNS.md | grep -oE '`[0-9][^`]* / [^`]*`' | tr -d '`')
+[ "$legal" = 2 ]
+count $? "docs/RUNS.md has $legal legal cases"
+
+# What stands against the line that breaks a rule.
+said=$(cd crates/run_judge/data && "$room/run_judge" why --streams race.run)
+[ "$said" = "$(cat crates/run_judge/stdout)" ]
+count $? "why: $said"
+
+# What is under way at the end of a run, line by line.
+write_run '0 call 0 post 0 - - / 0 call 1 read 0 5 9 / 0 call 2 post 0 - - / 1 begin 0 ok 0 / 1 claim 7 / 1 lock 8 / 1 unlock 8 / 0 drop 2'
+cat > "$room/wanted" << 'END'
+legal so far, 9 lines
+owed: 1 operations that wait
+owed: 1 threads that execute handlers
+owed: 1 claims and locks
+owed: line 3: 0 call 1 read 0 5 9
+owed: line 5: 1 begin 0 ok 0
+owed: line 6: 1 claim 7
+END
+"$room/run_judge" why "$room/run" | cmp -s - "$room/wanted"
+count $? "why of a run that goes on: $("$room/run_judge" why "$room/run")"
+
+# A long run: postings and reads on strands and things in turn, on five threads, with as much under way at the end as in its midst.
+long_run() {
+  awk -v lines="$1" 'BEGIN {
+    print "run 1"
+    for (op = 0; written < lines; op++) {
+      print op % 5 " call " op (op % 3 ? " post 0 " op % 40 " -" : " read 0 - " op % 60); written++
+      old = op - 100
+      if (old < 0) continue
+      thread = old % 5
+      print thread " begin " old " ok 0"
+      print thread " claim " old % 60
+      print thread " release " old % 60
+      print thread " end " old
+      written += 4
+    }
+  }'
+}
+for lines in 10000 1000000; do
+  long_run "$lines" > "$room/long"
+  (
+    # (room for twice what the judge takes)
+    ulimit -v 65536
+    TIMEFORMAT='%U %S'
+    time "$room/run_judge" check "$room/long" > "$room/said" 2> "$room/notes"
+  ) 2> "$room/time"
+  read -r user system < "$room/time"
+  [[ $(head -n 1 "$room/said") == "legal so far, $(wc -l < "$room/long") lines" ]]
+  count $? "$lines lines: $(cat "$room/said" "$room/notes")"
+  awk -v used="$user" -v more="$system" 'BEGIN { exit !(used + more < 2) }'
+  count $? "$lines lines took $user and $system seconds"
+  echo "runs: $(wc -l < "$room/long") lines took $user and $system seconds of processor time"
+done
+say_counts
