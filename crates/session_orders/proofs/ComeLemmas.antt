@@ -1,7 +1,7 @@
 -- A replay that has come as far as a beginning: one event more, and one less.
 use Rattle.std.proofs.Common.{◌≡◌, ◌<◌, ◌≤◌, ◌+◌, ℕ, suc, zero, Bool, true, false, List, [], ◌∷◌, ◌++◌, length, take, get_or, arith, refl, ap, sym, subst, ◌∙◌}
 use Rattle.std.specs.Bool.{OnTrue}
-use Rattle.std.specs.Prelude.{◌↔◌, IfNone, Option, Some, None}
+use Rattle.std.specs.Prelude.{◌↔◌, IfNone, IfOk, IfSome, Option, Some, None, Result, Ok, Err}
 use Rattle.asio_types.specs.declared.event.Event.{Event}
 use Rattle.history_book.specs.Replay.{Replayed}
 use Rattle.history_rules.specs.Legal.{IsLegalFrom, IsLegalSoFar, IsWhole, MayHappen, after_event, state_from, state_of}
@@ -17,7 +17,7 @@ use Rattle.session_orders.proofs.SizeLemmas.{size_of}
 
 -- lists of events
 
-state_then : (script : ScriptModel) (s : State) (path : List Event) (event : Event) →
+pub state_then : (script : ScriptModel) (s : State) (path : List Event) (event : Event) →
     state_from script true s (path ++ event ∷ []) ≡ after_event script true (state_from script true s path) event
 state_then script s [] event = refl
 state_then script s (first ∷ path) event = state_then script (after_event script true s first) path event
@@ -34,7 +34,7 @@ legal_front script s [] event legal = tt
 legal_front script s (first ∷ path) event legal =
     (legal.0, legal_front script (after_event script true s first) path event legal.1)
 
-legal_last : (script : ScriptModel) (s : State) (path : List Event) (event : Event) →
+pub legal_last : (script : ScriptModel) (s : State) (path : List Event) (event : Event) →
     IsLegalFrom script true s (path ++ event ∷ []) → MayHappen script true (state_from script true s path) event
 legal_last script s [] event legal = legal.0
 legal_last script s (first ∷ path) event legal = legal_last script (after_event script true s first) path event legal.1
@@ -49,7 +49,7 @@ asked_front : (failing : Bool) (path : List Event) (event : Event) → AreAsked 
 asked_front failing [] event all = tt
 asked_front failing (first ∷ path) event all = (all.0, asked_front failing path event all.1)
 
-asked_last : (failing : Bool) (path : List Event) (event : Event) → AreAsked failing (path ++ event ∷ []) →
+pub asked_last : (failing : Bool) (path : List Event) (event : Event) → AreAsked failing (path ++ event ∷ []) →
     IsAsked failing event
 asked_last failing [] event all = all.0
 asked_last failing (first ∷ path) event all = asked_last failing path event all.1
@@ -62,7 +62,7 @@ may_at_index script s (event ∷ events) zero d below legal = legal.0
 may_at_index script s (event ∷ events) (suc i) d below legal =
     may_at_index script (after_event script true s event) events i d (omega (arith, below)) legal.1
 
-state_suc : (script : ScriptModel) (s : State) (events : List Event) (i : ℕ) (d : Event) → i < length events →
+pub state_suc : (script : ScriptModel) (s : State) (events : List Event) (i : ℕ) (d : Event) → i < length events →
     state_from script true s (take (suc i) events)
     ≡ after_event script true (state_from script true s (take i events)) (get_or events i d)
 state_suc script s [] i d below = absurd (omega (arith, below))
@@ -98,7 +98,7 @@ may_in script failing r path event come =
     (subst (λ b. Q script b r.state) (sym come.told)
     (subst (λ s. Q script true s) (sym come.state) ((λ may. may), (λ may. may))))
 
-whole_in : (script : ScriptModel) (failing : Bool) (r : Replayed) (path : List Event) → HasCome script failing r path →
+pub whole_in : (script : ScriptModel) (failing : Bool) (r : Replayed) (path : List Event) → HasCome script failing r path →
     IsWhole r.script r.state ↔ IsWhole script (state_of script true path)
 whole_in script failing r path come =
     let Q : ScriptModel → State → Type 0 = λ a s. IsWhole a s ↔ IsWhole script (state_of script true path) in
@@ -179,6 +179,14 @@ pub found_once : (P : Event → Type 0) (found : Option Event) (first second : E
 found_once P found first second is other holds =
     let same : second ≡ first = cc in subst P same holds
 
+pub if_ok : {X E : Type 0} (P Q : X → Type 0) (r : Result X E) → IfOk r P → ((x : X) → P x → Q x) → IfOk r Q
+if_ok P Q (Ok x) said more = more x said
+if_ok P Q (Err e) said more = tt
+
+pub if_some : {X : Type 0} (P Q : X → Type 0) (r : Option X) → IfSome r P → ((x : X) → P x → Q x) → IfSome r Q
+if_some P Q (Some x) said more = more x said
+if_some P Q None said more = tt
+
 pub on_none : {A : Type 0} {P : Type 0} (found : Option A) → P → IfNone found P
 on_none None holds = holds
 on_none (Some found) holds = tt
@@ -205,7 +213,7 @@ now_open script failing r path next place event listed is at come left passed =
 
 -- one event less
 
-all_below : (script : ScriptModel) (failing : Bool) (path : List Event) (place : ℕ) → places_of script ≤ place →
+pub all_below : (script : ScriptModel) (failing : Bool) (path : List Event) (place : ℕ) → places_of script ≤ place →
     AllBelow script failing (state_of script true path) place
 all_below script failing path place past event asked may =
     let below = is_below script failing (state_of script true path) event (size_of script path) asked may in

@@ -1,4 +1,6 @@
+pub mod Count
 pub mod Listed
 pub mod Order
 pub mod Place
+pub mod Same
 pub mod Walk

@@ -68,7 +68,7 @@ impl<'a> Walk<'a> {
     }
 
     /// The event at this place, where it may come: then the replay has taken it.
-    fn take_next(&mut self) -> Option<Event>
+    pub(crate) fn take_next(&mut self) -> Option<Event>
         requires come { HasCome self.old.script.now self.old.failing self.old.replay
             self.old.path.items }
         requires within { self.old.place < places_of self.old.script.now }

@@ -1,13 +1,8 @@
 use Rattle.std.proofs.Common.{◌≡◌, true, refl, subst}
-use Rattle.std.specs.Prelude.{IfOk, Result, Ok, Err}
 use Rattle.session_orders.specs.Listed.{events_in}
 use Rattle.session_orders.specs.Order.{AreOrders, HasAllOrders}
-use Rattle.session_orders.proofs.ComeLemmas.{still_all}
+use Rattle.session_orders.proofs.ComeLemmas.{if_ok, still_all}
 use Rattle.session_orders.proofs.listing.list_all.Goals as goal
-
-if_ok : {X E : Type 0} (P Q : X → Type 0) (r : Result X E) → IfOk r P → ((x : X) → P x → Q x) → IfOk r Q
-if_ok P Q (Ok x) said more = more x said
-if_ok P Q (Err e) said more = tt
 
 pub returns-clause-right : goal.returns-clause-right
 returns-clause-right c =

@@ -1,0 +1,9 @@
+use Rattle.session_orders.specs.Count.{HaveCome, Leads}
+use Rattle.session_orders.proofs.counting.count_on.Given as goal
+
+abbrev pub invariant-states : goal.invariant-states
+invariant-states l =
+    record {
+      have : HaveCome l.script l.failing l.queue.items;
+      leads : Leads l.script l.failing l.queue.items l.counted;
+    }
