@@ -124,9 +124,11 @@ keeps_one p n many places (Some name) may kept =
     (λ is.
     let here = equal name.place p is in
     let none = none_kept p many places
-    (subst (λ k. is_kept_life (place_at places k).life ≡ false) here (unused_not (place_at places name.place).life unused)) kept in
+    (subst (λ k. is_kept_life (place_at places k).life ≡ false) here
+    (unused_not (place_at places name.place).life unused)) kept in
     let one = ap one_if is in
-    subst (λ k. many + one_if (name.place == p) ≤ one_if (is_kept_life (place_at (with_life (life.Kept n) name places) k).life)) here
+    subst (λ k. many + one_if (name.place == p) ≤ one_if
+    (is_kept_life (place_at (with_life (life.Kept n) name places) k).life)) here
     (subst (λ (at : Place). many + one_if (name.place == p) ≤ one_if (is_kept_life at.life))
     (sym (get_or-set_same places name.place _ no_place (unused_within places name.place unused)))
     (omega (arith, none, one))))
@@ -202,7 +204,10 @@ spare_given p (phase.Settled code size) = refl
 spare_given p (phase.Ready code size) = refl
 spare_given p (phase.Running own grant spares) = by_grant (nat_lt 0 grant)
   where
-    by_grant : (b : Bool) → spare_at p (spares_in (if b then phase.Running own (grant - 1) spares else phase.Running false 0 spares)).strand ≡ spare_at p spares.strand
+    by_grant : (b : Bool) →
+        spare_at p
+        (spares_in (if b then phase.Running own (grant - 1) spares else phase.Running false 0 spares)).strand ≡
+        spare_at p spares.strand
     by_grant true = refl
     by_grant false = refl
 
@@ -270,7 +275,8 @@ made_strand p many s name None ops same_ops is may kept =
     used_place p _ s.names.strands name _ (unused_not (place_at s.names.strands name.place).life unused)
     (omega (arith, is, kept))
 made_strand p many s name (Some by) ops same_ops is may kept =
-    let it = found (has_spare kind.Strand name) ops by (subst (λ xs. is_at (has_spare kind.Strand name) xs by ≡ true) (sym same_ops) may) in
+    let it = found (has_spare kind.Strand name) ops by
+    (subst (λ xs. is_at (has_spare kind.Strand name) xs by ≡ true) (sym same_ops) may) in
     let change = weighed-changed (spared p) ops by (λ op. spare_used kind.Strand op.phase) it.op it.is in
     let spare = used_spare p name it.op.phase it.passed in
     let one = spare.0 in let none = spare.1 in

@@ -139,7 +139,12 @@ least_at : (ops : List Op) (op : ℕ) → first_number ops ≡ Some op → Dropp
 least_at [] op is = absurd (cc)
 least_at (x ∷ ops) op is =
     let first : x.number ≡ op = cc in
-    record { it = x; is = subst (λ n. (if (x.number == n) then Some x else op_at ops n) ≡ Some x) first (go (x.number == x.number) (same x.number)) }
+    record {
+      it = x;
+      is =
+          subst (λ n. (if (x.number == n) then Some x else op_at ops n) ≡ Some x) first
+          (go (x.number == x.number) (same x.number));
+    }
   where
     go : (b : Bool) → b ≡ true → (if b then Some x else op_at ops x.number) ≡ Some x
     go true is = refl

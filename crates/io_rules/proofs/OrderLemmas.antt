@@ -140,7 +140,8 @@ counts limits (event.Called op by request given ∷ past) legal n =
     let entry = entry_of (caller_lane s.ops by) request given in
     let on = lane_given request given in
     subst
-    (λ caller. IsCounted (if is_on n on then one_more_first (entry_of caller request given) (dispatched_in n past) else dispatched_in n past)
+    (λ caller. IsCounted
+    (if is_on n on then one_more_first (entry_of caller request given) (dispatched_in n past) else dispatched_in n past)
     (strand_in s.names.strands (on_lane on (called_on entry op) s.strands) n))
     (sym (caller_known limits past legal.1 given by legal.0.allowed))
     (subst
@@ -262,7 +263,8 @@ in_order limits (event.Called op by request given ∷ past) legal n =
     let on = lane_given request given in
     let at = length (begun_in n past) + dispatched_in n past in
     subst
-    (λ caller. IsOrder (if is_on n on then ready_with (entry_of caller request given) at op (ready_in n past) else ready_in n past)
+    (λ caller. IsOrder
+    (if is_on n on then ready_with (entry_of caller request given) at op (ready_in n past) else ready_in n past)
     (begun_in n past) (strand_in s.names.strands (on_lane on (called_on entry op) s.strands) n))
     (sym (caller_known limits past legal.1 given by legal.0.allowed))
     (subst

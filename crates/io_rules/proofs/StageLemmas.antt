@@ -84,7 +84,9 @@ serve_phase_keeps s kind (phase.Running own grant spares) = refl
 pub serve_keeps : (s : StreamState) (side : Side) (op : Op) → stage_of (served_op s side op).phase ≡ stage_of op.phase
 serve_keeps s side op = go (is_out_for side s.out)
   where
-    go : (b : Bool) → stage_of (if b then record { phase = op.phase; held = s.held } else served_phase s op.kind op.phase).phase ≡ stage_of op.phase
+    go : (b : Bool) →
+        stage_of (if b then record { phase = op.phase; held = s.held }
+        else served_phase s op.kind op.phase).phase ≡ stage_of op.phase
     go true = refl
     go false = serve_phase_keeps s op.kind op.phase
 
@@ -139,7 +141,8 @@ spare_keeps kind (phase.Settled code size) = refl
 spare_keeps kind (phase.Ready code size) = refl
 spare_keeps kind (phase.Running own grant spares) = refl
 
-running_if : (b : Bool) (x y : Phase) → stage_of x ≡ Executing → stage_of y ≡ Executing → stage_of (if b then x else y) ≡ Executing
+running_if : (b : Bool) (x y : Phase) → stage_of x ≡ Executing → stage_of y ≡ Executing →
+    stage_of (if b then x else y) ≡ Executing
 running_if true x y one other = one
 running_if false x y one other = other
 

@@ -166,15 +166,21 @@ known_called s request same_length lane.Own at =
 known_called s request same_length (lane.Strand m) at =
     by_test (is_lane_gone s.names request.lane)
     (λ is.
-    subst (λ b. IsKnown s.names.strands s.strands (lane_given request (gone_by b (is_slot_gone s.names request.binding) (is_timer_gone s.names (timer_of request.kind)) (is_target_gone s request.kind (target_of request.kind)))))
+    subst (λ b. IsKnown s.names.strands s.strands
+    (lane_given request
+    (gone_by b (is_slot_gone s.names request.binding) (is_timer_gone s.names (timer_of request.kind))
+    (is_target_gone s request.kind (target_of request.kind)))))
     (sym is) tt)
     (λ isnt.
     let alive : is_alive s.names.strands m ≡ true =
     not_false (is_alive s.names.strands m) (subst (λ l. is_lane_gone s.names l ≡ false) at isnt) in
     subst (IsKnown s.names.strands s.strands)
     (sym
-    (ap (λ b. lane_given request (gone_by b (is_slot_gone s.names request.binding) (is_timer_gone s.names (timer_of request.kind)) (is_target_gone s request.kind (target_of request.kind)))) isnt
-    ∙ lane_when_there request (is_slot_gone s.names request.binding) (is_timer_gone s.names (timer_of request.kind)) (is_target_gone s request.kind (target_of request.kind))
+    (ap (λ b. lane_given request
+    (gone_by b (is_slot_gone s.names request.binding) (is_timer_gone s.names (timer_of request.kind))
+    (is_target_gone s request.kind (target_of request.kind)))) isnt
+    ∙ lane_when_there request (is_slot_gone s.names request.binding)
+    (is_timer_gone s.names (timer_of request.kind)) (is_target_gone s request.kind (target_of request.kind))
     ∙ at))
     (known_alive s.names.strands s.strands m same_length alive))
 
@@ -208,10 +214,12 @@ strand_left places strands spare (lane.Strand m) true n known =
     (current_still spare known.0)
     ∙ by_test (same_name m n)
     (λ is.
-    ap (λ b. if b then new_strand else strand_in (with_life_of life.Free spare places) (on_lane (lane.Strand m) ended_on strands) n) is
+    ap (λ b. if b then new_strand
+    else strand_in (with_life_of life.Free spare places) (on_lane (lane.Strand m) ended_on strands) n) is
     ∙ sym (ap (λ b. if b then new_strand else strand_in places strands n) is))
     (λ isnt.
-    ap (λ b. if b then new_strand else strand_in (with_life_of life.Free spare places) (on_lane (lane.Strand m) ended_on strands) n) isnt
+    ap (λ b. if b then new_strand
+    else strand_in (with_life_of life.Free spare places) (on_lane (lane.Strand m) ended_on strands) n) isnt
     ∙ strand-with_life_of life.Free spare places (on_lane (lane.Strand m) ended_on strands) n
     ∙ strand-on_lane places strands (lane.Strand m) ended_on n known
     ∙ ap (λ b. if b then ended_on (strand_in places strands n) else strand_in places strands n) isnt
@@ -273,7 +281,8 @@ last_one s lane.Own n known is last = absurd (true≢false (sym is))
 last_one s (lane.Strand m) n known is last =
     subst (λ k. (strand_of s k).tied ≤ 1) (same-name m n is)
     (subst (λ (st : StrandState). st.tied ≤ 1) (sym (strand_is s.names.strands s.strands m known.0))
-    (leb-true (strand_at s.strands m).tied 1 (both (is_leaving s.names.strands m) (nat_le (strand_at s.strands m).tied 1) last).other))
+    (leb-true (strand_at s.strands m).tied 1
+    (both (is_leaving s.names.strands m) (nat_le (strand_at s.strands m).tied 1) last).other))
 
 new_in : (m place : ℕ) → slice_index_or (replicate m new_strand) place new_strand ≡ new_strand
 new_in m place =
@@ -350,7 +359,8 @@ strands_fit limits (event.Granted op spares ∷ past) legal going n =
     (strand-with_life_of (life.Kept op) spares.strand s.names.strands s.strands n)
 strands_fit limits (event.Changed by change ∷ past) legal going n =
     let s = state_of limits past in
-    fits_at _ _ _ _ _ _ _ _ (left_fits _ _ _ (strand_of s n) _ (strands_fit limits past legal.1 legal.0.going n) (runs_tied n s.ops)
+    fits_at _ _ _ _ _ _ _ _
+    (left_fits _ _ _ (strand_of s n) _ (strands_fit limits past legal.1 legal.0.going n) (runs_tied n s.ops)
     (waits_tied n s.ops) (changed_strand s change n))
     (total-other (tied_to n) (event.Changed by change) s refl) (total-other (runs_on n) (event.Changed by change) s refl)
     (total-other (waits_on n) (event.Changed by change) s refl) refl

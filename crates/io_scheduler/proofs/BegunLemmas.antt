@@ -296,7 +296,8 @@ begun_strand marks limits counts names cells jobs s p op spares within listed is
           by_test (p == k)
           (λ here.
           subst
-          (λ j. ShowsCell marks new s.next (lane_of_place (kept_for n spares s.names).strands j) (cell_at (slice_set cells p cell) j))
+          (λ j. ShowsCell marks new s.next (lane_of_place (kept_for n spares s.names).strands j)
+          (cell_at (slice_set cells p cell) j))
           (equal p k here)
           (subst (λ c. ShowsCell marks new s.next (lane_of_place (kept_for n spares s.names).strands p) c)
           (sym (get_or-set_same cells p cell (vacant 0) within))

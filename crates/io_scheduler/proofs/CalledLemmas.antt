@@ -72,7 +72,8 @@ shows_with marks limits counts names cells jobs s first n by on kind code handle
     let new_cells = entered_cells first on (ready_posting n code handler) cells in
     let new_jobs = entered_jobs first on (ready_posting n code handler) cells jobs in
     subst
-    (λ room. Shows marks limits (counts_called counts) names new_cells new_jobs (called_with first n by on new settled waits s room))
+    (λ room. Shows marks limits (counts_called counts) names new_cells new_jobs
+    (called_with first n by on new settled waits s room))
     (taken_back s.room)
     (subst
     (λ room. Shows marks limits (counts_with counts room) names new_cells new_jobs
@@ -110,7 +111,8 @@ pub shows_called : {H S : Type 0} (marks : H → Marks) (limits : Limits) (count
     Shows marks limits (counts_called counts) names (entered_cells first on (ready_posting n code.Ok handler) cells)
     (entered_jobs first on (ready_posting n code.Ok handler) cells jobs)
     (after (event.Called n (Some by) (posting on kind (marks handler)) gone.Nothing) s)
-shows_called marks limits counts names cells jobs s first n by from on kind handler own grant spares held is posts there it enters shows =
+shows_called marks limits counts names cells jobs s first n by from on kind handler own grant spares held is
+    posts there it enters shows =
     subst
     (Shows marks limits (counts_called counts) names (entered_cells first on (ready_posting n code.Ok handler) cells)
     (entered_jobs first on (ready_posting n code.Ok handler) cells jobs))
@@ -156,7 +158,8 @@ pub held_called : (s new : ContextState) (by : ℕ) (from : Lane) (own : Bool) (
 held_called s new by from own grant spares held still last executes it are is =
     still_held new by from own (own && nat_lt 0 grant) grant (grant - 1) spares held still (with_less it.op) executes
     (ap (λ ops. op_at ops by) are
-    ∙ at-push by (place_given_by (Some by) s.ops) last (with_less it.op) (at_changed by (λ o. place_given o.phase) s.ops it.op it.is))
+    ∙ at-push by (place_given_by (Some by) s.ops) last (with_less it.op)
+    (at_changed by (λ o. place_given o.phase) s.ops it.op it.is))
     it.at (ap place_given it.runs ∙ given_phase own grant spares) it.returns is
 
 -- what is needed of the numbers and of the room
@@ -198,6 +201,7 @@ pub held_twice : (one other : ContextState) (by : ℕ) (from : Lane) (own : Bool
     op_at other.ops by ≡ Some it → between ≡ held_still one held → still ≡ held_still other between →
     still ≡ held_still other held
 held_twice one other by from own grant spares held between still it executes first then was is =
-    let known : between ≡ Some (record { op = by; is = it }) = was ∙ held_behind one by from own grant spares held it executes first in
+    let known : between ≡ Some (record { op = by; is = it }) =
+    was ∙ held_behind one by from own grant spares held it executes first in
     is ∙ ap (held_still other) known ∙ ap (holding by) then
     ∙ sym (held_behind other by from own grant spares held it executes then)

@@ -239,7 +239,8 @@ ended_strand marks limits counts names cells jobs s n it p places spares state i
           by_test (p == k)
           (λ here.
           subst
-          (λ j. ShowsCell marks (without n s.ops) s.next (lane_of_place (given_back spares s.names).strands j) (cell_at (slice_set cells p cell) j))
+          (λ j. ShowsCell marks (without n s.ops) s.next (lane_of_place (given_back spares s.names).strands j)
+          (cell_at (slice_set cells p cell) j))
           (equal p k here)
           (subst (λ c. ShowsCell marks (without n s.ops) s.next (lane_of_place (given_back spares s.names).strands p) c)
           (sym (get_or-set_same cells p cell (vacant 0) on.within))
@@ -413,11 +414,15 @@ pub may_forget : {H S : Type 0} (marks : H → Marks) (limits : Limits) (past : 
     is_last_on (state_of limits past) on ≡ last →
     is_some state ≡ is_strand on → Shows marks limits counts names cells jobs (state_of limits past) →
     MayForget last on given.strands (left_cells on state cells)
-may_forget marks limits past counts names given cells jobs n on own grant spares held state false legal it back is with_state shows = tt
-may_forget marks limits past counts names given cells jobs n lane.Own own grant spares held state true legal it back is with_state shows = tt
-may_forget marks limits past counts names given cells jobs n (lane.Strand m) own grant spares held None true legal it back is with_state shows =
+may_forget marks limits past counts names given cells jobs n on own grant spares held state false legal it back
+    is with_state shows = tt
+may_forget marks limits past counts names given cells jobs n lane.Own own grant spares held state true legal it
+    back is with_state shows = tt
+may_forget marks limits past counts names given cells jobs n (lane.Strand m) own grant spares held None true
+    legal it back is with_state shows =
     absurd (true≢false (sym with_state))
-may_forget marks limits past counts names given cells jobs n (lane.Strand m) own grant spares held (Some state) true legal it back is with_state shows =
+may_forget marks limits past counts names given cells jobs n (lane.Strand m) own grant spares held (Some state)
+    true legal it back is with_state shows =
     subst (λ (ns : Names). IsIdleAt m.place ns.strands (left_cells (lane.Strand m) (Some state) cells)) (sym back)
     (idle_there marks limits past counts names cells jobs n it.op m spares state legal it.is it.at (ap is_running it.runs)
     (sym (ap spares_in it.runs)) is shows)
@@ -438,7 +443,8 @@ shows_left marks limits past counts names cells jobs n lane.Own own grant spares
     unused shows
 shows_left marks limits past counts names cells jobs n (lane.Strand m) own grant spares held None legal it with_state shows =
     absurd (true≢false (sym with_state))
-shows_left marks limits past counts names cells jobs n (lane.Strand m) own grant spares held (Some state) legal it with_state shows =
+shows_left marks limits past counts names cells jobs n (lane.Strand m) own grant spares held (Some state) legal
+    it with_state shows =
     let s = state_of limits past in
     let runs = ap is_running it.runs in
     let unused = subst (λ p. IsUnusedSpare s.names.strands (spares_in p).strand) it.runs
@@ -465,7 +471,8 @@ pub shows_ended : {H S : Type 0} (marks : H → Marks) (limits : Limits) (past :
     (record given { strands = strand_freed last on given.strands })
     (forgotten_cells last on (left_cells on state cells))
     (left_jobs on state cells jobs) (after (event.Ended n mark) (state_of limits past))
-shows_ended marks limits past counts names given cells jobs n mark on own grant spares held state last legal it back is with_state shows =
+shows_ended marks limits past counts names given cells jobs n mark on own grant spares held state last legal it
+    back is with_state shows =
     let s = state_of limits past in
     let places = one_if own + grant in
     subst
@@ -476,7 +483,8 @@ shows_ended marks limits past counts names given cells jobs n mark on own grant 
     ∙ ap (λ b. forgotten b on (ended_state on n places spares s)) is))
     (shows_forgotten marks limits (counts_ended places counts) given (left_cells on state cells)
     (left_jobs on state cells jobs) (ended_state on n places spares s) last on
-    (may_forget marks limits past counts names given cells jobs n on own grant spares held state last legal it back is with_state shows)
+    (may_forget marks limits past counts names given cells jobs n on own grant spares held state last legal it
+    back is with_state shows)
     (subst
     (λ (ns : Names). Shows marks limits (counts_ended places counts) ns (left_cells on state cells)
     (left_jobs on state cells jobs) (ended_state on n places spares s)) (sym back)

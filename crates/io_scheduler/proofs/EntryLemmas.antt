@@ -28,7 +28,8 @@ many-append n (x ∷ q) r = let rest = many-append n q r in omega (arith, rest)
 
 many-sum : {H : Type 0} (n : ℕ) (q : List (ReadyOp H)) → sum_by (λ (r : ReadyOp H). one_if (r.number == n)) q ≡ many n q
 many-sum n [] = refl
-many-sum n (x ∷ q) = sum_by-cons (λ (r : ReadyOp _). one_if (r.number == n)) x q ∙ ap (λ k. one_if (x.number == n) + k) (many-sum n q)
+many-sum n (x ∷ q) =
+    sum_by-cons (λ (r : ReadyOp _). one_if (r.number == n)) x q ∙ ap (λ k. one_if (x.number == n) + k) (many-sum n q)
 
 pub many-moved : {H : Type 0} (n : ℕ) (q r : List (ReadyOp H)) → IsPermutation q r → many n r ≡ many n q
 many-moved n q r moved =

@@ -21,10 +21,13 @@ map-replicate f (suc n) x = ap (λ rest. f x ∷ rest) (map-replicate f n x)
 pub vacant_at : {H S : Type 0} (P : Cell H S → Type 0) (n room place : ℕ) → ((r : ℕ) → P (vacant r)) →
     P (cell_at (replicate n (vacant room)) place)
 vacant_at {H = H} {S = S} P n room place each =
-    ⊎_elim (λ (lt : place < n). subst P (sym (get_or-replicate n place (vacant {H = H} {S = S} room) (vacant {H = H} {S = S} 0) lt)) (each room))
+    ⊎_elim (λ (lt : place < n). subst P
+    (sym (get_or-replicate n place (vacant {H = H} {S = S} room) (vacant {H = H} {S = S} 0) lt)) (each room))
     (λ (le : n ≤ place).
     let many = length-replicate n (vacant {H = H} {S = S} room) in
-    subst P (sym (get_or_past (replicate n (vacant {H = H} {S = S} room)) place (vacant {H = H} {S = S} 0) (omega (arith, le, many)))) (each 0))
+    subst P (sym
+    (get_or_past (replicate n (vacant {H = H} {S = S} room)) place (vacant {H = H} {S = S} 0)
+    (omega (arith, le, many)))) (each 0))
     (cases_lt place n)
 
 pub vacant_idle : {H S : Type 0} (cells : List (Cell H S)) (n room : ℕ) → cells ≡ replicate n (vacant room) →
@@ -58,7 +61,8 @@ shows_first marks limits =
       strands = map-replicate numbered n (vacant r);
       there = map-replicate is_there n (vacant r) ∙ sym (map-replicate is_used_place n new_place);
       rooms = map-replicate room_of n (vacant r);
-      each = λ k. vacant_at (λ c. ShowsCell marks [] 0 (lane_of_place (replicate n new_place) k) c) n r k (λ m. record { ready = tt; tied = omega arith });
+      each = λ k. vacant_at (λ c. ShowsCell marks [] 0 (lane_of_place (replicate n new_place) k) c) n r k
+          (λ m. record { ready = tt; tied = omega arith });
       listed = sym (map-replicate may_begin n (vacant r));
       own = tt;
       own_all = refl;

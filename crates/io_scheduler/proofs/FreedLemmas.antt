@@ -98,7 +98,8 @@ without_work limits past cells name legal going it none =
 
 pub may_free : {H S : Type 0} (marks : H → Marks) (limits : Limits) (past : List Event) (counts : Counts)
     (names : Names) (cells : List (Cell H S)) (jobs : JobList (ReadyOp H)) (name : Name) → IsLegal limits past →
-    is_alive (state_of limits past).names.strands name ≡ true → Shows marks limits counts names cells jobs (state_of limits past) →
+    is_alive (state_of limits past).names.strands name ≡ true →
+    Shows marks limits counts names cells jobs (state_of limits past) →
     MayFree name.place names.strands cells
 may_free marks limits past counts names cells jobs name legal may shows =
     let it = alive_strand marks limits counts names cells jobs (state_of limits past) name may shows in
@@ -202,7 +203,8 @@ freed_with there kept name settled waits s = record s {
 
 pub shows_freed : {H S : Type 0} (marks : H → Marks) (limits : Limits) (past : List Event) (counts : Counts)
     (names : Names) (cells : List (Cell H S)) (jobs : JobList (ReadyOp H)) (name : Name) → IsLegal limits past →
-    is_alive (state_of limits past).names.strands name ≡ true → Shows marks limits counts names cells jobs (state_of limits past) →
+    is_alive (state_of limits past).names.strands name ≡ true →
+    Shows marks limits counts names cells jobs (state_of limits past) →
     Shows marks limits counts (record names { strands = names_freed name names.strands cells })
     (forgotten_cells ((cell_at cells name.place).tied == 0) (lane.Strand name) cells) jobs
     (after (event.Changed None (control.Free kind.Strand name)) (state_of limits past))
@@ -212,10 +214,12 @@ shows_freed marks limits past counts names cells jobs name legal may shows =
     let waits = (cancelled [] s).waits in
     let it = alive_strand marks limits counts names cells jobs s name may shows in
     subst
-    (λ b. Shows marks limits counts (record names { strands = names_freed name names.strands cells }) (forgotten_cells idle (lane.Strand name) cells) jobs (freed_with b (is_tied s name) name (s.settled ++ []) waits s))
+    (λ b. Shows marks limits counts (record names { strands = names_freed name names.strands cells })
+    (forgotten_cells idle (lane.Strand name) cells) jobs (freed_with b (is_tied s name) name (s.settled ++ []) waits s))
     (sym (alive_again cells s name it))
     (subst
-    (λ b. Shows marks limits counts (record names { strands = names_freed name names.strands cells }) (forgotten_cells idle (lane.Strand name) cells) jobs (freed_with true b name (s.settled ++ []) waits s))
+    (λ b. Shows marks limits counts (record names { strands = names_freed name names.strands cells })
+    (forgotten_cells idle (lane.Strand name) cells) jobs (freed_with true b name (s.settled ++ []) waits s))
     (sym (not_tied cells s name it))
     (freed_either marks limits counts names cells jobs s name idle (s.settled ++ []) waits (ap (λ xs. xs ++ []) shows.settled) it
     (λ none. (without_work limits past cells name legal shows.going it (equal (cell_at cells name.place).tied 0 none)).queue)
@@ -236,7 +240,8 @@ state_either false cells name used free = refl
 -- the state comes out where the strand is forgotten
 pub state_freed : {H S : Type 0} (marks : H → Marks) (limits : Limits) (past : List Event) (counts : Counts)
     (names : Names) (cells : List (Cell H S)) (jobs : JobList (ReadyOp H)) (name : Name) → IsLegal limits past →
-    is_alive (state_of limits past).names.strands name ≡ true → Shows marks limits counts names cells jobs (state_of limits past) →
+    is_alive (state_of limits past).names.strands name ≡ true →
+    Shows marks limits counts names cells jobs (state_of limits past) →
     is_some (forgotten_state ((cell_at cells name.place).tied == 0) (lane.Strand name) cells)
     ≡ is_forgotten (state_of limits past) kind.Strand name
 state_freed marks limits past counts names cells jobs name legal may shows =

@@ -209,7 +209,8 @@ posted_strand marks limits counts names cells jobs s first name kind code handle
           by_test (p == k)
           (λ here.
           subst
-          (λ j. ShowsCell marks (s.ops ++ new ∷ []) (n + 1) (lane_of_place s.names.strands j) (cell_at (slice_set cells p cell) j))
+          (λ j. ShowsCell marks (s.ops ++ new ∷ []) (n + 1) (lane_of_place s.names.strands j)
+          (cell_at (slice_set cells p cell) j))
           (equal p k here)
           (subst (λ c. ShowsCell marks (s.ops ++ new ∷ []) (n + 1) (lane_of_place s.names.strands p) c)
           (sym (get_or-set_same cells p cell (vacant 0) within))
@@ -246,7 +247,8 @@ shows_posted marks limits counts names cells jobs s first n lane.Own kind code h
     (entered_jobs first lane.Own (ready_posting k code handler) cells jobs)
     (posted first k lane.Own (posted_op k lane.Own kind (marks handler) code) settled waits s)) (sym is)
     (posted_own marks limits counts names cells jobs s first kind code handler settled waits none shows)
-shows_posted marks limits counts names cells jobs s first n (lane.Strand name) kind code handler settled waits is none there shows =
+shows_posted marks limits counts names cells jobs s first n (lane.Strand name) kind code handler settled waits
+    is none there shows =
     let alive : is_alive s.names.strands name ≡ true = not_gone (is_alive s.names.strands name) there in
     subst
     (λ k. Shows marks limits (counts_posted counts) names

@@ -125,7 +125,8 @@ within_places places name is =
 pub within_cells : {H S : Type 0} (cells : List (Cell H S)) (places : List Place) (name : Name) →
     map is_there cells ≡ map is_used_place places → is_alive places name ≡ true → name.place < length cells
 within_cells cells places name are alive =
-    let lt = within_places places name (both (is_current places name) (is_living (place_at places name.place).life) alive).other in
+    let lt = within_places places name
+    (both (is_current places name) (is_living (place_at places name.place).life) alive).other in
     let one = length-map cells is_there in let other = length-map places is_used_place in
     let equal = ap length are in
     omega (arith, lt, one, other, equal)

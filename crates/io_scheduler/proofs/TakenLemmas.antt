@@ -127,10 +127,12 @@ shows_on marks limits counts names cells new_cells jobs new_jobs s (lane.Strand 
     ap (λ ns. name_at ns.strands name.place) (sym shows.names_are) ∙ sym is.name_is in
     subst (λ cs. Shows marks limits new kept cs new_jobs (begun_state (lane.Strand name) op.number spares s)) (sym is.begun_on)
     (subst
-    (λ js. Shows marks limits new kept (slice_set cells name.place (begun op (cell_at cells name.place))) js (begun_state (lane.Strand name) op.number spares s))
+    (λ js. Shows marks limits new kept (slice_set cells name.place (begun op (cell_at cells name.place))) js
+    (begun_state (lane.Strand name) op.number spares s))
     (sym is.taken_from)
     (subst
-    (λ l. Shows marks limits new kept (slice_set cells name.place (begun op (cell_at cells name.place))) (taken (job.Strand name.place) jobs) (begun_state l op.number spares s))
+    (λ l. Shows marks limits new kept (slice_set cells name.place (begun op (cell_at cells name.place)))
+    (taken (job.Strand name.place) jobs) (begun_state l op.number spares s))
     (ap lane.Strand name_here)
     (begun_strand marks limits counts names cells jobs s name.place op spares (may_within cells name.place is.may)
     is.listed (here_by_state (cell_at cells name.place) state is.state_is is.with_state) is.first may shows)))
@@ -145,7 +147,8 @@ pub shows_begun : {H S : Type 0} (marks : H → Marks) (limits : Limits) (counts
 shows_begun marks limits counts names cells new_cells jobs new_jobs s on op state spares is may shows =
     let r = taken_ready marks limits counts names cells new_cells jobs new_jobs s on op state is shows in
     subst
-    (λ l. Shows marks limits (counts_begun (grant_of s) counts) (kept_for op.number spares names) new_cells new_jobs (begun_state l op.number spares s))
+    (λ l. Shows marks limits (counts_begun (grant_of s) counts) (kept_for op.number spares names) new_cells
+    new_jobs (begun_state l op.number spares s))
     (sym (lane-found s.ops op.number r.op r.is ∙ r.lane))
     (shows_on marks limits counts names cells new_cells jobs new_jobs s on op state spares is may shows)
 

@@ -575,7 +575,8 @@ pub executing-next : (outer own : Option ℕ) (does : Doing) (op : ℕ) (new old
 executing-next outer own does op new old past is before =
     ap is_some is ∙ by_doing does ∙ ap (executing_after does op) before
   where
-    chosen : (b : Bool) (one other : Option Kept) → is_some (if b then one else other) ≡ (if b then is_some one else is_some other)
+    chosen : (b : Bool) (one other : Option Kept) →
+        is_some (if b then one else other) ≡ (if b then is_some one else is_some other)
     chosen true one other = refl
     chosen false one other = refl
 

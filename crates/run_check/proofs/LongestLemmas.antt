@@ -44,11 +44,13 @@ pub longest_is : (past : List Line) (op strand : ℕ) (waiter : Waiter) → Says
     → place_upto first entry ≡ Some place → StandsLongest past op place
 longest_is past op strand waiter says on None least stands entry is place found = none_some place found
 longest_is past op strand waiter says on (Some first) least stands None is place found = none_some place found
-longest_is past op strand waiter says on (Some first) least stands (Some entry) is place found = by_test (nat_le first.0 entry) refl
+longest_is past op strand waiter says on (Some first) least stands (Some entry) is place found =
+    by_test (nat_le first.0 entry) refl
   where
     by_test : (b : Bool) → nat_le first.0 entry ≡ b → StandsLongest past op place
     by_test true e =
-        let same : first.0 ≡ place = some_number first.0 place (sym (ap (λ (t : Bool). if t then Some first.0 else None) e) ∙ found) in
+        let same : first.0 ≡ place =
+        some_number first.0 place (sym (ap (λ (t : Bool). if t then Some first.0 else None) e) ∙ found) in
         subst (λ (n : ℕ). StandsLongest past op n) same
         (longest_in past op strand waiter says on first least stands
         (subst (λ (o : Option ℕ). IsSomeAnd o (λ n. first.0 ≤ n)) (sym is) (leb-true first.0 entry e)))
@@ -63,7 +65,8 @@ is_longest past op strand waiter says on first least stands entry is place found
     let here : found.strand ≡ strand = some_number found.strand strand (sym found.same ∙ on) in
     let goes : GoesBefore past found.first op strand = subst (λ (s : ℕ). GoesBefore past found.first op s) here found.goes in
     let spot = goes_spot past op strand found.first place waiter says goes found.placed in
-    by_first first stands (least found.first place spot.0) entry (subst (λ (o : Option ℕ). IsSomeAnd o (λ n. place ≤ n)) is spot.1) is
+    by_first first stands (least found.first place spot.0) entry
+    (subst (λ (o : Option ℕ). IsSomeAnd o (λ n. place ≤ n)) is spot.1) is
   where
     by_first : (o : Option (ℕ × ℕ)) → IfSome o (λ f. spot_of past f.1 ≡ Some (strand, f.0)) → IsSomeAnd o (λ f. f.0 ≤ place)
         → (e : Option ℕ) → IsSomeAnd e (λ n. place ≤ n) → waiter.entry ≡ e → place_upto o e ≡ Some place

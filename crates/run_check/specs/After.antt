@@ -54,7 +54,9 @@ let_in past (Some strand) around = if list_any (is_on past strand) around then N
 -- each of these executions is kept, with what is round it
 abbrev pub AreChained : List Line → Stacks → List ℕ → Type 0
 AreChained past kept [] = Unit {0}
-AreChained past kept (op ∷ around) = (execution_of kept op ≡ Some (record { outer = first_of around; strand = let_in past (strand_of past op) around })) × AreChained past kept around
+AreChained past kept (op ∷ around) =
+    (execution_of kept op ≡ Some
+    (record { outer = first_of around; strand = let_in past (strand_of past op) around })) × AreChained past kept around
 
 abbrev pub kind_of : Word → CallKind
 kind_of word.Post = kind.Posting
@@ -106,7 +108,8 @@ pub record IsAfter (past : List Line) (checker : Checker) : Type 0 where
   pub innermost : (thread : ℕ) → innermost_of checker.stacks thread ≡ first_of (stack past thread)
   pub executions : (thread : ℕ) → AreChained past checker.stacks (stack past thread)
   pub live : (op : ℕ) → is_some (execution_of checker.stacks op) ≡ is_executing past op
-  pub held : (thread strand : ℕ) → list_any (is_on past strand) (stack past thread) ≡ option_eq nat_eq (holder_of checker.strands strand) (Some thread)
+  pub held : (thread strand : ℕ) →
+      list_any (is_on past strand) (stack past thread) ≡ option_eq nat_eq (holder_of checker.strands strand) (Some thread)
   pub waiting : (op : ℕ) → waiting_at checker.waiting op ≡ waiter_of past op
   pub ordered : AreInOrder checker.queues
   pub queued : (op : ℕ) → spot_at checker.queues op ≡ spot_of past op
@@ -114,4 +117,5 @@ pub record IsAfter (past : List Line) (checker : Checker) : Type 0 where
 
 -- an answer that says whether a thread may do this next, or which rule it would break
 abbrev pub JudgesDoing : List Line → ℕ → Doing → Result (Unit {0}) Rule → Type 0
-JudgesDoing past thread does answer = MatchResult answer (λ _. MayDo plain past thread does) (λ rule. BreaksByDoing plain past thread does rule)
+JudgesDoing past thread does answer =
+    MatchResult answer (λ _. MayDo plain past thread does) (λ rule. BreaksByDoing plain past thread does rule)

@@ -24,7 +24,8 @@ MayHaveOutcome waiter what size = FitsOutcome waiter.kind waiter.outcome what si
 
 -- it is a dispatch, called by the innermost execution of the thread
 abbrev pub BeginsInside : Stacks → ℕ → Waiter → Type 0
-BeginsInside kept thread waiter = (waiter.kind ≡ kind.Dispatch) × IsSomeAnd (innermost_of kept thread) (λ op. waiter.caller ≡ Execution op)
+BeginsInside kept thread waiter =
+    (waiter.kind ≡ kind.Dispatch) × IsSomeAnd (innermost_of kept thread) (λ op. waiter.caller ≡ Execution op)
 
 -- some operation stands in the queue of this strand since this entry or longer
 abbrev pub SomeGoesBefore : List Line → ℕ → Option ℕ → Type 0

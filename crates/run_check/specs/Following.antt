@@ -46,7 +46,8 @@ completed place code size waiter = record {
 abbrev pub waiter_after : Frame → ℕ → Doing → ℕ → Option Waiter → Option Waiter
 waiter_after caller place (doing.Call op word context strand thing) other before =
     if op == other then Some (called word strand thing caller place) else before
-waiter_after caller place (doing.Done op code size) other before = if op == other then option_map (completed place code size) before else before
+waiter_after caller place (doing.Done op code size) other before =
+    if op == other then option_map (completed place code size) before else before
 waiter_after caller place (doing.Begin op code size) other before = if op == other then None else before
 waiter_after caller place (doing.Drop op) other before = if op == other then None else before
 waiter_after caller place _ other before = before
@@ -60,7 +61,8 @@ innermost_after found thread _ other top = top
 
 -- what is kept of any execution; outer is the innermost one of this thread, own the strand that a begin lets in
 abbrev pub execution_after : Option ℕ → Option ℕ → Doing → ℕ → Option Execution → Option Execution
-execution_after outer own (doing.Begin op code size) other before = if op == other then Some (record { outer = outer; strand = own }) else before
+execution_after outer own (doing.Begin op code size) other before =
+    if op == other then Some (record { outer = outer; strand = own }) else before
 execution_after outer own (doing.End op) other before = if op == other then None else before
 execution_after outer own (doing.Throw op) other before = if op == other then None else before
 execution_after outer own _ other before = before
@@ -74,8 +76,10 @@ holder_after thread own _ other before = before
 
 -- what a line gives back is taken
 abbrev pub GivesWhatIsTaken : ℕ → Frame → Doing → List Taking → Type 0
-GivesWhatIsTaken thread who (doing.Release thing) all = is_in (record { thread = thread; frame = who; resource = Thing thing }) all ≡ true
-GivesWhatIsTaken thread who (doing.Unlock lock) all = is_in (record { thread = thread; frame = who; resource = Lock lock }) all ≡ true
+GivesWhatIsTaken thread who (doing.Release thing) all =
+    is_in (record { thread = thread; frame = who; resource = Thing thing }) all ≡ true
+GivesWhatIsTaken thread who (doing.Unlock lock) all =
+    is_in (record { thread = thread; frame = who; resource = Lock lock }) all ≡ true
 GivesWhatIsTaken thread who _ all = Unit {0}
 
 -- whether a line spends the handler of this operation
@@ -102,4 +106,5 @@ place_after (Some entered) place other before = if entered.0 == other then Some 
 -- what is to be placed stands nowhere, and nothing stands there
 abbrev pub CanPlace : Queues → Option (ℕ × ℕ) → ℕ → Type 0
 CanPlace kept None place = Unit {0}
-CanPlace kept (Some entered) place = (spot_at kept entered.0 ≡ None) × ((other : ℕ) → spot_at kept other ≢ Some (entered.1, place))
+CanPlace kept (Some entered) place =
+    (spot_at kept entered.0 ≡ None) × ((other : ℕ) → spot_at kept other ≢ Some (entered.1, place))

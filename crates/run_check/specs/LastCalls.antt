@@ -20,4 +20,5 @@ ends_frame _ frame = false
 
 -- what a line by a frame makes of what is kept of any frame; what ended is forgotten
 abbrev pub followed : Frame → Doing → Frame → Option ℕ → Option ℕ
-followed who does frame last = if ends_frame does frame then None else (if same_frame who frame then last_call_after does last else last)
+followed who does frame last =
+    if ends_frame does frame then None else (if same_frame who frame then last_call_after does last else last)

@@ -35,6 +35,8 @@ IsAlone thread resource all = (other : ℕ) → other ≢ thread → list_any (i
 pub record AreCounted (all : List Taking) (kept : Takings) : Type 0 where
   pub exact : (taking : Taking) → count_of same_taking kept.exact taking ≡ times (λ (one : Taking). same_taking one taking) all
   pub by_frame : (who : Frame) → count_of same_frame kept.by_frame who ≡ times (λ (one : Taking). same_frame one.frame who) all
-  pub by_resource : (resource : Resource) → count_of same_resource kept.by_resource resource ≡ times (λ (one : Taking). same_resource one.resource resource) all
-  pub by_thread : (thread : ℕ) (resource : Resource) → count_of same_claimant kept.by_thread (record { thread = thread; resource = resource }) ≡ times (is_of thread resource) all
+  pub by_resource : (resource : Resource) →
+      count_of same_resource kept.by_resource resource ≡ times (λ (one : Taking). same_resource one.resource resource) all
+  pub by_thread : (thread : ℕ) (resource : Resource) →
+      count_of same_claimant kept.by_thread (record { thread = thread; resource = resource }) ≡ times (is_of thread resource) all
   pub number : kept.number ≡ length all

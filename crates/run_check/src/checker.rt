@@ -149,7 +149,8 @@ impl Checker {
     /// Since which place that operation is known to stand in the queue that has to begin before this
     /// one, which waits, and that stands there longest.
     pub fn longest(&self, op: u64) -> Option<u64>
-        ensures { (past : List Line) → IsAfter past self.now → Waits past op → (place : ℕ) → (result ≡ Some place) ↔ StandsLongest past op place }
+        ensures { (past : List Line) → IsAfter past self.now → Waits past op → (place : ℕ) →
+            (result ≡ Some place) ↔ StandsLongest past op place }
     {
         match self.waiting.get(op) {
             Some(waiter) => self.longest_before(&waiter),
@@ -221,7 +222,8 @@ impl Checker {
     }
 
     fn may_call(&self, op: u64) -> Result<(), Rule>
-        ensures { (past : List Line) (word : Word) (context : ℕ) (strand thing : Option ℕ) → IsAfter past self.now → JudgesDoing past 0 (Doing.Call op word context strand thing) result }
+        ensures { (past : List Line) (word : Word) (context : ℕ) (strand thing : Option ℕ) →
+            IsAfter past self.now → JudgesDoing past 0 (Doing.Call op word context strand thing) result }
     {
         asked(is_above(self.greatest, op), Rule::New)
     }
@@ -234,7 +236,8 @@ impl Checker {
     }
 
     fn may_complete(&self, op: u64) -> Result<(), Rule>
-        ensures { (past : List Line) (code : Code) (size : ℕ) → IsAfter past self.now → JudgesDoing past 0 (Doing.Done op code size) result }
+        ensures { (past : List Line) (code : Code) (size : ℕ) → IsAfter past self.now →
+            JudgesDoing past 0 (Doing.Done op code size) result }
     {
         judge_completion(self.waiting.get(op))
     }
@@ -258,7 +261,8 @@ impl Checker {
 
     /// Whether an operation that waits and has this outcome may begin, as far as its strand has a say.
     fn may_start(&self, thread: u64, waiter: &Waiter) -> Result<(), Rule>
-        ensures { (past : List Line) (op : ℕ) (code : Code) (size : ℕ) → IsAfter past self.now → waiter_of past op ≡ Some waiter.now → MayHaveOutcome waiter.now code size →
+        ensures { (past : List Line) (op : ℕ) (code : Code) (size : ℕ) → IsAfter past self.now →
+            waiter_of past op ≡ Some waiter.now → MayHaveOutcome waiter.now code size →
             JudgesDoing past thread (Doing.Begin op code size) result }
     {
         match waiter.strand {
@@ -320,13 +324,16 @@ impl Checker {
     }
 
     fn may_touch(&self, thread: u64, resource: Resource, broken: Rule) -> Result<(), Rule>
-        ensures { (past : List Line) → IsAfter past self.now → MatchResult result (λ _. IsUntouched past thread resource) (λ rule. (rule ≡ broken) × ¬ (IsUntouched past thread resource)) }
+        ensures { (past : List Line) → IsAfter past self.now →
+            MatchResult result (λ _. IsUntouched past thread resource)
+            (λ rule. (rule ≡ broken) × ¬ (IsUntouched past thread resource)) }
     {
         asked(self.is_untouched(thread, resource), broken)
     }
 
     fn may_give(&self, thread: u64, resource: Resource, broken: Rule) -> Result<(), Rule>
-        ensures { (past : List Line) → IsAfter past self.now → MatchResult result (λ _. IsTaken past thread resource) (λ rule. (rule ≡ broken) × ¬ (IsTaken past thread resource)) }
+        ensures { (past : List Line) → IsAfter past self.now →
+            MatchResult result (λ _. IsTaken past thread resource) (λ rule. (rule ≡ broken) × ¬ (IsTaken past thread resource)) }
     {
         asked(self.is_taken(thread, resource), broken)
     }
@@ -339,7 +346,8 @@ impl Checker {
 
     /// Whether this line may come next.
     pub fn may_come(&self, line: &Line) -> Result<(), Rule>
-        ensures { (past : List Line) → IsAfter past self.now → MatchResult result (λ _. MayCome plain past line.now) (λ rule. BreaksRule plain past line.now rule) }
+        ensures { (past : List Line) → IsAfter past self.now →
+            MatchResult result (λ _. MayCome plain past line.now) (λ rule. BreaksRule plain past line.now rule) }
     {
         let thread = line.thread;
         match line.does {
@@ -373,7 +381,8 @@ impl Checker {
 
     /// The strand that the begin of an operation on this thread lets in.
     fn strand_of_begin(&self, thread: u64, op: u64) -> Option<u64>
-        ensures { (past : List Line) → IsAfter past self.now → is_spent past op ≡ false → result ≡ let_in past (strand_of past op) (stack past thread) }
+        ensures { (past : List Line) → IsAfter past self.now → is_spent past op ≡ false →
+            result ≡ let_in past (strand_of past op) (stack past thread) }
     {
         let strand = self.waiting.strand(op);
         let holder = self.strands.holder_of(strand);
@@ -382,7 +391,8 @@ impl Checker {
 
     /// The strand that goes with a line: what a begin lets in, and what an end lets go.
     fn strand_with(&self, thread: u64, does: &Doing) -> Option<u64>
-        ensures { (past : List Line) → IsAfter past self.now → MayDo plain past thread does.now → GoesWith past self.now.stacks thread does.now result }
+        ensures { (past : List Line) → IsAfter past self.now → MayDo plain past thread does.now →
+            GoesWith past self.now.stacks thread does.now result }
     {
         match *does {
             Doing::Begin { op, .. } => self.strand_of_begin(thread, op),
@@ -402,7 +412,8 @@ impl Checker {
 
     /// Follows a line that may come. Where there is no room, nothing is said of what was kept.
     pub fn follow(&mut self, line: &Line) -> Result<(), NoRoom>
-        ensures { IfOk result (λ _. (past : List Line) → IsAfter past self.old → MayCome plain past line.now → IsAfter (line.now ∷ past) self.new) }
+        ensures { IfOk result
+            (λ _. (past : List Line) → IsAfter past self.old → MayCome plain past line.now → IsAfter (line.now ∷ past) self.new) }
     {
         let thread = line.thread;
         let frame = self.stacks.frame(thread);

@@ -28,7 +28,8 @@ impl<K: Eq + Hash + Copy> Counts<K> {
     }
 
     pub(crate) fn add(&mut self, key: K) -> Result<(), NoRoom>
-        ensures { IfOk result (λ _. (other : K) → count_of K.eq self.new other ≡ (if K.eq key other then 1 else 0) + count_of K.eq self.old other) }
+        ensures { IfOk result
+            (λ _. (other : K) → count_of K.eq self.new other ≡ (if K.eq key other then 1 else 0) + count_of K.eq self.old other) }
     {
         let more = self.get(key).checked_add(1).ok_or(NoRoom)?;
         self.numbers.insert(key, more)?;
@@ -36,7 +37,8 @@ impl<K: Eq + Hash + Copy> Counts<K> {
     }
 
     pub(crate) fn take_away(&mut self, key: K) -> Result<(), NoRoom>
-        ensures { IfOk result (λ _. (other : K) → count_of K.eq self.new other ≡ count_of K.eq self.old other - (if K.eq key other then 1 else 0)) }
+        ensures { IfOk result
+            (λ _. (other : K) → count_of K.eq self.new other ≡ count_of K.eq self.old other - (if K.eq key other then 1 else 0)) }
     {
         let count = self.get(key);
         if count <= 1 {

@@ -42,7 +42,9 @@ impl Entered {
     }
 
     pub(crate) fn follow(&mut self, thread: u64, does: &Doing) -> Result<(), AllocError>
-        ensures { IfOk result (λ _. (other : ℕ) → entered_of self.new other ≡ (if thread == other then entered_by does.now else entered_of self.old other)) }
+        ensures { IfOk result
+            (λ _. (other : ℕ) →
+            entered_of self.new other ≡ (if thread == other then entered_by does.now else entered_of self.old other)) }
     {
         match entered_by(does) {
             Some(op) => {

@@ -30,20 +30,24 @@ impl LastCalls {
     }
 
     fn put(&mut self, who: Frame, op: u64) -> Result<(), AllocError>
-        ensures { IfOk result (λ _. (frame : Frame) → last_call_of self.new frame ≡ (if same_frame who frame then Some op else last_call_of self.old frame)) }
+        ensures { IfOk result
+            (λ _. (frame : Frame) →
+            last_call_of self.new frame ≡ (if same_frame who frame then Some op else last_call_of self.old frame)) }
     {
         self.calls.insert(who, op)?;
         Ok(())
     }
 
     fn forget(&mut self, who: Frame)
-        ensures { (frame : Frame) → last_call_of self.new frame ≡ (if same_frame who frame then None else last_call_of self.old frame) }
+        ensures { (frame : Frame) →
+            last_call_of self.new frame ≡ (if same_frame who frame then None else last_call_of self.old frame) }
     {
         self.calls.remove(&who);
     }
 
     pub(crate) fn follow(&mut self, who: Frame, does: &Doing) -> Result<(), AllocError>
-        ensures { IfOk result (λ _. (frame : Frame) → last_call_of self.new frame ≡ followed who does.now frame (last_call_of self.old frame)) }
+        ensures { IfOk result
+            (λ _. (frame : Frame) → last_call_of self.new frame ≡ followed who does.now frame (last_call_of self.old frame)) }
     {
         match *does {
             Doing::Call { op, .. } => {

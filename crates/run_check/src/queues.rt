@@ -20,7 +20,8 @@ pub(crate) struct Queues {
 fn at_or_after(order: &BTreeMap<(u64, u64), u64>, least: (u64, u64)) -> Option<((u64, u64), u64)>
     ensures found { IfSome result (λ e. get spot_cmp order.now e.0 ≡ Some e.1) }
     ensures within { IfSome result (λ e. IsLeBy spot_cmp least e.0) }
-    ensures least { (q : ℕ × ℕ) → IsLeBy spot_cmp least q → IsSome (get spot_cmp order.now q) → IsSomeAnd result (λ e. IsLeBy spot_cmp e.0 q) }
+    ensures least { (q : ℕ × ℕ) → IsLeBy spot_cmp least q → IsSome (get spot_cmp order.now q) →
+        IsSomeAnd result (λ e. IsLeBy spot_cmp e.0 q) }
 {
     match order.range(least..).next() {
         Some((spot, op)) => Some((*spot, *op)),
@@ -57,7 +58,8 @@ impl Queues {
 
     /// Since when the operation stands that stands longest in the queue of a strand, and which it is.
     pub(crate) fn first(&self, strand: u64) -> Option<(u64, u64)>
-        ensures least { AreInOrder self.now → (op place : ℕ) → spot_at self.now op ≡ Some (strand, place) → IsSomeAnd result (λ first. first.0 ≤ place) }
+        ensures least { AreInOrder self.now → (op place : ℕ) → spot_at self.now op ≡ Some (strand, place) →
+            IsSomeAnd result (λ first. first.0 ≤ place) }
         ensures stands { AreInOrder self.now → IfSome result (λ first. spot_at self.now first.1 ≡ Some (strand, first.0)) }
     {
         let found = at_or_after(&self.order, (strand, 0));
@@ -65,8 +67,11 @@ impl Queues {
     }
 
     pub(crate) fn put(&mut self, op: u64, strand: u64, place: u64) -> Result<(), AllocError>
-        ensures ordered { OnOk result (AreInOrder self.old → spot_at self.old op ≡ None → ((other : ℕ) → spot_at self.old other ≢ Some (strand, place)) → AreInOrder self.new) }
-        ensures spots { IfOk result (λ _. (other : ℕ) → spot_at self.new other ≡ (if op == other then Some (strand, place) else spot_at self.old other)) }
+        ensures ordered { OnOk result
+            (AreInOrder self.old → spot_at self.old op ≡ None →
+            ((other : ℕ) → spot_at self.old other ≢ Some (strand, place)) → AreInOrder self.new) }
+        ensures spots { IfOk result
+            (λ _. (other : ℕ) → spot_at self.new other ≡ (if op == other then Some (strand, place) else spot_at self.old other)) }
     {
         self.order.insert((strand, place), op)?;
         self.spots.insert(op, (strand, place))?;

@@ -65,7 +65,9 @@ impl Stacks {
     }
 
     fn begin(&mut self, thread: u64, op: u64, strand: Option<u64>) -> Result<(), AllocError>
-        ensures innermost { IfOk result (λ _. (other : ℕ) → innermost_of self.new other ≡ (if thread == other then Some op else innermost_of self.old other)) }
+        ensures innermost { IfOk result
+            (λ _. (other : ℕ) →
+            innermost_of self.new other ≡ (if thread == other then Some op else innermost_of self.old other)) }
         ensures executions { IfOk result (λ _. (other : ℕ) → execution_of self.new other ≡
             (if op == other then Some (record { outer = innermost_of self.old thread; strand = strand }) else execution_of self.old other)) }
     {
@@ -92,8 +94,14 @@ impl Stacks {
         does: &Doing,
         own: Option<u64>,
     ) -> Result<(), AllocError>
-        ensures innermost { IfOk result (λ _. (other : ℕ) → innermost_of self.new other ≡ innermost_after (execution_of self.old) thread does.now other (innermost_of self.old other)) }
-        ensures executions { IfOk result (λ _. (other : ℕ) → execution_of self.new other ≡ execution_after (innermost_of self.old thread) own does.now other (execution_of self.old other)) }
+        ensures innermost { IfOk result
+            (λ _. (other : ℕ) →
+            innermost_of self.new other ≡ innermost_after (execution_of self.old) thread does.now other
+            (innermost_of self.old other)) }
+        ensures executions { IfOk result
+            (λ _. (other : ℕ) →
+            execution_of self.new other ≡ execution_after (innermost_of self.old thread) own does.now other
+            (execution_of self.old other)) }
     {
         match *does {
             Doing::Begin { op, .. } => self.begin(thread, op, own),
@@ -104,8 +112,12 @@ impl Stacks {
 
     /// Takes the innermost execution of a thread away.
     fn end(&mut self, thread: u64, op: u64) -> Result<(), AllocError>
-        ensures innermost { IfOk result (λ _. (other : ℕ) → innermost_of self.new other ≡ (if thread == other then outer_of (execution_of self.old op) else innermost_of self.old other)) }
-        ensures executions { IfOk result (λ _. (other : ℕ) → execution_of self.new other ≡ (if op == other then None else execution_of self.old other)) }
+        ensures innermost { IfOk result
+            (λ _. (other : ℕ) →
+            innermost_of self.new
+            other ≡ (if thread == other then outer_of (execution_of self.old op) else innermost_of self.old other)) }
+        ensures executions { IfOk result
+            (λ _. (other : ℕ) → execution_of self.new other ≡ (if op == other then None else execution_of self.old other)) }
     {
         let ended = self.executions.remove(&op);
         let Some(execution) = ended else {

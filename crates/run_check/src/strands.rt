@@ -45,7 +45,8 @@ impl Strands {
         does: &Doing,
         own: Option<u64>,
     ) -> Result<(), AllocError>
-        ensures { IfOk result (λ _. (other : ℕ) → holder_of self.new other ≡ holder_after thread own does.now other (holder_of self.old other)) }
+        ensures { IfOk result
+            (λ _. (other : ℕ) → holder_of self.new other ≡ holder_after thread own does.now other (holder_of self.old other)) }
     {
         let Some(strand) = own else {
             return Ok(());
@@ -61,7 +62,8 @@ impl Strands {
     }
 
     pub(crate) fn hold(&mut self, strand: u64, thread: u64) -> Result<(), AllocError>
-        ensures { IfOk result (λ _. (other : ℕ) → holder_of self.new other ≡ (if strand == other then Some thread else holder_of self.old other)) }
+        ensures { IfOk result
+            (λ _. (other : ℕ) → holder_of self.new other ≡ (if strand == other then Some thread else holder_of self.old other)) }
     {
         self.holders.insert(strand, thread)?;
         Ok(())

@@ -11,7 +11,8 @@ pub(crate) fn put<K: Eq + Hash + Drop, V: Drop>(
     key: K,
     value: V,
 ) -> Result<(), AllocError>
-    ensures { IfOk result (λ _. (other : K) → get K.eq table.new other ≡ (if K.eq key other then Some value else get K.eq table.old other)) }
+    ensures { IfOk result
+        (λ _. (other : K) → get K.eq table.new other ≡ (if K.eq key other then Some value else get K.eq table.old other)) }
 {
     table.insert(key, value)?;
     Ok(())

@@ -102,7 +102,9 @@ impl Takings {
     }
 
     pub(crate) fn give(&mut self, taking: Taking) -> Result<(), NoRoom>
-        ensures { IfOk result (λ _. (all : List Taking) → AreCounted all self.old → is_in taking all ≡ true → AreCounted (without taking all) self.new) }
+        ensures { IfOk result
+            (λ _. (all : List Taking) → AreCounted all self.old → is_in taking all ≡ true →
+            AreCounted (without taking all) self.new) }
     {
         self.exact.take_away(taking)?;
         self.by_frame.take_away(taking.frame)?;
@@ -114,7 +116,9 @@ impl Takings {
 
     /// Follows a line of a thread, by this frame.
     pub(crate) fn follow(&mut self, thread: u64, frame: Frame, does: &Doing) -> Result<(), NoRoom>
-        ensures { IfOk result (λ _. (all : List Taking) → AreCounted all self.old → GivesWhatIsTaken thread frame does.now all → AreCounted (taken_after thread frame does.now all) self.new) }
+        ensures { IfOk result
+            (λ _. (all : List Taking) → AreCounted all self.old → GivesWhatIsTaken thread frame does.now all →
+            AreCounted (taken_after thread frame does.now all) self.new) }
     {
         match *does {
             Doing::Claim { thing } => self.take(Taking {

@@ -122,7 +122,8 @@ impl Waiting {
     }
 
     pub(crate) fn put(&mut self, op: u64, waiter: Waiter) -> Result<(), AllocError>
-        ensures { IfOk result (λ _. (other : ℕ) → waiting_at self.new other ≡ (if op == other then Some waiter else waiting_at self.old other)) }
+        ensures { IfOk result
+            (λ _. (other : ℕ) → waiting_at self.new other ≡ (if op == other then Some waiter else waiting_at self.old other)) }
     {
         // the borrow checker's plan has to be told of the types within
         let _outcome: Option<Outcome> = waiter.outcome;
@@ -147,7 +148,9 @@ impl Waiting {
         place: u64,
         does: &Doing,
     ) -> Result<(), AllocError>
-        ensures { IfOk result (λ _. (other : ℕ) → waiting_at self.new other ≡ waiter_after caller place does.now other (waiting_at self.old other)) }
+        ensures { IfOk result
+            (λ _. (other : ℕ) →
+            waiting_at self.new other ≡ waiter_after caller place does.now other (waiting_at self.old other)) }
     {
         match *does {
             Doing::Call {

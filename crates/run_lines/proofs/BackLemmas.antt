@@ -30,10 +30,12 @@ use Rattle.run_lines.specs.Words.{words_of}
 use Rattle.run_lines.proofs.LettersLemmas.{both_true}
 use Rattle.run_lines.proofs.ValuesLemmas.{code_back, kind_back, number_back, optional_back, word_back}
 
-pub lacks_first : (byte b : ℕ) (bytes : List ℕ) → lacks byte (b ∷ bytes) ≡ true → ((b == byte) ≡ false) × (lacks byte bytes ≡ true)
+pub lacks_first : (byte b : ℕ) (bytes : List ℕ) → lacks byte (b ∷ bytes) ≡ true →
+    ((b == byte) ≡ false) × (lacks byte bytes ≡ true)
 lacks_first byte b bytes h = (grind (arith, nat_tests), grind (arith, nat_tests))
 
-pub lacks-append : (byte : ℕ) (front back : List ℕ) → lacks byte front ≡ true → lacks byte back ≡ true → lacks byte (front ++ back) ≡ true
+pub lacks-append : (byte : ℕ) (front back : List ℕ) → lacks byte front ≡ true → lacks byte back ≡ true →
+    lacks byte (front ++ back) ≡ true
 lacks-append byte [] back f b = b
 lacks-append byte (x ∷ front) back f b =
     let parts = both_true (not (x == byte)) (lacks byte front) f in
@@ -176,8 +178,10 @@ outcome_back : (op : ℕ) (c : Code) (size : ℕ) → Is64 op → IsCode c → I
     outcome_in (decimal op ∷ code_text c ∷ decimal size ∷ []) ≡ Ok (op, c, size)
 unfolding outcome_in number_at code_at
 outcome_back op c size h i j =
-    ap (λ f. found wants.Number 3 (code_text c ∷ decimal size ∷ []) f >>= λ o. value_at wants.Letters code_in 4 o.1 >>= λ k. value_at wants.Number number_in 5 k.1 >>= λ s. end_at 6 s.1 >>= λ _. Ok (o.0, k.0, s.0)) (number_back op h)
-    ∙ ap (λ f. found wants.Letters 4 (decimal size ∷ []) f >>= λ k. value_at wants.Number number_in 5 k.1 >>= λ s. end_at 6 s.1 >>= λ _. Ok (op, k.0, s.0)) (code_back c i)
+    ap (λ f. found wants.Number 3 (code_text c ∷ decimal size ∷ []) f >>= λ o. value_at wants.Letters code_in 4
+    o.1 >>= λ k. value_at wants.Number number_in 5 k.1 >>= λ s. end_at 6 s.1 >>= λ _. Ok (o.0, k.0, s.0)) (number_back op h)
+    ∙ ap (λ f. found wants.Letters 4 (decimal size ∷ []) f >>= λ k. value_at wants.Number number_in 5 k.1 >>=
+    λ s. end_at 6 s.1 >>= λ _. Ok (op, k.0, s.0)) (code_back c i)
     ∙ ap (λ f. found wants.Number 5 [] f >>= λ s. end_at 6 s.1 >>= λ _. Ok (op, c, s.0)) (number_back size j)
 
 call_back : (op : ℕ) (w : Word) (context : ℕ) (strand thing : Option ℕ) → IsDoing (doing.Call op w context strand thing) →
@@ -185,11 +189,22 @@ call_back : (op : ℕ) (w : Word) (context : ℕ) (strand thing : Option ℕ) �
     ≡ Ok (doing.Call op w context strand thing)
 unfolding call_in number_at word_at optional_at
 call_back op w context strand thing h =
-    ap (λ f. found wants.Number 3 (word_text w ∷ decimal context ∷ optional_text strand ∷ optional_text thing ∷ []) f >>= λ o. value_at wants.Letters word_in 4 o.1 >>= λ k. value_at wants.Number number_in 5 k.1 >>= λ x. value_at wants.NumberOrDash optional_in 6 x.1 >>= λ y. value_at wants.NumberOrDash optional_in 7 y.1 >>= λ z. end_at 8 z.1 >>= λ _. Ok (doing.Call o.0 k.0 x.0 y.0 z.0)) (number_back op h.0)
-    ∙ ap (λ f. found wants.Letters 4 (decimal context ∷ optional_text strand ∷ optional_text thing ∷ []) f >>= λ k. value_at wants.Number number_in 5 k.1 >>= λ x. value_at wants.NumberOrDash optional_in 6 x.1 >>= λ y. value_at wants.NumberOrDash optional_in 7 y.1 >>= λ z. end_at 8 z.1 >>= λ _. Ok (doing.Call op k.0 x.0 y.0 z.0)) (word_back w h.1)
-    ∙ ap (λ f. found wants.Number 5 (optional_text strand ∷ optional_text thing ∷ []) f >>= λ x. value_at wants.NumberOrDash optional_in 6 x.1 >>= λ y. value_at wants.NumberOrDash optional_in 7 y.1 >>= λ z. end_at 8 z.1 >>= λ _. Ok (doing.Call op w x.0 y.0 z.0)) (number_back context h.2)
-    ∙ ap (λ f. found wants.NumberOrDash 6 (optional_text thing ∷ []) f >>= λ y. value_at wants.NumberOrDash optional_in 7 y.1 >>= λ z. end_at 8 z.1 >>= λ _. Ok (doing.Call op w context y.0 z.0)) (optional_back strand h.3)
-    ∙ ap (λ f. found wants.NumberOrDash 7 [] f >>= λ z. end_at 8 z.1 >>= λ _. Ok (doing.Call op w context strand z.0)) (optional_back thing h.4)
+    ap (λ f. found wants.Number 3
+    (word_text w ∷ decimal context ∷ optional_text strand ∷ optional_text thing ∷ []) f >>= λ o. value_at
+    wants.Letters word_in 4 o.1 >>= λ k. value_at wants.Number number_in 5 k.1 >>= λ x. value_at
+    wants.NumberOrDash optional_in 6 x.1 >>= λ y. value_at wants.NumberOrDash optional_in 7 y.1 >>= λ z.
+    end_at 8 z.1 >>= λ _. Ok (doing.Call o.0 k.0 x.0 y.0 z.0)) (number_back op h.0)
+    ∙ ap (λ f. found wants.Letters 4 (decimal context ∷ optional_text strand ∷ optional_text thing ∷ []) f >>=
+    λ k. value_at wants.Number number_in 5 k.1 >>= λ x. value_at wants.NumberOrDash optional_in 6 x.1 >>=
+    λ y. value_at wants.NumberOrDash optional_in 7 y.1 >>= λ z. end_at 8 z.1 >>= λ _. Ok
+    (doing.Call op k.0 x.0 y.0 z.0)) (word_back w h.1)
+    ∙ ap (λ f. found wants.Number 5 (optional_text strand ∷ optional_text thing ∷ []) f >>= λ x. value_at
+    wants.NumberOrDash optional_in 6 x.1 >>= λ y. value_at wants.NumberOrDash optional_in 7 y.1 >>= λ z.
+    end_at 8 z.1 >>= λ _. Ok (doing.Call op w x.0 y.0 z.0)) (number_back context h.2)
+    ∙ ap (λ f. found wants.NumberOrDash 6 (optional_text thing ∷ []) f >>= λ y. value_at wants.NumberOrDash
+    optional_in 7 y.1 >>= λ z. end_at 8 z.1 >>= λ _. Ok (doing.Call op w context y.0 z.0)) (optional_back strand h.3)
+    ∙ ap (λ f. found wants.NumberOrDash 7 [] f >>= λ z. end_at 8 z.1 >>= λ _. Ok
+    (doing.Call op w context strand z.0)) (optional_back thing h.4)
 
 abbrev lined : ℕ → Doing → PlainEntry
 lined thread does = line (record { thread = thread; does = does })
@@ -228,7 +243,8 @@ name_back : (k : Kind) (number : ℕ) (text : List ℕ) → Is64 number → IsTe
 unfolding name_in kind_at number_at
 name_back k number text fits is =
     let whole : join_with_byte 32 (words_of text) ≡ text = join_with_byte-slice_split 32 text in
-    ap (λ f. found wants.Kind 2 (decimal number ∷ words_of text) f >>= λ x. value_at wants.Number number_in 3 x.1 >>= λ n. text_at 4 n.1 >>= λ t. Ok (name x.0 n.0 t)) (kind_back k)
+    ap (λ f. found wants.Kind 2 (decimal number ∷ words_of text) f >>= λ x. value_at wants.Number number_in 3
+    x.1 >>= λ n. text_at 4 n.1 >>= λ t. Ok (name x.0 n.0 t)) (kind_back k)
     ∙ ap (λ f. found wants.Number 3 (words_of text) f >>= λ n. text_at 4 n.1 >>= λ t. Ok (name k n.0 t)) (number_back number fits)
     ∙ ap (λ t. (if is_text t then Ok t else Err (wrong 4 wants.Text)) >>= λ t. Ok (name k number t)) whole
     ∙ ap (λ test. (if test then Ok text else Err (wrong 4 wants.Text)) >>= λ t. Ok (name k number t)) is

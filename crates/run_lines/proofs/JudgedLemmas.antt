@@ -39,7 +39,8 @@ bad_behind at wanted others bytes rest F (Err bad) may judged = inr (bytes, rest
 judged_found : {A V : Type 0} (wanted : Wants) (parse : List ℕ → Option V) (Is : V → List ℕ → Type 0) →
     Reads wanted parse Is → (others : List Wants) (at : ℕ) (bytes : List ℕ) (rest : Rest) (F : A → Rest → Type 0)
     (f : V × Rest → Result A BadLine) (read : Option V) → parse bytes ≡ read →
-    ((v : V) (bytes : List ℕ) (rest : Rest) → Is v bytes → Judged (at + 1) others rest (λ a fields. F a (bytes ∷ fields)) (f (v, rest))) →
+    ((v : V) (bytes : List ℕ) (rest : Rest) → Is v bytes →
+    Judged (at + 1) others rest (λ a fields. F a (bytes ∷ fields)) (f (v, rest))) →
     Judged at (wanted ∷ others) (bytes ∷ rest) F (found wanted at rest read >>= f)
 judged_found wanted parse Is reads others at bytes rest F f (Some v) e later =
     let is = reads.sound bytes v e in
@@ -49,7 +50,8 @@ judged_found wanted parse Is reads others at bytes rest F f None e later = inl (
 by_value : {A V : Type 0} (wanted : Wants) (parse : List ℕ → Option V) (Is : V → List ℕ → Type 0) →
     Reads wanted parse Is → (others : List Wants) (at : ℕ) (ws : Rest) (F : A → Rest → Type 0)
     (f : V × Rest → Result A BadLine) →
-    ((v : V) (bytes : List ℕ) (rest : Rest) → Is v bytes → Judged (at + 1) others rest (λ a fields. F a (bytes ∷ fields)) (f (v, rest))) →
+    ((v : V) (bytes : List ℕ) (rest : Rest) → Is v bytes →
+    Judged (at + 1) others rest (λ a fields. F a (bytes ∷ fields)) (f (v, rest))) →
     Judged at (wanted ∷ others) ws F (value_at wanted parse at ws >>= f)
 by_value wanted parse Is reads others at [] F f later = inl (refl, reads.missing)
 by_value wanted parse Is reads others at (bytes ∷ rest) F f later =
@@ -87,9 +89,11 @@ outcome_judged : (ws : Rest) →
 unfolding outcome_in number_at code_at
 outcome_judged ws =
     by_value wants.Number number_in SaysNumber numbers (wants.Letters ∷ wants.Number ∷ wants.Nothing ∷ []) 3 ws IsOutcome
-    (λ op. value_at wants.Letters code_in 4 op.1 >>= λ code. value_at wants.Number number_in 5 code.1 >>= λ size. end_at 6 size.1 >>= λ _. Ok (op.0, code.0, size.0))
+    (λ op. value_at wants.Letters code_in 4 op.1 >>= λ code. value_at wants.Number number_in 5 code.1 >>=
+    λ size. end_at 6 size.1 >>= λ _. Ok (op.0, code.0, size.0))
     (λ op a rest is_op.
-    by_value wants.Letters code_in SaysCode coded (wants.Number ∷ wants.Nothing ∷ []) 4 rest (λ of fields. IsOutcome of (a ∷ fields))
+    by_value wants.Letters code_in SaysCode coded (wants.Number ∷ wants.Nothing ∷ []) 4 rest
+    (λ of fields. IsOutcome of (a ∷ fields))
     (λ code. value_at wants.Number number_in 5 code.1 >>= λ size. end_at 6 size.1 >>= λ _. Ok (op, code.0, size.0))
     (λ code b rest is_code.
     by_value wants.Number number_in SaysNumber numbers (wants.Nothing ∷ []) 5 rest (λ of fields. IsOutcome of (a ∷ b ∷ fields))
@@ -108,19 +112,25 @@ call_judged ws =
     let F : Doing → Rest → Type 0 = SaysDoing verb.Call in
     by_value wants.Number number_in SaysNumber numbers
     (wants.Letters ∷ wants.Number ∷ wants.NumberOrDash ∷ wants.NumberOrDash ∷ wants.Nothing ∷ []) 3 ws F
-    (λ op. value_at wants.Letters word_in 4 op.1 >>= λ word. value_at wants.Number number_in 5 word.1 >>= λ context. value_at wants.NumberOrDash optional_in 6 context.1 >>= λ strand. value_at wants.NumberOrDash optional_in 7 strand.1 >>= λ thing. end_at 8 thing.1 >>= λ _. Ok (doing.Call op.0 word.0 context.0 strand.0 thing.0))
+    (λ op. value_at wants.Letters word_in 4 op.1 >>= λ word. value_at wants.Number number_in 5 word.1 >>=
+    λ context. value_at wants.NumberOrDash optional_in 6 context.1 >>= λ strand. value_at wants.NumberOrDash
+    optional_in 7 strand.1 >>= λ thing. end_at 8 thing.1 >>= λ _. Ok (doing.Call op.0 word.0 context.0 strand.0 thing.0))
     (λ op a rest is_op.
     by_value wants.Letters word_in SaysWord words
     (wants.Number ∷ wants.NumberOrDash ∷ wants.NumberOrDash ∷ wants.Nothing ∷ []) 4 rest (λ d fields. F d (a ∷ fields))
-    (λ word. value_at wants.Number number_in 5 word.1 >>= λ context. value_at wants.NumberOrDash optional_in 6 context.1 >>= λ strand. value_at wants.NumberOrDash optional_in 7 strand.1 >>= λ thing. end_at 8 thing.1 >>= λ _. Ok (doing.Call op word.0 context.0 strand.0 thing.0))
+    (λ word. value_at wants.Number number_in 5 word.1 >>= λ context. value_at wants.NumberOrDash optional_in 6
+    context.1 >>= λ strand. value_at wants.NumberOrDash optional_in 7 strand.1 >>= λ thing. end_at 8 thing.1
+    >>= λ _. Ok (doing.Call op word.0 context.0 strand.0 thing.0))
     (λ word b rest is_word.
     by_value wants.Number number_in SaysNumber numbers (wants.NumberOrDash ∷ wants.NumberOrDash ∷ wants.Nothing ∷ []) 5 rest
     (λ d fields. F d (a ∷ b ∷ fields))
-    (λ context. value_at wants.NumberOrDash optional_in 6 context.1 >>= λ strand. value_at wants.NumberOrDash optional_in 7 strand.1 >>= λ thing. end_at 8 thing.1 >>= λ _. Ok (doing.Call op word context.0 strand.0 thing.0))
+    (λ context. value_at wants.NumberOrDash optional_in 6 context.1 >>= λ strand. value_at wants.NumberOrDash
+    optional_in 7 strand.1 >>= λ thing. end_at 8 thing.1 >>= λ _. Ok (doing.Call op word context.0 strand.0 thing.0))
     (λ context x rest is_context.
     by_value wants.NumberOrDash optional_in SaysOptional optionals (wants.NumberOrDash ∷ wants.Nothing ∷ []) 6 rest
     (λ d fields. F d (a ∷ b ∷ x ∷ fields))
-    (λ strand. value_at wants.NumberOrDash optional_in 7 strand.1 >>= λ thing. end_at 8 thing.1 >>= λ _. Ok (doing.Call op word context strand.0 thing.0))
+    (λ strand. value_at wants.NumberOrDash optional_in 7 strand.1 >>= λ thing. end_at 8 thing.1 >>= λ _. Ok
+    (doing.Call op word context strand.0 thing.0))
     (λ strand y rest is_strand.
     by_value wants.NumberOrDash optional_in SaysOptional optionals (wants.Nothing ∷ []) 7 rest
     (λ d fields. F d (a ∷ b ∷ x ∷ y ∷ fields))
@@ -145,7 +155,8 @@ of_outcome : (verb : Verb) (g : ℕ × Code × ℕ → Doing) (ws : Rest) →
     Judged 3 (wants.Number ∷ wants.Letters ∷ wants.Number ∷ wants.Nothing ∷ []) ws (SaysDoing verb)
     (outcome_in ws >>= λ of. Ok (g of))
 of_outcome verb g ws is says =
-    judged_map 3 (wants.Number ∷ wants.Letters ∷ wants.Number ∷ wants.Nothing ∷ []) ws IsOutcome (SaysDoing verb) g (outcome_in ws)
+    judged_map 3 (wants.Number ∷ wants.Letters ∷ wants.Number ∷ wants.Nothing ∷ []) ws IsOutcome
+    (SaysDoing verb) g (outcome_in ws)
     (λ of one. (is of one.0 one.1 one.2, says of ∙ ap (λ fields. verb_text verb ∷ fields) (sym one.3))) (outcome_judged ws)
 
 doing_judged : (verb : Verb) (ws : Rest) → Judged 3 (fields_of verb) ws (SaysDoing verb) (doing_in verb ws)
@@ -177,7 +188,8 @@ JudgedEntry ws (Err bad) = IsBadLine ws bad
 text_judged : (number : ℕ) (ws : Rest) (F : PlainEntry → Rest → Type 0) (g : List ℕ → PlainEntry) (test : Bool) →
     is_text (join_with_byte 32 ws) ≡ test →
     (is_text (join_with_byte 32 ws) ≡ true → F (g (join_with_byte 32 ws)) ws) →
-    Judged 4 (wants.Text ∷ []) ws F ((if test then Ok (join_with_byte 32 ws) else Err (wrong 4 wants.Text)) >>= λ text. Ok (g text))
+    Judged 4 (wants.Text ∷ []) ws F
+    ((if test then Ok (join_with_byte 32 ws) else Err (wrong 4 wants.Text)) >>= λ text. Ok (g text))
 text_judged number ws F g true e is = is e
 text_judged number ws F g false e is = inl (refl, λ yes. cc)
 
@@ -229,7 +241,8 @@ IsLined thread e fields = IsEntry e × (join_with_byte 32 (decimal thread ∷ fi
 
 found_verb : (thread : ℕ) → Is64 thread → (bytes : List ℕ) (rest : Rest) (read : Option Verb) → verb_in bytes ≡ read →
     JudgedRest (bytes ∷ rest) (IsLined thread)
-    (found wants.Verb 2 rest read >>= λ said. doing_in said.0 said.1 >>= λ does. Ok (line (record { thread = thread; does = does })))
+    (found wants.Verb 2 rest read >>= λ said. doing_in said.0 said.1 >>= λ does. Ok
+    (line (record { thread = thread; does = does })))
 found_verb thread fits bytes rest (Some v) e =
     let same : bytes ≡ verb_text v = verbs.sound bytes v e in
     behind_verb thread v bytes rest (IsLined thread) (doing_in v rest) same (doing_judged v rest)

@@ -36,5 +36,11 @@ held_fresh bytes copied is same =
       within = few;
       letters = subst IsLetters (sym front) is;
       unused = whole ∙ ap padded (sym front);
-      full = omega (arith, ap length whole, length-append bytes (replicate (32 - length bytes) 0), length-replicate {A = ℕ} (32 - length bytes) 0);
+      full = omega (
+        arith,
+        ap length whole,
+        length-append bytes (replicate (32 - length bytes) 0),
+        length-replicate
+            {A = ℕ} (32 - length bytes) 0,
+      );
     }

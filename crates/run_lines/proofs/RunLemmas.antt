@@ -75,7 +75,8 @@ no_line : (a x : List ℕ) → ◌≡◌ {A = List ℕ} [] (a ++ 10 ∷ [] ++ x)
 no_line [] x e = cc
 no_line (b ∷ a) x e = cc
 
-bodies_are_unique : (first second : List PlainEntry) → AreEntries first → AreEntries second → body first ≡ body second → first ≡ second
+bodies_are_unique : (first second : List PlainEntry) → AreEntries first → AreEntries second →
+    body first ≡ body second → first ≡ second
 bodies_are_unique [] [] h k same = refl
 bodies_are_unique [] (f ∷ second) h k same = absurd (no_line (entry_text f) (body second) same)
 bodies_are_unique (e ∷ first) [] h k same = absurd (no_line (entry_text e) (body first) (sym same))

@@ -122,12 +122,23 @@ optionals = record {
 -- what initiates an operation
 word_choice : (bytes : List ℕ) (post defer dispatch : Bool) → bytes_eq bytes (codes "post") ≡ post →
     bytes_eq bytes (codes "defer") ≡ defer → bytes_eq bytes (codes "dispatch") ≡ dispatch → IsLetters bytes →
-    SaysWord (if post then word.Post else (if defer then word.Defer else (if dispatch then word.Dispatch else word.Other bytes))) bytes
+    SaysWord (if post then word.Post
+    else (if defer then word.Defer else (if dispatch then word.Dispatch else word.Other bytes))) bytes
 word_choice bytes true b c p q r h = (tt, same bytes (codes "post") p)
 word_choice bytes false true c p q r h = (tt, same bytes (codes "defer") q)
 word_choice bytes false false true p q r h = (tt, same bytes (codes "dispatch") r)
-word_choice bytes false false false p q r h =
-    ((h, record { not_post = other bytes (codes "post") p; not_defer = other bytes (codes "defer") q; not_dispatch = other bytes (codes "dispatch") r }), refl)
+word_choice bytes false false false p q r h = (
+  (
+    h,
+    record {
+      not_post = other bytes (codes "post") p;
+      not_defer =
+          other bytes (codes "defer") q;
+      not_dispatch = other bytes (codes "dispatch") r;
+    },
+  ),
+  refl,
+)
 
 word_says : (bytes : List ℕ) → IsLetters bytes → SaysWord (word_of bytes) bytes
 unfolding word_of
@@ -159,7 +170,12 @@ word_of_text word.Post h = refl
 word_of_text word.Defer h = refl
 word_of_text word.Dispatch h = refl
 word_of_text (word.Other letters) h =
-    rw (differ letters (codes "post") h.1.not_post, differ letters (codes "defer") h.1.not_defer, differ letters (codes "dispatch") h.1.not_dispatch) refl
+    rw (
+      differ letters (codes "post") h.1.not_post,
+      differ letters (codes "defer") h.1.not_defer,
+      differ letters
+          (codes "dispatch") h.1.not_dispatch,
+    ) refl
 
 pub word_back : (w : Word) → IsWord w → word_in (word_text w) ≡ Some w
 word_back w h =

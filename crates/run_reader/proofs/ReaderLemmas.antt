@@ -6,12 +6,14 @@ use Rattle.run_reader.specs.Reader.{IsWhollyRead, TakesLine}
 pub fits_64 : (at : ℕ) (bytes : List ℕ) → at < length bytes → length bytes ≤ most_held → Fits w64 (at + 1)
 fits_64 at bytes within few = omega arith
 
-cut_at : (bytes : List ℕ) (at : ℕ) → at < length bytes → get_or bytes at 0 ≡ 10 → bytes ≡ take at bytes ++ 10 ∷ drop (suc at) bytes
+cut_at : (bytes : List ℕ) (at : ℕ) → at < length bytes → get_or bytes at 0 ≡ 10 →
+    bytes ≡ take at bytes ++ 10 ∷ drop (suc at) bytes
 cut_at [] at within is = absurd (omega arith)
 cut_at (x ∷ bytes) zero within is = ap (λ y. y ∷ bytes) is
 cut_at (x ∷ bytes) (suc at) within is = ap (λ ys. x ∷ ys) (cut_at bytes at (omega arith) is)
 
-pub takes_line : (at : ℕ) (held consumed bytes : List ℕ) (left left_after : Option (List ℕ)) → held ≡ consumed → at < length bytes →
+pub takes_line : (at : ℕ) (held consumed bytes : List ℕ) (left left_after : Option (List ℕ)) → held ≡ consumed →
+    at < length bytes →
     get_or bytes at 0 ≡ 10 → KeepsText consumed left bytes left_after →
     TakesLine held left (take (at + 1 - 1) bytes) (drop (at + 1) bytes) left_after
 takes_line at held consumed bytes None left_after same within is keeps = tt

@@ -17,13 +17,16 @@ use Rattle.run_rules.specs.MayCome.{MayDo}
 use Rattle.run_rules.specs.Legal.{IsLegalSoFar}
 
 -- what is left without one taking was there with it
-pub any-without : (test : Taking → Bool) (gone : Taking) (all : List Taking) → list_any test (without gone all) ≡ true → list_any test all ≡ true
+pub any-without : (test : Taking → Bool) (gone : Taking) (all : List Taking) →
+    list_any test (without gone all) ≡ true → list_any test all ≡ true
 any-without test gone [] is = is
 any-without test gone (one ∷ others) is =
-    cond_both (same_taking one gone) others (one ∷ without gone others) (λ (left : List Taking). list_any test left ≡ true → list_any test (one ∷ others) ≡ true)
+    cond_both (same_taking one gone) others (one ∷ without gone others)
+    (λ (left : List Taking). list_any test left ≡ true → list_any test (one ∷ others) ≡ true)
     (λ found there. or_right (test one) (list_any test others) there)
     (λ passed there. ⊎_elim (λ here. or_left (test one) (list_any test others) here)
-    (λ later. or_right (test one) (list_any test others) (any-without test gone others later)) (or_cases (test one) (list_any test (without gone others)) there)) is
+    (λ later. or_right (test one) (list_any test others) (any-without test gone others later))
+    (or_cases (test one) (list_any test (without gone others)) there)) is
 
 -- a line that takes this
 abbrev pub Takes : Doing → Resource → Type 0
@@ -35,22 +38,31 @@ Takes _ resource = ⊥
 abbrev pub is_of : ℕ → Resource → Taking → Bool
 is_of thread resource one = one.thread == thread && same_resource one.resource resource
 
-takes-after : (by : ℕ) (who : Frame) (does : Doing) (thread : ℕ) (resource : Resource) (all : List Taking) → list_any (is_of thread resource) (taken_after by who does all) ≡ true
+takes-after : (by : ℕ) (who : Frame) (does : Doing) (thread : ℕ) (resource : Resource) (all : List Taking) →
+    list_any (is_of thread resource) (taken_after by who does all) ≡ true
     → (list_any (is_of thread resource) all ≡ true) ⊎ ((by ≡ thread) × Takes does resource)
 takes-after by who (doing.Claim thing) thread resource all is =
-    ⊎_elim (λ takes. let parts = and_parts (by == thread) (same_resource (Thing thing) resource) takes in inr (eqb-true by thread parts.0, parts.1)) (λ held. inl held)
+    ⊎_elim (λ takes. let parts =
+    and_parts (by == thread) (same_resource (Thing thing) resource) takes
+    in inr (eqb-true by thread parts.0, parts.1)) (λ held. inl held)
     (or_cases (by == thread && same_resource (Thing thing) resource) (list_any (is_of thread resource) all) is)
 takes-after by who (doing.Lock lock) thread resource all is =
-    ⊎_elim (λ takes. let parts = and_parts (by == thread) (same_resource (Lock lock) resource) takes in inr (eqb-true by thread parts.0, parts.1)) (λ held. inl held)
+    ⊎_elim (λ takes. let parts =
+    and_parts (by == thread) (same_resource (Lock lock) resource) takes
+    in inr (eqb-true by thread parts.0, parts.1)) (λ held. inl held)
     (or_cases (by == thread && same_resource (Lock lock) resource) (list_any (is_of thread resource) all) is)
-takes-after by who (doing.Release thing) thread resource all is = inl (any-without (is_of thread resource) (record { thread = by; frame = who; resource = Thing thing }) all is)
-takes-after by who (doing.Unlock lock) thread resource all is = inl (any-without (is_of thread resource) (record { thread = by; frame = who; resource = Lock lock }) all is)
+takes-after by who (doing.Release thing) thread resource all is =
+    inl (any-without (is_of thread resource) (record { thread = by; frame = who; resource = Thing thing }) all is)
+takes-after by who (doing.Unlock lock) thread resource all is =
+    inl (any-without (is_of thread resource) (record { thread = by; frame = who; resource = Lock lock }) all is)
 takes-after by who _ thread resource all is = inl is
 
 -- who has something behind a line had it before, or takes it
-pub has_taken-next : (past : List Line) (line : Line) (thread : ℕ) (resource : Resource) → has_taken (line ∷ past) thread resource ≡ true
+pub has_taken-next : (past : List Line) (line : Line) (thread : ℕ) (resource : Resource) →
+    has_taken (line ∷ past) thread resource ≡ true
     → (has_taken past thread resource ≡ true) ⊎ ((line.thread ≡ thread) × Takes line.does resource)
-has_taken-next past line thread resource is = takes-after line.thread (frame past line.thread) line.does thread resource (taken past) is
+has_taken-next past line thread resource is =
+    takes-after line.thread (frame past line.thread) line.does thread resource (taken past) is
 
 pub same_resource-is : (one other : Resource) → same_resource one other ≡ true → one ≡ other
 same_resource-is (Thing thing) (Thing other) is = ap Thing (eqb-true thing other is)
@@ -58,7 +70,8 @@ same_resource-is (Lock lock) (Lock other) is = ap Lock (eqb-true lock other is)
 same_resource-is (Thing thing) (Lock lock) is = cc
 same_resource-is (Lock lock) (Thing thing) is = cc
 
-untouched_alone : (past : List Line) (thread other : ℕ) (resource mine : Resource) → same_resource mine resource ≡ true → ((user : ℕ) → (user ≡ thread → ⊥) → has_taken past user mine ≡ false)
+untouched_alone : (past : List Line) (thread other : ℕ) (resource mine : Resource) →
+    same_resource mine resource ≡ true → ((user : ℕ) → (user ≡ thread → ⊥) → has_taken past user mine ≡ false)
     → has_taken past other resource ≡ true → other ≡ thread
 untouched_alone past thread other resource mine same untouched has =
     ⊎_elim (λ (e : other ≡ thread). e)
@@ -66,18 +79,24 @@ untouched_alone past thread other resource mine same untouched has =
     (let P : Resource → Type 0 = λ r. has_taken past other r ≡ true in subst P (sym (same_resource-is mine resource same)) has)))
     (cases_eq other thread)
 
-takes_alone : (level : Level) (past : List Line) (thread other : ℕ) (resource : Resource) (does : Doing) → MayDo level past thread does → Takes does resource → has_taken past other resource ≡ true → other ≡ thread
-takes_alone level past thread other resource (doing.Claim thing) may takes has = untouched_alone past thread other resource (Thing thing) takes may.untouched has
-takes_alone level past thread other resource (doing.Lock lock) may takes has = untouched_alone past thread other resource (Lock lock) takes may.unlocked has
+takes_alone : (level : Level) (past : List Line) (thread other : ℕ) (resource : Resource) (does : Doing) →
+    MayDo level past thread does → Takes does resource → has_taken past other resource ≡ true → other ≡ thread
+takes_alone level past thread other resource (doing.Claim thing) may takes has =
+    untouched_alone past thread other resource (Thing thing) takes may.untouched has
+takes_alone level past thread other resource (doing.Lock lock) may takes has =
+    untouched_alone past thread other resource (Lock lock) takes may.unlocked has
 takes_alone level past thread other resource _ may takes has = absurd takes
 
 -- two threads that have one thing are one
-pub takers_agree : (level : Level) (past : List Line) → IsLegalSoFar level past → (resource : Resource) (one other : ℕ) → has_taken past one resource ≡ true → has_taken past other resource ≡ true → one ≡ other
+pub takers_agree : (level : Level) (past : List Line) → IsLegalSoFar level past →
+    (resource : Resource) (one other : ℕ) → has_taken past one resource ≡ true →
+    has_taken past other resource ≡ true → one ≡ other
 takers_agree level [] legal resource one other first second = cc
 takers_agree level (line ∷ past) legal resource one other first second =
     ⊎_elim
     (λ held. ⊎_elim (λ has. takers_agree level past legal.0 resource one other held has)
-    (λ takes. takes_alone level past line.thread one resource line.does legal.1 takes.1 held ∙ takes.0) (has_taken-next past line other resource second))
+    (λ takes. takes_alone level past line.thread one resource line.does legal.1 takes.1 held ∙ takes.0)
+    (has_taken-next past line other resource second))
     (λ took. ⊎_elim (λ has. sym took.0 ∙ sym (takes_alone level past line.thread other resource line.does legal.1 took.1 has))
     (λ takes. sym took.0 ∙ takes.0) (has_taken-next past line other resource second))
     (has_taken-next past line one resource first)

@@ -16,7 +16,8 @@ use Rattle.run_rules.specs.Legal.{IsLegalSoFar}
 use Rattle.run_rules.specs.Verdicts.{IsIllegalAt, IsVerdict}
 
 -- a line that breaks a rule may not come
-pub broken_not : (level : Level) (past : List Line) (thread : ℕ) (does : Doing) (rule : Rule) → BreaksByDoing level past thread does rule → MayDo level past thread does → ⊥
+pub broken_not : (level : Level) (past : List Line) (thread : ℕ) (does : Doing) (rule : Rule) →
+    BreaksByDoing level past thread does rule → MayDo level past thread does → ⊥
 broken_not level past thread (doing.Call op word context strand thing) rule.New broken may = broken may.is_new
 broken_not level past thread (doing.Call op word context strand thing) rule.Single broken may = broken.1 may.single
 broken_not level past thread (doing.Back op) rule.Returns broken may = broken may.returns
@@ -40,14 +41,17 @@ broken_not level past thread (doing.After mark) rule.Marked broken may = broken 
 broken_not level past thread _ _ broken may = absurd broken
 
 -- lines of which one may not come are no legal ones
-pub illegal_not : (level : Level) (past : List Line) (place : ℕ) (rule : Rule) → IsIllegalAt level past place rule → IsLegalSoFar level past → ⊥
+pub illegal_not : (level : Level) (past : List Line) (place : ℕ) (rule : Rule) →
+    IsIllegalAt level past place rule → IsLegalSoFar level past → ⊥
 illegal_not level [] place rule illegal legal = absurd illegal
 illegal_not level (line ∷ past) place rule illegal legal =
-    ⊎_elim (λ earlier. illegal_not level past place rule earlier legal.0) (λ here. broken_not level past line.thread line.does rule here.1 legal.1) illegal
+    ⊎_elim (λ earlier. illegal_not level past place rule earlier legal.0)
+    (λ here. broken_not level past line.thread line.does rule here.1 legal.1) illegal
 
 -- of the rules of one line the first that it doesn't keep is one
 
-one_of_call : (level : Level) (past : List Line) (thread op context : ℕ) (word : Word) (strand thing : Option ℕ) (one other : Rule)
+one_of_call : (level : Level) (past : List Line) (thread op context : ℕ) (word : Word) (strand thing : Option ℕ)
+    (one other : Rule)
     → BreaksByDoing level past thread (doing.Call op word context strand thing) one
     → BreaksByDoing level past thread (doing.Call op word context strand thing) other → one ≡ other
 one_of_call level past thread op context word strand thing rule.New rule.New a b = refl
@@ -59,7 +63,8 @@ one_of_call level past thread op context word strand thing rule.Single _ a b = a
 one_of_call level past thread op context word strand thing _ _ a b = absurd a
 
 one_of_done : (level : Level) (past : List Line) (thread op : ℕ) (code : Code) (size : ℕ) (one other : Rule)
-    → BreaksByDoing level past thread (doing.Done op code size) one → BreaksByDoing level past thread (doing.Done op code size) other
+    → BreaksByDoing level past thread (doing.Done op code size) one →
+    BreaksByDoing level past thread (doing.Done op code size) other
     → one ≡ other
 one_of_done level past thread op code size rule.Waiting rule.Waiting a b = refl
 one_of_done level past thread op code size rule.Waiting rule.Asynchronous a b = absurd (a b.0)
@@ -76,7 +81,8 @@ one_of_done level past thread op code size rule.DoneOnce _ a b = absurd b
 one_of_done level past thread op code size _ _ a b = absurd a
 
 one_of_begin : (level : Level) (past : List Line) (thread op : ℕ) (code : Code) (size : ℕ) (one other : Rule)
-    → BreaksByDoing level past thread (doing.Begin op code size) one → BreaksByDoing level past thread (doing.Begin op code size) other
+    → BreaksByDoing level past thread (doing.Begin op code size) one →
+    BreaksByDoing level past thread (doing.Begin op code size) other
     → one ≡ other
 one_of_begin level past thread op code size rule.Waiting rule.Waiting a b = refl
 one_of_begin level past thread op code size rule.Waiting rule.Outcome a b = absurd (a b.0)
@@ -111,7 +117,8 @@ one_of_end level past thread op rule.Clean _ a b = absurd b
 one_of_end level past thread op _ _ a b = absurd a
 
 -- an exception ends a handler by the same rules
-thrown : (level : Level) (past : List Line) (thread op : ℕ) (broken : Rule) → BreaksByDoing level past thread (doing.Throw op) broken
+thrown : (level : Level) (past : List Line) (thread op : ℕ) (broken : Rule) →
+    BreaksByDoing level past thread (doing.Throw op) broken
     → BreaksByDoing level past thread (doing.End op) broken
 thrown level past thread op rule.Innermost breaks = breaks
 thrown level past thread op rule.Clean breaks = breaks
@@ -184,19 +191,25 @@ pub one_place : (level : Level) (past : List Line) (one other : ℕ) (broken nam
 one_place level [] one other broken named first second = absurd first
 one_place level (line ∷ past) one other broken named first second =
     ⊎_elim
-    (λ earlier. ⊎_elim (λ too. one_place level past one other broken named earlier too) (λ here. absurd (illegal_not level past one broken earlier here.0)) second)
+    (λ earlier. ⊎_elim (λ too. one_place level past one other broken named earlier too)
+    (λ here. absurd (illegal_not level past one broken earlier here.0)) second)
     (λ here. ⊎_elim (λ earlier. absurd (illegal_not level past other named earlier here.0))
     (λ too. (here.2 ∙ sym too.2, one_rule level past line.thread line.does broken named here.1 too.1)) second) first
 
-pub one_verdict : (level : Level) (past : List Line) (one other : Verdict) → IsVerdict level past one → IsVerdict level past other → one ≡ other
+pub one_verdict : (level : Level) (past : List Line) (one other : Verdict) → IsVerdict level past one →
+    IsVerdict level past other → one ≡ other
 one_verdict level past verdict.Legal verdict.Legal first second = refl
 one_verdict level past verdict.Legal verdict.LegalSoFar first second = absurd (second.1 first.1)
-one_verdict level past verdict.Legal (verdict.Illegal place rule) first second = absurd (illegal_not level past place rule second first.0)
+one_verdict level past verdict.Legal (verdict.Illegal place rule) first second =
+    absurd (illegal_not level past place rule second first.0)
 one_verdict level past verdict.LegalSoFar verdict.Legal first second = absurd (first.1 second.1)
 one_verdict level past verdict.LegalSoFar verdict.LegalSoFar first second = refl
-one_verdict level past verdict.LegalSoFar (verdict.Illegal place rule) first second = absurd (illegal_not level past place rule second first.0)
-one_verdict level past (verdict.Illegal place rule) verdict.Legal first second = absurd (illegal_not level past place rule first second.0)
-one_verdict level past (verdict.Illegal place rule) verdict.LegalSoFar first second = absurd (illegal_not level past place rule first second.0)
+one_verdict level past verdict.LegalSoFar (verdict.Illegal place rule) first second =
+    absurd (illegal_not level past place rule second first.0)
+one_verdict level past (verdict.Illegal place rule) verdict.Legal first second =
+    absurd (illegal_not level past place rule first second.0)
+one_verdict level past (verdict.Illegal place rule) verdict.LegalSoFar first second =
+    absurd (illegal_not level past place rule first second.0)
 one_verdict level past (verdict.Illegal place rule) (verdict.Illegal other named) first second =
     let same = one_place level past place other rule named first second in
     ap (λ (n : ℕ). verdict.Illegal n rule) same.0 ∙ ap (λ (r : Rule). verdict.Illegal other r) same.1

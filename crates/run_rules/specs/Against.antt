@@ -81,7 +81,8 @@ pub record IsPending (past : List Line) (word : Word) (thing : Option ℕ) (op :
 
 -- a line calls what is pending where this one calls
 abbrev pub CallsPending : List Line → Doing → Doing → Type 0
-CallsPending past (doing.Call number word context strand thing) found = (op : ℕ) × IsPending past word thing op × IsTrue (calls found op)
+CallsPending past (doing.Call number word context strand thing) found =
+    (op : ℕ) × IsPending past word thing op × IsTrue (calls found op)
 CallsPending past _ found = ⊥
 
 -- a line begins an execution that goes on, and that is on the strand of this operation
@@ -125,7 +126,8 @@ TakesElsewhere past thread does found = IsSomeAnd (taken_by does) (λ resource. 
 -- the same of the rules that speak of one operation
 abbrev pub StandsAgainstOp : List Line → ℕ → ℕ → Rule → List Line → Line → Type 0
 StandsAgainstOp past thread op rule.New before found = IsTrue (calls_from found.does op)
-StandsAgainstOp past thread op rule.Returns before found = IsSomeAnd (last_call past (frame past thread)) (λ last. IsTrue (calls found.does last))
+StandsAgainstOp past thread op rule.Returns before found =
+    IsSomeAnd (last_call past (frame past thread)) (λ last. IsTrue (calls found.does last))
 StandsAgainstOp past thread op rule.Waiting before found = IsTrue (begins found.does op || drops found.does op)
 StandsAgainstOp past thread op rule.Asynchronous before found = IsTrue (calls found.does op)
 StandsAgainstOp past thread op rule.DoneOnce before found = IsTrue (completes found.does op)
@@ -141,4 +143,5 @@ abbrev pub StandsAgainst : List Line → Line → Rule → List Line → Line �
 StandsAgainst past line rule.Single before found = CallsPending past line.does found.does
 StandsAgainst past line rule.Untouched before found = TakesElsewhere past line.thread line.does found
 StandsAgainst past line rule.Unlocked before found = TakesElsewhere past line.thread line.does found
-StandsAgainst past line broken before found = IsSomeAnd (op_of line.does) (λ op. StandsAgainstOp past line.thread op broken before found)
+StandsAgainst past line broken before found =
+    IsSomeAnd (op_of line.does) (λ op. StandsAgainstOp past line.thread op broken before found)

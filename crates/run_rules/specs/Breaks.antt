@@ -16,19 +16,25 @@ use Rattle.run_rules.specs.MayCome.{last_call, is_marked, IsNew, IsSingle, IsUnt
 
 abbrev pub BreaksByDoing : Level → List Line → ℕ → Doing → Rule → Type 0
 BreaksByDoing level past thread (doing.Call op word context strand thing) rule.New = ¬ (IsNew past op)
-BreaksByDoing level past thread (doing.Call op word context strand thing) rule.Single = IsNew past op × ¬ (IsSingle level past word thing)
+BreaksByDoing level past thread (doing.Call op word context strand thing) rule.Single =
+    IsNew past op × ¬ (IsSingle level past word thing)
 BreaksByDoing level past thread (doing.Back op) rule.Returns = ¬ (last_call past (frame past thread) ≡ Some op)
 BreaksByDoing level past thread (doing.Done op code size) rule.Waiting = ¬ (Waits past op)
 BreaksByDoing level past thread (doing.Done op code size) rule.Asynchronous = Waits past op × IsPosting past op
-BreaksByDoing level past thread (doing.Done op code size) rule.DoneOnce = Waits past op × ¬ (IsPosting past op) × ¬ (done_of past op ≡ None)
+BreaksByDoing level past thread (doing.Done op code size) rule.DoneOnce =
+    Waits past op × ¬ (IsPosting past op) × ¬ (done_of past op ≡ None)
 BreaksByDoing level past thread (doing.Begin op code size) rule.Waiting = ¬ (Waits past op)
 BreaksByDoing level past thread (doing.Begin op code size) rule.Outcome = Waits past op × ¬ (HasOutcome past op code size)
-BreaksByDoing level past thread (doing.Begin op code size) rule.Free = Waits past op × HasOutcome past op code size × ¬ (IsFree past thread op)
-BreaksByDoing level past thread (doing.Begin op code size) rule.First = Waits past op × HasOutcome past op code size × IsFree past thread op × ¬ (IsFirst past op)
+BreaksByDoing level past thread (doing.Begin op code size) rule.Free =
+    Waits past op × HasOutcome past op code size × ¬ (IsFree past thread op)
+BreaksByDoing level past thread (doing.Begin op code size) rule.First =
+    Waits past op × HasOutcome past op code size × IsFree past thread op × ¬ (IsFirst past op)
 BreaksByDoing level past thread (doing.End op) rule.Innermost = ¬ (frame past thread ≡ Execution op)
-BreaksByDoing level past thread (doing.End op) rule.Clean = (frame past thread ≡ Execution op) × ¬ (has_any past (Execution op) ≡ false)
+BreaksByDoing level past thread (doing.End op) rule.Clean =
+    (frame past thread ≡ Execution op) × ¬ (has_any past (Execution op) ≡ false)
 BreaksByDoing level past thread (doing.Throw op) rule.Innermost = ¬ (frame past thread ≡ Execution op)
-BreaksByDoing level past thread (doing.Throw op) rule.Clean = (frame past thread ≡ Execution op) × ¬ (has_any past (Execution op) ≡ false)
+BreaksByDoing level past thread (doing.Throw op) rule.Clean =
+    (frame past thread ≡ Execution op) × ¬ (has_any past (Execution op) ≡ false)
 BreaksByDoing level past thread (doing.Drop op) rule.Waiting = ¬ (Waits past op)
 BreaksByDoing level past thread (doing.Claim thing) rule.Untouched = ¬ (IsUntouched past thread (Thing thing))
 BreaksByDoing level past thread (doing.Release thing) rule.Claimed = ¬ (IsTaken past thread (Thing thing))

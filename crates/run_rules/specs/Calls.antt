@@ -31,7 +31,9 @@ pub record Completion : Type 0 where
 -- the call of an operation, if it is what this line does
 abbrev pub call_in : Frame → ℕ → ℕ → Doing → ℕ → Option Calling
 call_in caller thread place (doing.Call number word context strand thing) op =
-    if number == op then Some (record { word = word; strand = strand; thing = thing; caller = caller; thread = thread; place = place }) else None
+    if number == op
+    then Some
+    (record { word = word; strand = strand; thing = thing; caller = caller; thread = thread; place = place }) else None
 call_in caller thread place _ op = None
 
 -- the call of an operation

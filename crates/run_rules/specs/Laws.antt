@@ -22,12 +22,17 @@ abbrev pub SpendEach : Level → List Line → Type 0
 SpendEach level past = IsLegalSoFar level past → IsWhole past → (op : ℕ) → IsSome (call_of past op) → times_spent past op ≡ 1
 
 abbrev pub RunOneAtATime : Level → List Line → Type 0
-RunOneAtATime level past = IsLegalSoFar level past → (strand one other : ℕ) → Holds past one strand → Holds past other strand → one ≡ other
+RunOneAtATime level past = IsLegalSoFar level past → (strand one other : ℕ) → Holds past one strand →
+    Holds past other strand → one ≡ other
 
 abbrev pub HoldAlone : Level → List Line → Type 0
-HoldAlone level past = IsLegalSoFar level past → (resource : Resource) (one other : ℕ) → has_taken past one resource ≡ true → has_taken past other resource ≡ true → one ≡ other
+HoldAlone level past = IsLegalSoFar level past → (resource : Resource) (one other : ℕ) →
+    has_taken past one resource ≡ true → has_taken past other resource ≡ true → one ≡ other
 
 -- an operation that may begin here, and not inside, finds all begun or dropped that was placed before its entry on its strand
 abbrev pub KeepTheOrderOfCalls : Level → List Line → Type 0
-KeepTheOrderOfCalls level past = IsLegalSoFar level past → (thread op strand first : ℕ) (code : Code) (size : ℕ) → MayBegin past thread op code size → ¬ (IsInside past thread op)
-    → strand_of past op ≡ Some strand → strand_of past first ≡ Some strand → IsPlacedBefore past first op → (is_begun past first || is_dropped past first) ≡ true
+KeepTheOrderOfCalls level past =
+    IsLegalSoFar level past → (thread op strand first : ℕ) (code : Code) (size : ℕ) →
+    MayBegin past thread op code size → ¬ (IsInside past thread op)
+    → strand_of past op ≡ Some strand → strand_of past first ≡ Some strand → IsPlacedBefore past first op →
+    (is_begun past first || is_dropped past first) ≡ true

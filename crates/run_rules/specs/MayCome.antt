@@ -20,7 +20,8 @@ use Rattle.run_rules.specs.Starting.{IsFree, IsFirst, HasOutcome}
 -- the last call of a frame that isn't known to be back
 abbrev pub last_call : List Line → Frame → Option ℕ
 last_call [] who = None
-last_call (line ∷ past) who = if same_frame (frame past line.thread) who then last_call_after line.does (last_call past who) else last_call past who
+last_call (line ∷ past) who =
+    if same_frame (frame past line.thread) who then last_call_after line.does (last_call past who) else last_call past who
 
 -- a mark of this number stands before
 abbrev pub marks : Doing → ℕ → Bool
@@ -41,7 +42,8 @@ abbrev pub IsNew : List Line → ℕ → Type 0
 IsNew past op = (earlier : ℕ) → IsSome (call_of past earlier) → earlier < op
 
 abbrev pub IsSingle : Level → List Line → Word → Option ℕ → Type 0
-IsSingle level past word thing = (stream op : ℕ) → IsTrue level.streams → IsOfStream word → thing ≡ Some stream → Waits past op → word_of past op ≡ Some word → thing_of past op ≡ Some stream → ⊥
+IsSingle level past word thing = (stream op : ℕ) → IsTrue level.streams → IsOfStream word →
+    thing ≡ Some stream → Waits past op → word_of past op ≡ Some word → thing_of past op ≡ Some stream → ⊥
 
 abbrev pub IsUntouched : List Line → ℕ → Resource → Type 0
 IsUntouched past thread resource = (other : ℕ) → other ≢ thread → has_taken past other resource ≡ false

@@ -27,11 +27,13 @@ pub record IsInside (past : List Line) (thread op : ℕ) : Type 0 where
 
 -- nobody holds the strand of an operation; or only this thread does, and the operation begins inside
 abbrev pub IsFree : List Line → ℕ → ℕ → Type 0
-IsFree past thread op = (strand holder : ℕ) → strand_of past op ≡ Some strand → Holds past holder strand → (holder ≡ thread) × IsInside past thread op
+IsFree past thread op = (strand holder : ℕ) → strand_of past op ≡ Some strand → Holds past holder strand →
+    (holder ≡ thread) × IsInside past thread op
 
 -- an operation was placed before another one's entry, or by it
 abbrev pub IsPlacedBefore : List Line → ℕ → ℕ → Type 0
-IsPlacedBefore past first op = IsSomeAnd (placed_at past first) (λ place. IsSomeAnd (entry_of past op) (λ (entry : Entry). place ≤ entry.place))
+IsPlacedBefore past first op =
+    IsSomeAnd (placed_at past first) (λ place. IsSomeAnd (entry_of past op) (λ (entry : Entry). place ≤ entry.place))
 
 -- an operation has to begin before another one. Nothing is placed before its own entry, so these are two
 pub record GoesBefore (past : List Line) (first op strand : ℕ) : Type 0 where
@@ -41,7 +43,8 @@ pub record GoesBefore (past : List Line) (first op strand : ℕ) : Type 0 where
 
 -- where nobody holds its strand, no other operation has to begin before this one
 abbrev pub IsFirst : List Line → ℕ → Type 0
-IsFirst past op = (strand first : ℕ) → strand_of past op ≡ Some strand → ((thread : ℕ) → Holds past thread strand → ⊥) → GoesBefore past first op strand → ⊥
+IsFirst past op = (strand first : ℕ) → strand_of past op ≡ Some strand →
+    ((thread : ℕ) → Holds past thread strand → ⊥) → GoesBefore past first op strand → ⊥
 
 -- the code and size with which an operation begins are its own
 pub record HasOutcome (past : List Line) (op : ℕ) (outcome : Code) (size : ℕ) : Type 0 where

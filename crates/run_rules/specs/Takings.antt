@@ -18,7 +18,8 @@ same_resource (Thing thing) (Lock lock) = false
 same_resource (Lock lock) (Thing thing) = false
 
 abbrev pub same_taking : Taking → Taking → Bool
-same_taking one other = one.thread == other.thread && (same_frame one.frame other.frame && same_resource one.resource other.resource)
+same_taking one other =
+    one.thread == other.thread && (same_frame one.frame other.frame && same_resource one.resource other.resource)
 
 -- without the first of these takings
 abbrev pub without : Taking → List Taking → List Taking
@@ -29,7 +30,8 @@ without gone (one ∷ others) = if same_taking one gone then others else one ∷
 abbrev pub taken_after : ℕ → Frame → Doing → List Taking → List Taking
 taken_after thread who (doing.Claim thing) taken = record { thread = thread; frame = who; resource = Thing thing } ∷ taken
 taken_after thread who (doing.Lock lock) taken = record { thread = thread; frame = who; resource = Lock lock } ∷ taken
-taken_after thread who (doing.Release thing) taken = without (record { thread = thread; frame = who; resource = Thing thing }) taken
+taken_after thread who (doing.Release thing) taken =
+    without (record { thread = thread; frame = who; resource = Thing thing }) taken
 taken_after thread who (doing.Unlock lock) taken = without (record { thread = thread; frame = who; resource = Lock lock }) taken
 taken_after thread who _ taken = taken
 
@@ -40,7 +42,8 @@ taken (line ∷ past) = taken_after line.thread (frame past line.thread) line.do
 
 -- whether a thread has taken this
 abbrev pub has_taken : List Line → ℕ → Resource → Bool
-has_taken past thread resource = list_any (λ (one : Taking). one.thread == thread && same_resource one.resource resource) (taken past)
+has_taken past thread resource =
+    list_any (λ (one : Taking). one.thread == thread && same_resource one.resource resource) (taken past)
 
 -- whether a frame has taken anything
 abbrev pub has_any : List Line → Frame → Bool
@@ -48,4 +51,5 @@ has_any past who = list_any (λ (one : Taking). same_frame one.frame who) (taken
 
 -- whether a frame of a thread has taken this
 abbrev pub is_taken_by : List Line → ℕ → Frame → Resource → Bool
-is_taken_by past thread who resource = list_any (λ (one : Taking). same_taking one (record { thread = thread; frame = who; resource = resource })) (taken past)
+is_taken_by past thread who resource =
+    list_any (λ (one : Taking). same_taking one (record { thread = thread; frame = who; resource = resource })) (taken past)

@@ -11,7 +11,8 @@ use Rattle.run_rules.specs.Legal.{IsLegalSoFar, IsWhole}
 -- the line at this place is the first that may not come, and it breaks this rule
 abbrev pub IsIllegalAt : Level → List Line → ℕ → Rule → Type 0
 IsIllegalAt level [] place rule = ⊥
-IsIllegalAt level (line ∷ past) place rule = IsIllegalAt level past place rule ⊎ (IsLegalSoFar level past × BreaksRule level past line rule × (place ≡ length past))
+IsIllegalAt level (line ∷ past) place rule =
+    IsIllegalAt level past place rule ⊎ (IsLegalSoFar level past × BreaksRule level past line rule × (place ≡ length past))
 
 -- this is to be said of these lines, of which the newest stands first
 abbrev pub IsVerdict : Level → List Line → Verdict → Type 0

@@ -162,7 +162,8 @@ pub not_inside : (past : List Line) (op : ℕ) (before : List Line) (found : Lin
     → IsTrue false ↔ TakesInside past op before found
 not_inside past op before found none = (
   λ h. false_true h,
-  λ h. absurd (subst (λ (o : Option Resource). IsSomeAnd o (λ r. IsTrue (is_taken_by past found.thread (Execution op) r))) none h.kept),
+  λ h. absurd
+      (subst (λ (o : Option Resource). IsSomeAnd o (λ r. IsTrue (is_taken_by past found.thread (Execution op) r))) none h.kept),
 )
 
 differ_is : (a b : ℕ) → not (a == b) ≡ true → a ≡ b → ⊥
@@ -242,7 +243,8 @@ pub by_some : (past : List Line) (line : Line) (broken : Rule) (before : List Li
     → op_of line.does ≡ Some op → IsTrue test ↔ StandsAgainstOp past line.thread op broken before found
     → IsTrue test ↔ IsSomeAnd (op_of line.does) (λ n. StandsAgainstOp past line.thread n broken before found)
 by_some past line broken before found test op names is =
-    subst (λ (o : Option ℕ). IsTrue test ↔ IsSomeAnd o (λ n. StandsAgainstOp past line.thread n broken before found)) (sym names) is
+    subst (λ (o : Option ℕ). IsTrue test ↔ IsSomeAnd o
+    (λ n. StandsAgainstOp past line.thread n broken before found)) (sym names) is
 
 pub by_none : (past : List Line) (line : Line) (broken : Rule) (before : List Line) (found : Line) → op_of line.does ≡ None
     → IsTrue false ↔ IsSomeAnd (op_of line.does) (λ n. StandsAgainstOp past line.thread n broken before found)

@@ -296,7 +296,8 @@ count_ends level text held None judge at last reading = absurd reading
 count_ends level text held (Some left) judge at last reading = ((reading.0, held ++ left, reading.1, inl last), tt)
 
 -- a fault is counted where reading failed
-pub fault_counts : (why : ReadFault) (at old new : ℕ) → CountsNext (next.Fault why) old new → CountsFaultsOf (ended_by why at) old new
+pub fault_counts : (why : ReadFault) (at old new : ℕ) → CountsNext (next.Fault why) old new →
+    CountsFaultsOf (ended_by why at) old new
 fault_counts fault.Failed at old new counts = counts
 fault_counts fault.NoLineFeed at old new counts = counts
 fault_counts fault.TooLong at old new counts = counts
@@ -346,7 +347,8 @@ judged_read level text happened held left held_after left_after old new at (Some
     (λ past judged. ended level past judged)
 
 -- what one line counts
-pub counted_by : (found : Option Ending) (old new : ℕ) → new ≡ old → IfSome found (λ e. (faults : ℕ) → CountsFaultsOf e faults faults)
+pub counted_by : (found : Option Ending) (old new : ℕ) → new ≡ old →
+    IfSome found (λ e. (faults : ℕ) → CountsFaultsOf e faults faults)
     → MatchOption found (new ≡ old) (λ e. CountsFaultsOf e old new)
 counted_by None old new same counts = same
 counted_by (Some found) old new same counts = subst (λ (n : ℕ). CountsFaultsOf found old n) (sym same) (counts old)

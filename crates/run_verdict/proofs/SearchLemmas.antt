@@ -119,7 +119,8 @@ pub search_step : (level : Level) (text : List ℕ) (past : List Line) (broken :
 search_step level text past broken rule held left held_after left_after judge again after at old new next judged breaks searching
     gives looks follows =
     going_step (λ (entries : List PlainEntry). IsFound past broken rule entries old)
-    (λ (entries : List PlainEntry). IsFound past broken rule entries new) level text held left held_after left_after again after at
+    (λ (entries : List PlainEntry). IsFound past broken rule entries new) level text held left held_after
+    left_after again after at
     next searching gives follows (search_moves level past broken rule judge again at old new next judged breaks looks)
 
 pub searching_reads : (level : Level) (text : List ℕ) (past : List Line) (broken : Line) (rule : Rule) (held : List ℕ)
@@ -134,7 +135,8 @@ pub search_begins : (level : Level) (text : List ℕ) (past : List Line) (broken
     (left : Option (List ℕ)) (again : Judge) → IsReading level text held left again 2
     → IsSearching level text past broken rule held left again 2 None
 search_begins level text past broken rule held left again reading =
-    going_begins (λ (entries : List PlainEntry). IsFound past broken rule entries None) level text held left again none_yet reading
+    going_begins (λ (entries : List PlainEntry). IsFound past broken rule entries None) level text held left
+    again none_yet reading
   where
     no_more : (n : ℕ) → 2 ≡ suc n + 2 → ⊥
     no_more n e = omega arith

@@ -54,6 +54,7 @@ Tells judge again (next.Line happened) at before after =
 Tells judge again _ at before after = Extends before [] after
 
 -- the first lines of a text were read again and followed, and told of
-abbrev pub IsTelling : Level → List ℕ → List Line → List ℕ → Option (List ℕ) → Judge → ℕ → Option (List ℕ) → Option (List ℕ) → Type 0
+abbrev pub IsTelling : Level → List ℕ → List Line → List ℕ → Option (List ℕ) → Judge → ℕ → Option (List ℕ) →
+    Option (List ℕ) → Type 0
 IsTelling level text past held left again at before after =
     IsGoing (λ (entries : List PlainEntry). Extends before (owed_lines past entries) after) level text held left again at

@@ -55,7 +55,8 @@ Chooses stands found at old new = (stands × (new ≡ Some (record { at = at; li
 
 -- a judge that follows what stands next
 abbrev pub FollowsNext : Next → Judge → Judge → Type 0
-FollowsNext (next.Line happened) old new = (level : Level) (past : List Line) → HasJudged level past old → HasJudged level (happened ∷ past) new
+FollowsNext (next.Line happened) old new = (level : Level) (past : List Line) → HasJudged level past old →
+    HasJudged level (happened ∷ past) new
 FollowsNext next.Name old new = new ≡ old
 FollowsNext _ old new = ⊥
 
@@ -72,7 +73,8 @@ IsEarly _ at = Unit {0}
 -- what is done with what stands next
 abbrev pub Looks : Line → Rule → Judge → Judge → Next → ℕ → Option Against → Option Against → Type 0
 Looks broken rule judge again (next.Line found) at old new = (level : Level) (past before : List Line)
-    → Confronts level past broken rule judge before found again → Chooses (StandsAgainst past broken rule before found) found at old new
+    → Confronts level past broken rule judge before found again →
+    Chooses (StandsAgainst past broken rule before found) found at old new
 Looks broken rule judge again _ at old new = new ≡ old
 
 -- a second reading may end before, where it can't be read on or followed, or where it is no longer the same run
@@ -84,7 +86,8 @@ EndsBefore _ other = Unit {0}
 abbrev pub IsGoing : (List PlainEntry → Type 0) → Level → List ℕ → List ℕ → Option (List ℕ) → Judge → ℕ → Type 0
 IsGoing P level text held None again at = ⊥
 IsGoing P level text held (Some left) again at =
-    (entries : List PlainEntry) × BeginsWith level text entries (held ++ left) at × HasJudged level (past_of entries) again × P entries
+    (entries : List PlainEntry) × BeginsWith level text entries (held ++ left) at
+    × HasJudged level (past_of entries) again × P entries
 
 -- they were looked at
 abbrev pub IsSearching : Level → List ℕ → List Line → Line → Rule → List ℕ → Option (List ℕ) → Judge → ℕ → Option Against → Type 0

@@ -44,7 +44,8 @@ illegal_text at broken line words =
 -- a line that is none: its number, that of its first wrong word, and what could stand there
 abbrev pub bad_text : ℕ → BadLine → List ℕ
 bad_text at bad =
-    ((numbered (codes "bad run at line ") at (codes ": ") ++ numbered (codes "word ") bad.word (codes ": expected ")) ++ wants_text bad.wants)
+    ((numbered (codes "bad run at line ") at (codes ": ") ++ numbered (codes "word ") bad.word
+    (codes ": expected ")) ++ wants_text bad.wants)
     ++ (10 ∷ [])
 
 abbrev pub against_text : Against → List ℕ
@@ -65,10 +66,13 @@ abbrev pub IsWritten : Ending → Option (List ℕ) → Option (List ℕ) → Ty
 IsWritten ending.Legal before after = Extends before (codes "legal" ++ 10 ∷ []) after
 IsWritten (ending.SoFar lines owed) before after =
     Extends before (numbered (codes "legal so far, ") lines (codes " lines" ++ 10 ∷ []) ++ owed_text owed) after
-IsWritten (ending.Illegal at broken line) before after = (words : List ℕ) × Extends before (illegal_text at broken line words) after
+IsWritten (ending.Illegal at broken line) before after =
+    (words : List ℕ) × Extends before (illegal_text at broken line words) after
 IsWritten (ending.Bad at bad) before after = Extends before (bad_text at bad) after
 IsWritten ending.NoHeader before after = Extends before (codes "bad run at line 1: expected run 1" ++ 10 ∷ []) after
-IsWritten (ending.NoLineFeed at) before after = (words : List ℕ) × Extends before (numbered (codes "bad run at line ") at words) after
-IsWritten (ending.TooLong at) before after = (words : List ℕ) × Extends before (numbered (codes "bad run at line ") at words) after
+IsWritten (ending.NoLineFeed at) before after =
+    (words : List ℕ) × Extends before (numbered (codes "bad run at line ") at words) after
+IsWritten (ending.TooLong at) before after =
+    (words : List ℕ) × Extends before (numbered (codes "bad run at line ") at words) after
 IsWritten (ending.ReadFault at) before after = Extends before [] after
 IsWritten (ending.NoRoom at) before after = Extends before [] after

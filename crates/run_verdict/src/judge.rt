@@ -82,7 +82,8 @@ impl Judge {
 
     /// Follows a line that may come. Where there is no room, nothing is said of what was kept.
     pub fn follow(&mut self, line: &Line) -> Result<(), NoRoom>
-        ensures { IfOk result (λ _. (level : Level) (past : List Line) → HasJudged level past self.old → MayCome level past line.now
+        ensures { IfOk result
+            (λ _. (level : Level) (past : List Line) → HasJudged level past self.old → MayCome level past line.now
             → HasJudged level (line.now ∷ past) self.new) }
     {
         self.checker.follow(line)?;

@@ -135,7 +135,8 @@ pub(crate) fn follow_next(next: Next, judge: &mut Judge, at: u64) -> Option<Endi
         MatchOption result (IsReading level text held_after left_after judge.new (at + 1))
         (λ ending. EndsWith level text ending judge.new) }
     ensures follows { IfNone result (FollowsNext next judge.old judge.new) }
-    ensures counts { (old new : ℕ) → CountsNext next old new → MatchOption result (new ≡ old) (λ ending. CountsFaultsOf ending old new) }
+    ensures counts { (old new : ℕ) → CountsNext next old new →
+        MatchOption result (new ≡ old) (λ ending. CountsFaultsOf ending old new) }
     ensures here { IfSome result (λ ending. BreaksAt at ending) }
 {
     match next {

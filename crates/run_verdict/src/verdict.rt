@@ -11,7 +11,8 @@ use std::alloc::Global;
 
 /// The verdict on these lines, by a judge that has followed nothing.
 fn judge_all(judge: &mut Judge, lines: &[Line]) -> Result<Verdict, NoRoom>
-    ensures { IfOk result (λ verdict. (level : Level) → HasJudged level [] judge.old → IsVerdict level (reverse lines.now) verdict) }
+    ensures { IfOk result
+        (λ verdict. (level : Level) → HasJudged level [] judge.old → IsVerdict level (reverse lines.now) verdict) }
 {
     for line in lines {
         match judge.may_come(line) {

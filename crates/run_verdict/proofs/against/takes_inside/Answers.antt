@@ -10,7 +10,8 @@ returns-in-Some c = λ level past before judged again.
     subst (λ (b : Bool). IsTrue b ↔ TakesInside past c.args.op before c.args.found.now) (sym c.both.ensures)
     (inside past c.args.op before c.args.found.now c.in-Some.resource c.is_execution-inside.result c.is_taken_by.result
     (sym c.taken_by.ensures ∙ c.in-Some.is)
-    (here_is c.is_execution-inside.result c.frame.result (frame before c.args.found.now.thread) c.args.op c.is_execution-inside.ensures
+    (here_is c.is_execution-inside.result c.frame.result (frame before c.args.found.now.thread) c.args.op
+    c.is_execution-inside.ensures
     (c.frame.ensures before (c.checker.ensures level before again)))
     (c.is_taken_by.ensures past (c.checker-in-Some.ensures level past judged)))
 

@@ -11,4 +11,5 @@ returns-in-Line g c =
     (g.K.Sink.written c.write_if.new.out) c.write_if.result c.is_owed.result c.in-Line.is c.is_owed.ensures c.write_if.ensures
 
 pub returns-in_default : goal.returns-in_default
-returns-in_default g c = told_other c.args.judge.now c.args.again.now c.args.next.now c.args.at (g.K.Sink.written c.args.out.now) c.in_default.not-Line
+returns-in_default g c =
+    told_other c.args.judge.now c.args.again.now c.args.next.now c.args.at (g.K.Sink.written c.args.out.now) c.in_default.not-Line

@@ -5,8 +5,10 @@ pub loop-at-preserved : goal.loop-at-preserved
 loop-at-preserved g c = λ level text past judged start.
     tell_step level text past c.loop-at.reader.held (g.S.Source.left c.loop-at.source) c.next_line-next.new.reader.held
     (g.S.Source.left c.next_line-next.new.source) c.args.judge.now c.loop-at.again c.follow_next.new.judge c.loop-at.at
-    (g.K.Sink.written c.args.out.now) (g.K.Sink.written c.loop-at.out) (g.K.Sink.written c.tell.new.out) c.next_line-next.result judged
-    (c.loop-at.invariant level text past judged start) c.next_line-next.ensures.gives c.in_ok-tell.ensures c.in_default.ensures.follows
+    (g.K.Sink.written c.args.out.now) (g.K.Sink.written c.loop-at.out) (g.K.Sink.written c.tell.new.out)
+    c.next_line-next.result judged
+    (c.loop-at.invariant level text past judged start) c.next_line-next.ensures.gives c.in_ok-tell.ensures
+    c.in_default.ensures.follows
 
 pub returns : goal.returns
 returns g c = λ level text past judged start within.

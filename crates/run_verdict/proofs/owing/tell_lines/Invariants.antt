@@ -7,5 +7,7 @@ use Rattle.run_verdict.proofs.owing.tell_lines.Given as goal
 
 abbrev pub invariant-loop-at : goal.invariant-loop-at
 invariant-loop-at g l = (level : Level) (text : List ℕ) (past : List Line) → HasJudged level past l.judge
-    → IsTelling level text past l.fn.reader.held (g.S.Source.left l.fn.source) l.fn.again 2 (g.K.Sink.written l.fn.out) (g.K.Sink.written l.fn.out)
-    → IsTelling level text past l.reader.held (g.S.Source.left l.source) l.again l.at (g.K.Sink.written l.fn.out) (g.K.Sink.written l.out)
+    → IsTelling level text past l.fn.reader.held (g.S.Source.left l.fn.source) l.fn.again 2
+    (g.K.Sink.written l.fn.out) (g.K.Sink.written l.fn.out)
+    → IsTelling level text past l.reader.held (g.S.Source.left l.source) l.again l.at
+    (g.K.Sink.written l.fn.out) (g.K.Sink.written l.out)

@@ -9,7 +9,8 @@ use Rattle.run_verdict.proofs.run.follow_next.Goals as goal
 pub returns-in-Line-clause-takes : goal.returns-in-Line-clause-takes
 returns-in-Line-clause-takes c = λ level text held left held_after left_after reading gives.
     let here = subst (λ (n : Next). NextGives n held left held_after left_after) c.in-Line.is gives in
-    judged_read level text c.in-Line.line held left held_after left_after c.args.judge.now c.judged.new.judge c.args.at c.judged.result reading
+    judged_read level text c.in-Line.line held left held_after left_after c.args.judge.now c.judged.new.judge
+    c.args.at c.judged.result reading
     here.0 here.1 c.judged.ensures.followed c.judged.ensures.ended
 
 pub returns-in-Line-clause-counts : goal.returns-in-Line-clause-counts
@@ -29,7 +30,8 @@ returns-in-End-clause-takes c = λ level text held left held_after left_after re
 
 pub returns-in-End-clause-counts : goal.returns-in-End-clause-counts
 returns-in-End-clause-counts c = λ old new counts.
-    subst (λ n. CountsFaultsOf c.ending_of.result old n) (sym (subst (λ (n : Next). CountsNext n old new) c.in-End.is counts)) (c.ending_of.ensures.counts old)
+    subst (λ n. CountsFaultsOf c.ending_of.result old n)
+    (sym (subst (λ (n : Next). CountsNext n old new) c.in-End.is counts)) (c.ending_of.ensures.counts old)
 
 pub returns-in-End-clause-here : goal.returns-in-End-clause-here
 returns-in-End-clause-here c = c.ending_of.ensures.none c.args.at
@@ -37,7 +39,8 @@ returns-in-End-clause-here c = c.ending_of.ensures.none c.args.at
 pub returns-in-Bad-clause-takes : goal.returns-in-Bad-clause-takes
 returns-in-Bad-clause-takes c = λ level text held left held_after left_after reading gives.
     let here = subst (λ (n : Next). NextGives n held left held_after left_after) c.in-Bad.is gives in
-    bad_read level text here.0 c.in-Bad.bad held left held_after left_after c.args.judge.now c.args.at reading here.1 here.2 here.3
+    bad_read level text here.0 c.in-Bad.bad held left held_after left_after c.args.judge.now c.args.at reading
+    here.1 here.2 here.3
 
 pub returns-in-Fault-clause-takes : goal.returns-in-Fault-clause-takes
 returns-in-Fault-clause-takes c = λ level text held left held_after left_after reading gives.
@@ -51,4 +54,5 @@ returns-in-Fault-clause-counts c = λ old new counts.
     (fault_counts c.in-Fault.fault c.args.at old new (subst (λ (n : Next). CountsNext n old new) c.in-Fault.is counts))
 
 pub returns-in-Fault-clause-here : goal.returns-in-Fault-clause-here
-returns-in-Fault-clause-here c = subst (λ (e : Ending). BreaksAt c.args.at e) (sym c.ending_by.ensures) (fault_breaks c.in-Fault.fault c.args.at)
+returns-in-Fault-clause-here c =
+    subst (λ (e : Ending). BreaksAt c.args.at e) (sym c.ending_by.ensures) (fault_breaks c.in-Fault.fault c.args.at)

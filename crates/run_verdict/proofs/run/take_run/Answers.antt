@@ -29,4 +29,5 @@ returns-clause-stops g c = λ level judged new.
 
 pub returns-clause-counts : goal.returns-clause-counts
 returns-clause-counts g c =
-    subst (λ n. CountsFaultsOf c.take_lines.result n (g.S.Source.faults c.take_lines.new.source)) c.in_default.ensures.counts c.take_lines.ensures.counts
+    subst (λ n. CountsFaultsOf c.take_lines.result n (g.S.Source.faults c.take_lines.new.source))
+    c.in_default.ensures.counts c.take_lines.ensures.counts

@@ -8,4 +8,8 @@ returns-then-stands_against c = λ level past before confronts.
 
 pub returns-else-stands_against : goal.returns-else-stands_against
 returns-else-stands_against c = λ level past before confronts.
-    inr (λ stands. not_both c.stands_against.result c.if-stands_against.false ((c.stands_against.ensures level past before confronts).1 stands), refl)
+    inr (
+      λ stands. not_both c.stands_against.result c.if-stands_against.false
+          ((c.stands_against.ensures level past before confronts).1 stands),
+      refl,
+    )

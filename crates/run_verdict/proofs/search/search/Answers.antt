@@ -12,7 +12,8 @@ returns-in-Some-clause-early g c = header_early c.in-Some.ending c.args.breach.n
 pub returns-clause-found : goal.returns-clause-found
 returns-clause-found g c = λ level text past tells new again judged breaks within.
     c.search_lines.ensures.found level text past judged breaks
-    (search_begins level text past c.args.breach.now.line c.args.breach.now.rule c.read_header.new.reader.held (g.S.Source.left c.read_header.new.source) c.args.again.now
+    (search_begins level text past c.args.breach.now.line c.args.breach.now.rule c.read_header.new.reader.held
+    (g.S.Source.left c.read_header.new.source) c.args.again.now
     (first_read level text c.read_header.new.reader.held (g.S.Source.left c.read_header.new.source) c.args.again.now
     (c.in_default.ensures.opens text tells new) again)) within
 

@@ -11,7 +11,8 @@ use Rattle.run_verdict.proofs.text.write_ending.Goals as goal
 pub returns-in_ok-write_number-in-SoFar : goal.returns-in_ok-write_number-in-SoFar
 returns-in_ok-write_number-in-SoFar g c =
     let written = g.K.Sink.written in
-    subst (λ (e : Ending). OnOk c.write_owed.result (IsWritten e (written c.args.out.now) (written c.write_owed.new.out))) (sym c.in-SoFar.is)
+    subst (λ (e : Ending). OnOk c.write_owed.result
+    (IsWritten e (written c.args.out.now) (written c.write_owed.new.out))) (sym c.in-SoFar.is)
     (more_on c.write_owed.result (written c.args.out.now) (written c.write_number.new.out) (written c.write_owed.new.out)
     (numbered (codes "legal so far, ") c.in-SoFar.lines (codes " lines" ++ 10 ∷ [])) (owed_text c.in-SoFar.owed)
     c.in_ok-write_number-in-SoFar.ensures c.write_owed.ensures)
@@ -19,7 +20,8 @@ returns-in_ok-write_number-in-SoFar g c =
 pub returns-in-Illegal : goal.returns-in-Illegal
 returns-in-Illegal g c =
     let written = g.K.Sink.written in
-    subst (λ (e : Ending). OnOk c.write_illegal.result (IsWritten e (written c.args.out.now) (written c.write_illegal.new.out))) (sym c.in-Illegal.is)
+    subst (λ (e : Ending). OnOk c.write_illegal.result
+    (IsWritten e (written c.args.out.now) (written c.write_illegal.new.out))) (sym c.in-Illegal.is)
     (some_words c.write_illegal.result c.as_bytes.result.now
     (λ (words : List ℕ). illegal_text c.in-Illegal.at c.in-Illegal.rule c.in-Illegal.line words)
     (written c.args.out.now) (written c.write_illegal.new.out) c.write_illegal.ensures)
@@ -27,7 +29,8 @@ returns-in-Illegal g c =
 pub returns-in-NoLineFeed : goal.returns-in-NoLineFeed
 returns-in-NoLineFeed g c =
     let written = g.K.Sink.written in
-    subst (λ (e : Ending). OnOk c.write_number-in-NoLineFeed.result (IsWritten e (written c.args.out.now) (written c.write_number-in-NoLineFeed.new.out))) (sym c.in-NoLineFeed.is)
+    subst (λ (e : Ending). OnOk c.write_number-in-NoLineFeed.result
+    (IsWritten e (written c.args.out.now) (written c.write_number-in-NoLineFeed.new.out))) (sym c.in-NoLineFeed.is)
     (some_words c.write_number-in-NoLineFeed.result (codes ": expected a line feed at its end" ++ 10 ∷ [])
     (λ (words : List ℕ). numbered (codes "bad run at line ") c.in-NoLineFeed.at words)
     (written c.args.out.now) (written c.write_number-in-NoLineFeed.new.out) c.write_number-in-NoLineFeed.ensures)
@@ -35,7 +38,8 @@ returns-in-NoLineFeed g c =
 pub returns-in-TooLong : goal.returns-in-TooLong
 returns-in-TooLong g c =
     let written = g.K.Sink.written in
-    subst (λ (e : Ending). OnOk c.write_number-in-TooLong.result (IsWritten e (written c.args.out.now) (written c.write_number-in-TooLong.new.out))) (sym c.in-TooLong.is)
+    subst (λ (e : Ending). OnOk c.write_number-in-TooLong.result
+    (IsWritten e (written c.args.out.now) (written c.write_number-in-TooLong.new.out))) (sym c.in-TooLong.is)
     (some_words c.write_number-in-TooLong.result (codes ": expected less than 65536 bytes" ++ 10 ∷ [])
     (λ (words : List ℕ). numbered (codes "bad run at line ") c.in-TooLong.at words)
     (written c.args.out.now) (written c.write_number-in-TooLong.new.out) c.write_number-in-TooLong.ensures)

@@ -6,12 +6,14 @@ use Rattle.io_names.proofs.table.NameTable.take.Goals as goal
 
 pub index-at-requires : goal.index-at-requires
 index-at-requires c =
-    let within = first_within _ _ _ (subst (λ f. AreFree f c.self.inside.places.items) c.in-Some.ensures.items c.self.invariant.0) in
+    let within =
+    first_within _ _ _ (subst (λ f. AreFree f c.self.inside.places.items) c.in-Some.ensures.items c.self.invariant.0) in
     omega (arith, within)
 
 pub index_mut-requires : goal.index_mut-requires
 index_mut-requires c =
-    let within = first_within _ _ _ (subst (λ f. AreFree f c.self.inside.places.items) c.in-Some.ensures.items c.self.invariant.0) in
+    let within =
+    first_within _ _ _ (subst (λ f. AreFree f c.self.inside.places.items) c.in-Some.ensures.items c.self.invariant.0) in
     omega (arith, within)
 
 pub invariant_of-self-in-Some : goal.invariant_of-self-in-Some
@@ -25,4 +27,5 @@ invariant_of-self-in-Some c =
 pub returns-in-None-clause-kept : goal.returns-in-None-clause-kept
 returns-in-None-clause-kept c =
     let empty = c.in-None.ensures.cases.0 in
-    rw (← c.self.view_is) (none_free c.self.inside.free.items c.self.inside.places.items (omega (arith, empty)) c.self.invariant.0)
+    rw (← c.self.view_is)
+    (none_free c.self.inside.free.items c.self.inside.places.items (omega (arith, empty)) c.self.invariant.0)

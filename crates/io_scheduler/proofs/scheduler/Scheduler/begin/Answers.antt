@@ -54,7 +54,14 @@ pub invariant_of-self-in-Some : goal.invariant_of-self-in-Some
 invariant_of-self-in-Some g c =
     let shows = c.self.invariant.1 in (
       c.give_out-claim.ensures.none,
-      rw (c.from.ensures, c.grant-grant.ensures, ap grant_in shows.counts_are, c.keep_all-spares.ensures.names, c.give_out-claim.ensures.past, c.note_begun.ensures.past)
+      rw (
+        c.from.ensures,
+        c.grant-grant.ensures,
+        ap grant_in shows.counts_are,
+        c.keep_all-spares.ensures.names,
+        c.give_out-claim.ensures.past,
+        c.note_begun.ensures.past,
+      )
           (shows_begun g.H.Handler.marks g.C.Named.limits c.self.inside.counts (names_of c.self.inside.names)
           c.self.inside.strands.items c.take_first.new.strands.items c.self.inside.jobs c.take_first.new.jobs
           (state_of g.C.Named.limits c.self.inside.keeper.past) c.in-Some.field-0.lane c.in-Some.field-0.op

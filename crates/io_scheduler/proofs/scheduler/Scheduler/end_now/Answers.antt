@@ -58,7 +58,18 @@ invariant_of-self g c =
     c.self.inside.strands.items c.self.inside.jobs (state_of g.C.Named.limits c.self.inside.keeper.past)
     c.running.inside.lane c.is_last-last.result c.is_last-last.ensures c.self.invariant.1 in (
       c.note_ended.ensures.none,
-      rw (c.saturating_sub-self-inside.ensures, c.from.ensures, c.places_of-places.ensures, c.forget_if.ensures.names, c.forget_if.ensures.strands, c.leave.ensures.strands, c.leave.ensures.jobs, c.note_ended.ensures.past, c.learn.ensures.same, c.take_back.ensures.past)
+      rw (
+        c.saturating_sub-self-inside.ensures,
+        c.from.ensures,
+        c.places_of-places.ensures,
+        c.forget_if.ensures.names,
+        c.forget_if.ensures.strands,
+        c.leave.ensures.strands,
+        c.leave.ensures.jobs,
+        c.note_ended.ensures.past,
+        c.learn.ensures.same,
+        c.take_back.ensures.past,
+      )
           (shows_ended g.H.Handler.marks g.C.Named.limits c.self.inside.keeper.past c.self.inside.counts
           (names_of c.self.inside.names) (names_of c.give_back_all.new.self) c.self.inside.strands.items c.self.inside.jobs
           c.running.inside.op c.args.mark c.running.inside.lane c.running.inside.own c.running.inside.grant

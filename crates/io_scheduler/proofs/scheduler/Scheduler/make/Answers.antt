@@ -9,7 +9,15 @@ destroy_all-requires g c = vacant_idle _ _ _ c.in-Ok-make_strands.ensures
 pub invariant_of-result : goal.invariant_of-result
 invariant_of-result g c = (
   ap (λ k. k.held) c.requires.new,
-  rw (c.new.ensures, c.in-Ok.ensures, c.in-Ok-make_strands.ensures, c.in-Ok-make.ensures, ap (λ k. k.past) c.requires.new, c.requires.limits)
+  rw (
+    c.new.ensures,
+    c.in-Ok.ensures,
+    c.in-Ok-make_strands.ensures,
+    c.in-Ok-make.ensures,
+    ap (λ k. k.past)
+        c.requires.new,
+    c.requires.limits,
+  )
       (shows_first g.H.Handler.marks g.C.Named.limits),
   rw (c.new-in-Ok-make.ensures, ap (λ k. k.past) c.requires.new) (tally_first g.C.Named.limits),
 )

@@ -15,7 +15,9 @@ note_posted-told-requires g c =
     let shows = c.self.invariant.1 in
     record {
       table = c.requires.table;
-      event = refl {a = event.Called c.self.inside.counts.next None (posting c.args.lane c.args.kind (g.H.Handler.marks c.args.handler)) gone.Nothing};
+      event = refl
+          {a = event.Called c.self.inside.counts.next None
+          (posting c.args.lane c.args.kind (g.H.Handler.marks c.args.handler)) gone.Nothing};
       may = rw c.learn.ensures.same
           (may_be_posted _ c.self.inside.counts.next c.args.lane c.args.kind _ shows.going
           (ap (λ n. n.next) shows.counts_are) c.requires.posting (rw (← c.self.view_is) at c.requires.may));
@@ -58,7 +60,8 @@ returns-clause-initiated g c =
           (ap (λ n. n.next) shows.counts_are) c.requires.posting (rw (← c.self.view_is) at c.requires.may);
       is = ap (state_of g.C.Named.limits)
           (c.note_posted-told.ensures.past
-          ∙ ap (λ k. event.Called c.self.inside.counts.next None (posting c.args.lane c.args.kind (g.H.Handler.marks c.args.handler)) gone.Nothing ∷ k.past)
+          ∙ ap (λ k. event.Called c.self.inside.counts.next None
+          (posting c.args.lane c.args.kind (g.H.Handler.marks c.args.handler)) gone.Nothing ∷ k.past)
           c.learn.ensures.same);
     })
 

@@ -22,7 +22,8 @@ take_kept-requires g c =
     (rw c.take_back.ensures.past at c.take_back.ensures.runs) in
     called_number g.H.Handler.marks g.C.Named.limits c.self.inside.keeper.past c.self.inside.counts
     (names_of c.self.inside.names) c.self.inside.strands.items c.self.inside.jobs c.running.inside.op c.running.inside.lane
-    c.running.inside.own c.running.inside.grant c.running.inside.spares c.running.inside.claim.held legal it some c.self.invariant.1
+    c.running.inside.own c.running.inside.grant c.running.inside.spares c.running.inside.claim.held legal it
+    some c.self.invariant.1
 
 pub call-requires : goal.call-requires
 call-requires g c =
@@ -39,7 +40,8 @@ enter-requires g c =
     c.running.inside.own c.running.inside.grant c.running.inside.spares c.running.inside.claim.held c.running.invariant
     (rw c.take_back.ensures.past at c.take_back.ensures.runs) in
     called_space g.H.Handler.marks g.C.Named.limits c.self.inside.keeper.past c.self.inside.counts
-    (names_of c.self.inside.names) c.self.inside.strands.items c.self.inside.jobs c.running.inside.op c.running.inside.lane c.args.lane
+    (names_of c.self.inside.names) c.self.inside.strands.items c.self.inside.jobs c.running.inside.op
+    c.running.inside.lane c.args.lane
     c.running.inside.own c.running.inside.grant c.running.inside.spares c.running.inside.claim.held legal it some
     (rw (← c.self.view_is) at c.requires.there) c.self.invariant.1
 
@@ -50,7 +52,8 @@ give_out-claim-requires-clause-some g c =
     (rw c.take_back.ensures.past at c.take_back.ensures.runs) in
     (held_posted (state_of g.C.Named.limits c.self.inside.keeper.past) c.goes_first.result
     c.self.inside.counts.next c.running.inside.op c.running.inside.lane c.args.lane c.args.kind (g.H.Handler.marks c.args.handler)
-    c.running.inside.own c.running.inside.grant c.running.inside.spares c.running.inside.claim.held c.note_called.new.keeper.held c.requires.posting c.goes_first.ensures
+    c.running.inside.own c.running.inside.grant c.running.inside.spares c.running.inside.claim.held
+    c.note_called.new.keeper.held c.requires.posting c.goes_first.ensures
     c.running.invariant it
     (rw (c.learn.ensures.same, c.take_back.ensures.past, c.take_back.ensures.held) at c.note_called.ensures.held)).some
 
@@ -61,15 +64,32 @@ invariant_of-self g c =
     (rw c.take_back.ensures.past at c.take_back.ensures.runs) in
     let shows = c.self.invariant.1 in (
       c.give_out-claim.ensures.none,
-      rw (c.take_kept.ensures.called, c.enter.ensures.strands, c.enter.ensures.jobs, c.give_out-claim.ensures.past, c.note_called.ensures.past, c.learn.ensures.same, c.take_back.ensures.past)
+      rw (
+        c.take_kept.ensures.called,
+        c.enter.ensures.strands,
+        c.enter.ensures.jobs,
+        c.give_out-claim.ensures.past,
+        c.note_called.ensures.past,
+        c.learn.ensures.same,
+        c.take_back.ensures.past,
+      )
           (shows_called g.H.Handler.marks g.C.Named.limits c.self.inside.counts
-          (names_of c.self.inside.names) c.self.inside.strands.items c.self.inside.jobs (state_of g.C.Named.limits c.self.inside.keeper.past) c.goes_first.result
+          (names_of c.self.inside.names) c.self.inside.strands.items c.self.inside.jobs
+          (state_of g.C.Named.limits c.self.inside.keeper.past) c.goes_first.result
           c.self.inside.counts.next c.running.inside.op c.running.inside.lane c.args.lane c.args.kind c.args.handler
-          c.running.inside.own c.running.inside.grant c.running.inside.spares c.running.inside.claim.held (ap (λ n. n.next) c.self.invariant.1.counts_are) c.requires.posting
+          c.running.inside.own c.running.inside.grant c.running.inside.spares c.running.inside.claim.held
+          (ap (λ n. n.next) c.self.invariant.1.counts_are) c.requires.posting
           (rw (← c.self.view_is) at c.requires.there) it c.goes_first.ensures shows),
-      rw (c.call.ensures, c.give_out-claim.ensures.past, c.note_called.ensures.past, c.learn.ensures.same, c.take_back.ensures.past)
+      rw (
+        c.call.ensures,
+        c.give_out-claim.ensures.past,
+        c.note_called.ensures.past,
+        c.learn.ensures.same,
+        c.take_back.ensures.past,
+      )
           (tally_calls c.self.inside.tally (state_of g.C.Named.limits c.self.inside.keeper.past) c.goes_first.result
-          c.self.inside.counts.next c.running.inside.op c.running.inside.lane c.args.lane c.args.kind (g.H.Handler.marks c.args.handler)
+          c.self.inside.counts.next c.running.inside.op c.running.inside.lane c.args.lane c.args.kind
+          (g.H.Handler.marks c.args.handler)
           c.running.inside.own c.running.inside.grant c.running.inside.spares c.running.inside.claim.held
           c.self.invariant.2 c.requires.posting it c.goes_first.ensures),
     )
@@ -81,7 +101,8 @@ invariant_of-result g c =
     (rw c.take_back.ensures.past at c.take_back.ensures.runs) in
     let held = held_posted (state_of g.C.Named.limits c.self.inside.keeper.past) c.goes_first.result
     c.self.inside.counts.next c.running.inside.op c.running.inside.lane c.args.lane c.args.kind (g.H.Handler.marks c.args.handler)
-    c.running.inside.own c.running.inside.grant c.running.inside.spares c.running.inside.claim.held c.give_out-claim.result.held c.requires.posting c.goes_first.ensures
+    c.running.inside.own c.running.inside.grant c.running.inside.spares c.running.inside.claim.held
+    c.give_out-claim.result.held c.requires.posting c.goes_first.ensures
     c.running.invariant it
     (c.give_out-claim.ensures.held
     ∙ rw (c.learn.ensures.same, c.take_back.ensures.past, c.take_back.ensures.held) at c.note_called.ensures.held) in
@@ -97,8 +118,11 @@ returns-clause-called g c =
     let request = posting c.args.lane c.args.kind (g.H.Handler.marks c.args.handler) in
     rw (← c.self.view_is, ← c.running.view_is)
     (is_called c.running.inside.op request gone.Nothing (state_of g.C.Named.limits c.self.inside.keeper.past) _
-    (gone_posting (state_of g.C.Named.limits c.self.inside.keeper.past) c.args.lane c.args.kind (g.H.Handler.marks c.args.handler) false c.requires.posting there) (
-      may_be_called (state_of g.C.Named.limits c.self.inside.keeper.past) (state_of g.C.Named.limits c.self.inside.keeper.past).next c.running.inside.op c.running.inside.lane c.args.lane c.args.kind (g.H.Handler.marks c.args.handler)
+    (gone_posting (state_of g.C.Named.limits c.self.inside.keeper.past) c.args.lane c.args.kind
+    (g.H.Handler.marks c.args.handler) false c.requires.posting there) (
+      may_be_called (state_of g.C.Named.limits c.self.inside.keeper.past)
+          (state_of g.C.Named.limits c.self.inside.keeper.past).next c.running.inside.op c.running.inside.lane
+          c.args.lane c.args.kind (g.H.Handler.marks c.args.handler)
           c.running.inside.own false c.running.inside.grant c.running.inside.spares c.running.inside.claim.held
           c.self.invariant.1.going refl c.requires.posting there it some,
       tt,
@@ -106,7 +130,8 @@ returns-clause-called g c =
     (ap (state_of g.C.Named.limits)
     (c.give_out-claim.ensures.past
     ∙ rw (c.learn.ensures.same, c.take_back.ensures.past) at c.note_called.ensures.past)
-    ∙ ap (λ n. after (event.Called n (Some c.running.inside.op) request gone.Nothing) (state_of g.C.Named.limits c.self.inside.keeper.past))
+    ∙ ap (λ n. after (event.Called n (Some c.running.inside.op) request gone.Nothing)
+    (state_of g.C.Named.limits c.self.inside.keeper.past))
     (ap (λ n. n.next) c.self.invariant.1.counts_are)))
 
 pub returns-clause-goes_on : goal.returns-clause-goes_on
@@ -117,7 +142,8 @@ returns-clause-goes_on g c =
     (rw c.take_back.ensures.past at c.take_back.ensures.runs) in
     let held = held_posted (state_of g.C.Named.limits c.self.inside.keeper.past) c.goes_first.result
     c.self.inside.counts.next c.running.inside.op c.running.inside.lane c.args.lane c.args.kind (g.H.Handler.marks c.args.handler)
-    c.running.inside.own c.running.inside.grant c.running.inside.spares c.running.inside.claim.held c.give_out-claim.result.held c.requires.posting c.goes_first.ensures
+    c.running.inside.own c.running.inside.grant c.running.inside.spares c.running.inside.claim.held
+    c.give_out-claim.result.held c.requires.posting c.goes_first.ensures
     c.running.invariant it
     (c.give_out-claim.ensures.held
     ∙ rw (c.learn.ensures.same, c.take_back.ensures.past, c.take_back.ensures.held) at c.note_called.ensures.held) in

@@ -35,7 +35,8 @@ take_kept-requires g c =
     (rw c.take_back.ensures.past at c.take_back.ensures.runs) in
     called_number g.H.Handler.marks g.C.Named.limits c.self.inside.keeper.past c.self.inside.counts
     (names_of c.self.inside.names) c.self.inside.strands.items c.self.inside.jobs c.running.inside.op c.running.inside.lane
-    c.running.inside.own c.running.inside.grant c.running.inside.spares c.running.inside.claim.held legal it some c.self.invariant.1
+    c.running.inside.own c.running.inside.grant c.running.inside.spares c.running.inside.claim.held legal it
+    some c.self.invariant.1
 
 pub call-requires : goal.call-requires
 call-requires g c =
@@ -52,8 +53,10 @@ add-requires g c =
     c.running.inside.own c.running.inside.grant c.running.inside.spares c.running.inside.claim.held c.running.invariant
     (rw c.take_back.ensures.past at c.take_back.ensures.runs) in
     called_space g.H.Handler.marks g.C.Named.limits c.self.inside.keeper.past c.self.inside.counts
-    (names_of c.self.inside.names) c.self.inside.strands.items c.self.inside.jobs c.running.inside.op c.running.inside.lane lane.Own
-    c.running.inside.own c.running.inside.grant c.running.inside.spares c.running.inside.claim.held legal it some refl c.self.invariant.1
+    (names_of c.self.inside.names) c.self.inside.strands.items c.self.inside.jobs c.running.inside.op
+    c.running.inside.lane lane.Own
+    c.running.inside.own c.running.inside.grant c.running.inside.spares c.running.inside.claim.held legal it
+    some refl c.self.invariant.1
 
 pub give_out-claim-requires-clause-some : goal.give_out-claim-requires-clause-some
 give_out-claim-requires-clause-some g c =
@@ -61,22 +64,40 @@ give_out-claim-requires-clause-some g c =
     let it = held_op_is (state_of g.C.Named.limits c.self.inside.keeper.past) c.running.inside.op c.running.inside.lane
     c.running.inside.own c.running.inside.grant c.running.inside.spares c.running.inside.claim.held c.running.invariant
     (rw c.take_back.ensures.past at c.take_back.ensures.runs) in
-    (held_refused (state_of g.C.Named.limits c.self.inside.keeper.past) c.self.inside.counts.next c.running.inside.op c.running.inside.lane c.args.lane
+    (held_refused (state_of g.C.Named.limits c.self.inside.keeper.past) c.self.inside.counts.next
+    c.running.inside.op c.running.inside.lane c.args.lane
     c.args.kind (g.H.Handler.marks c.args.handler) c.running.inside.own c.running.inside.grant c.running.inside.spares
     c.running.inside.claim.held c.note_called.new.keeper.held c.note_refused.new.keeper.held c.requires.posting
-    (subst (λ k. AreBelow k (state_of g.C.Named.limits c.self.inside.keeper.past).ops) (sym next) c.self.invariant.1.below) c.running.invariant it
+    (subst (λ k. AreBelow k (state_of g.C.Named.limits c.self.inside.keeper.past).ops) (sym next)
+    c.self.invariant.1.below) c.running.invariant it
     (rw (c.learn.ensures.same, c.take_back.ensures.past, c.take_back.ensures.held) at c.note_called.ensures.held)
     (rw (c.note_called.ensures.past, c.learn.ensures.same, c.take_back.ensures.past) at c.note_refused.ensures.held)).some
 
 pub invariant_of-self : goal.invariant_of-self
 invariant_of-self g c = (
   c.give_out-claim.ensures.none,
-  rw (c.take_kept.ensures.called, c.add.ensures, c.give_out-claim.ensures.past, c.note_refused.ensures.past, c.note_called.ensures.past, c.learn.ensures.same, c.take_back.ensures.past)
+  rw (
+    c.take_kept.ensures.called,
+    c.add.ensures,
+    c.give_out-claim.ensures.past,
+    c.note_refused.ensures.past,
+    c.note_called.ensures.past,
+    c.learn.ensures.same,
+    c.take_back.ensures.past,
+  )
       (shows_refused g.H.Handler.marks g.C.Named.limits c.self.inside.counts
-      (names_of c.self.inside.names) c.self.inside.strands.items c.self.inside.jobs (state_of g.C.Named.limits c.self.inside.keeper.past)
+      (names_of c.self.inside.names) c.self.inside.strands.items c.self.inside.jobs
+      (state_of g.C.Named.limits c.self.inside.keeper.past)
       c.self.inside.counts.next c.running.inside.op c.args.lane c.args.kind c.args.handler
       (ap (λ n. n.next) c.self.invariant.1.counts_are) c.requires.posting c.self.invariant.1),
-  rw (c.call.ensures, c.give_out-claim.ensures.past, c.note_refused.ensures.past, c.note_called.ensures.past, c.learn.ensures.same, c.take_back.ensures.past)
+  rw (
+    c.call.ensures,
+    c.give_out-claim.ensures.past,
+    c.note_refused.ensures.past,
+    c.note_called.ensures.past,
+    c.learn.ensures.same,
+    c.take_back.ensures.past,
+  )
       (tally_refused c.self.inside.tally (state_of g.C.Named.limits c.self.inside.keeper.past) c.self.inside.counts.next
       c.running.inside.op c.args.lane c.args.kind (g.H.Handler.marks c.args.handler) c.self.invariant.2 c.requires.posting
       (subst (λ k. AreBelow k (state_of g.C.Named.limits c.self.inside.keeper.past).ops)
@@ -89,10 +110,13 @@ invariant_of-result g c =
     let it = held_op_is (state_of g.C.Named.limits c.self.inside.keeper.past) c.running.inside.op c.running.inside.lane
     c.running.inside.own c.running.inside.grant c.running.inside.spares c.running.inside.claim.held c.running.invariant
     (rw c.take_back.ensures.past at c.take_back.ensures.runs) in
-    let held = held_refused (state_of g.C.Named.limits c.self.inside.keeper.past) c.self.inside.counts.next c.running.inside.op c.running.inside.lane c.args.lane
+    let held =
+    held_refused (state_of g.C.Named.limits c.self.inside.keeper.past) c.self.inside.counts.next
+    c.running.inside.op c.running.inside.lane c.args.lane
     c.args.kind (g.H.Handler.marks c.args.handler) c.running.inside.own c.running.inside.grant c.running.inside.spares
     c.running.inside.claim.held c.note_called.new.keeper.held c.give_out-claim.result.held c.requires.posting
-    (subst (λ k. AreBelow k (state_of g.C.Named.limits c.self.inside.keeper.past).ops) (sym next) c.self.invariant.1.below) c.running.invariant it
+    (subst (λ k. AreBelow k (state_of g.C.Named.limits c.self.inside.keeper.past).ops) (sym next)
+    c.self.invariant.1.below) c.running.invariant it
     (rw (c.learn.ensures.same, c.take_back.ensures.past, c.take_back.ensures.held) at c.note_called.ensures.held)
     (c.give_out-claim.ensures.held
     ∙ rw (c.note_called.ensures.past, c.learn.ensures.same, c.take_back.ensures.past) at c.note_refused.ensures.held) in
@@ -110,12 +134,16 @@ returns-clause-called g c =
     let next = (ap (λ n. n.next) c.self.invariant.1.counts_are) in
     rw (← c.self.view_is, ← c.running.view_is)
     (is_called c.running.inside.op request gone.Strand (state_of g.C.Named.limits c.self.inside.keeper.past) _
-    (gone_posting (state_of g.C.Named.limits c.self.inside.keeper.past) c.args.lane c.args.kind (g.H.Handler.marks c.args.handler) true c.requires.posting gone_is) (
-      may_be_called (state_of g.C.Named.limits c.self.inside.keeper.past) (state_of g.C.Named.limits c.self.inside.keeper.past).next c.running.inside.op c.running.inside.lane c.args.lane c.args.kind (g.H.Handler.marks c.args.handler) c.running.inside.own true
+    (gone_posting (state_of g.C.Named.limits c.self.inside.keeper.past) c.args.lane c.args.kind
+    (g.H.Handler.marks c.args.handler) true c.requires.posting gone_is) (
+      may_be_called (state_of g.C.Named.limits c.self.inside.keeper.past)
+          (state_of g.C.Named.limits c.self.inside.keeper.past).next c.running.inside.op c.running.inside.lane
+          c.args.lane c.args.kind (g.H.Handler.marks c.args.handler) c.running.inside.own true
           c.running.inside.grant c.running.inside.spares c.running.inside.claim.held shows.going refl
           c.requires.posting gone_is it some,
       (
-        may_be_refused (state_of g.C.Named.limits c.self.inside.keeper.past).next c.running.inside.op c.args.lane c.args.kind (g.H.Handler.marks c.args.handler) (state_of g.C.Named.limits c.self.inside.keeper.past)
+        may_be_refused (state_of g.C.Named.limits c.self.inside.keeper.past).next c.running.inside.op
+            c.args.lane c.args.kind (g.H.Handler.marks c.args.handler) (state_of g.C.Named.limits c.self.inside.keeper.past)
             c.requires.posting shows.going shows.settled shows.below,
         tt,
       ),
@@ -123,7 +151,9 @@ returns-clause-called g c =
     (ap (state_of g.C.Named.limits)
     (c.give_out-claim.ensures.past
     ∙ rw (c.note_called.ensures.past, c.learn.ensures.same, c.take_back.ensures.past) at c.note_refused.ensures.past)
-    ∙ ap (λ n. after (event.Done n code.Bad 0) (after (event.Called n (Some c.running.inside.op) request gone.Strand) (state_of g.C.Named.limits c.self.inside.keeper.past))) next))
+    ∙ ap (λ n. after (event.Done n code.Bad 0)
+    (after (event.Called n (Some c.running.inside.op) request gone.Strand)
+    (state_of g.C.Named.limits c.self.inside.keeper.past))) next))
 
 pub returns-clause-goes_on : goal.returns-clause-goes_on
 returns-clause-goes_on g c =
@@ -132,10 +162,13 @@ returns-clause-goes_on g c =
     let it = held_op_is (state_of g.C.Named.limits c.self.inside.keeper.past) c.running.inside.op c.running.inside.lane
     c.running.inside.own c.running.inside.grant c.running.inside.spares c.running.inside.claim.held c.running.invariant
     (rw c.take_back.ensures.past at c.take_back.ensures.runs) in
-    let held = held_refused (state_of g.C.Named.limits c.self.inside.keeper.past) c.self.inside.counts.next c.running.inside.op c.running.inside.lane c.args.lane
+    let held =
+    held_refused (state_of g.C.Named.limits c.self.inside.keeper.past) c.self.inside.counts.next
+    c.running.inside.op c.running.inside.lane c.args.lane
     c.args.kind (g.H.Handler.marks c.args.handler) c.running.inside.own c.running.inside.grant c.running.inside.spares
     c.running.inside.claim.held c.note_called.new.keeper.held c.give_out-claim.result.held c.requires.posting
-    (subst (λ k. AreBelow k (state_of g.C.Named.limits c.self.inside.keeper.past).ops) (sym next) c.self.invariant.1.below) c.running.invariant it
+    (subst (λ k. AreBelow k (state_of g.C.Named.limits c.self.inside.keeper.past).ops) (sym next)
+    c.self.invariant.1.below) c.running.invariant it
     (rw (c.learn.ensures.same, c.take_back.ensures.past, c.take_back.ensures.held) at c.note_called.ensures.held)
     (c.give_out-claim.ensures.held
     ∙ rw (c.note_called.ensures.past, c.learn.ensures.same, c.take_back.ensures.past) at c.note_refused.ensures.held) in

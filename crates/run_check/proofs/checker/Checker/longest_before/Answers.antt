@@ -9,12 +9,16 @@ pub returns-in-Some : goal.returns-in-Some
 returns-in-Some c = λ past after op is place.
     let says = waiter_says past op c.args.waiter.now is in
     let on = says_strand past op c.args.waiter.now says ∙ c.in-Some.is in
-    let least : (other since : ℕ) → spot_of past other ≡ Some (c.in-Some.strand, since) → IsSomeAnd c.first.result (λ f. f.0 ≤ since) =
+    let least : (other since : ℕ) → spot_of past other ≡ Some (c.in-Some.strand, since) →
+    IsSomeAnd c.first.result (λ f. f.0 ≤ since) =
     λ other since there. c.first.ensures.least after.ordered other since (after.queued other ∙ there) in
     let stands = if_spot past c.args.self.now after c.in-Some.strand c.first.result (c.first.ensures.stands after.ordered) in
     let same = c.place_upto.ensures in (
-      λ found. longest_is past op c.in-Some.strand c.args.waiter.now says on c.first.result least stands c.args.waiter.now.entry refl place (sym same ∙ found),
-      λ found. same ∙ is_longest past op c.in-Some.strand c.args.waiter.now says on c.first.result least stands c.args.waiter.now.entry refl place found,
+      λ found. longest_is past op c.in-Some.strand c.args.waiter.now says on c.first.result least stands
+          c.args.waiter.now.entry refl place (sym same ∙ found),
+      λ found. same
+          ∙ is_longest past op c.in-Some.strand c.args.waiter.now says on c.first.result least stands
+          c.args.waiter.now.entry refl place found,
     )
 
 pub returns-in-None : goal.returns-in-None

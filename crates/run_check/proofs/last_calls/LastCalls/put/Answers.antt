@@ -7,5 +7,7 @@ use Rattle.run_check.proofs.last_calls.LastCalls.put.Goals as goal
 
 pub returns : goal.returns
 returns c =
-    let P : (Frame → Frame → Bool) → Type 0 = λ test. (q : Frame) → get test c.insert.new.self q ≡ (if test c.args.who q then Some c.args.op else get test c.args.self.now.calls q) in
+    let P : (Frame → Frame → Bool) → Type 0 =
+    λ test. (q : Frame) →
+    get test c.insert.new.self q ≡ (if test c.args.who q then Some c.args.op else get test c.args.self.now.calls q) in
     subst P frame_test c.in_ok-insert.ensures.updates.0

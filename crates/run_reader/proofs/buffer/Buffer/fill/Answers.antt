@@ -38,5 +38,6 @@ returns-clause-moves g c =
     let fits : end + c.in_ok-n.n ≤ c.self.inside.bytes.len =
     omega (arith, within, part, left, c.in_ok-n.ensures.bound, c.deref_mut.ensures.len) in
     moves c.in_ok-n.n c.args.self.now.bytes c.read.new.buf _ (g.S.Source.left c.args.source.now) (g.S.Source.left c.read.new.self)
-    (written c.self.inside.bytes.len start end c.in_ok-n.n items c.read.new.buf _ _ c.args.self.now.bytes same first within read fits)
+    (written c.self.inside.bytes.len start end c.in_ok-n.n items c.read.new.buf _ _ c.args.self.now.bytes same
+    first within read fits)
     c.in_ok-n.ensures.next c.in_ok-n.ensures.rest
