@@ -1,5 +1,5 @@
--- What became of an operation: its call, its completion, its begin or drop (Overview, "Asynchronous Operations": an initiating function,
--- and a completion handler that is called at most once).
+-- What became of an operation: its call, its completion, its begin or drop (Overview, "Asynchronous Operations":
+-- an initiating function, and a completion handler that is called at most once).
 use Rattle.std.specs.Prelude.{◌≡◌, ℕ, List, [], ◌∷◌, Bool, true, false, ◌==◌, if◌then◌else◌, length, Option, Some, None, IsSome}
 use Rattle.std.specs.List.{list_any}
 use Rattle.std.specs.Option.{option_or, option_map, option_and_then}

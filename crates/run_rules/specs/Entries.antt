@@ -1,5 +1,5 @@
--- When an operation stands in the queue of its strand (reference, io_context::strand, "Order of handler invocation": where one call happens
--- before another, its handler is called first).
+-- When an operation stands in the queue of its strand (reference, io_context::strand, "Order of handler
+-- invocation": where one call happens before another, its handler is called first).
 use Rattle.std.specs.Prelude.{ℕ, List, [], ◌∷◌, Bool, true, false, ◌==◌, if◌then◌else◌, length, Option, Some, None}
 use Rattle.std.specs.Option.{option_or, option_map}
 use Rattle.run_lines.specs.declared.line.Line.{Line}

@@ -74,8 +74,8 @@ pub record MayBegin (past : List Line) (thread op : â„•) (code : Code) (size : â
   pub waiting : Waits past op
   -- reference, post: the handler has no arguments; others are called with what their operation completed with
   pub outcome : HasOutcome past op code size
-  -- reference, io_context::strand: no two handlers of a strand execute concurrently; strand::dispatch: the handler may execute inside
-  -- the call where the caller is inside the strand
+  -- reference, io_context::strand: no two handlers of a strand execute concurrently; strand::dispatch: the handler
+  -- may execute inside the call where the caller is inside the strand
   pub free : IsFree past thread op
   -- reference, io_context::strand, "Order of handler invocation": what was submitted before, begins before
   pub first : IsFirst past op

@@ -1,5 +1,5 @@
--- Which handlers execute on a thread, and who writes its lines (Overview, "Threads and Boost.Asio": handlers are called by threads that
--- call run(), and by no others). The newest line stands first in all lists of lines.
+-- Which handlers execute on a thread, and who writes its lines (Overview, "Threads and Boost.Asio": handlers are
+-- called by threads that call run(), and by no others). The newest line stands first in all lists of lines.
 use Rattle.std.specs.Prelude.{ℕ, List, [], ◌∷◌, Bool, false, ◌==◌, if◌then◌else◌}
 use Rattle.run_lines.specs.declared.line.Doing.{Doing}
 use Rattle.run_lines.specs.declared.line.Doing.TheVariants as doing

@@ -1,5 +1,5 @@
--- When the handler of an operation may begin, as far as its strand has a say (reference, io_context::strand and strand::dispatch; Overview,
--- "Strands: Use Threads Without Explicit Locking").
+-- When the handler of an operation may begin, as far as its strand has a say (reference, io_context::strand and
+-- strand::dispatch; Overview, "Strands: Use Threads Without Explicit Locking").
 use Rattle.std.specs.Prelude.{◌≡◌, ◌≢◌, ◌≤◌, ℕ, List, [], Bool, Some, IsTrue, IsSomeAnd, IfSome, nat_eq}
 use Rattle.std.specs.List.{list_any}
 use Rattle.std.specs.Option.{option_eq}

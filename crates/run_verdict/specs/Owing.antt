@@ -20,8 +20,8 @@ use Rattle.run_verdict.specs.Judges.{HasJudged}
 use Rattle.run_verdict.specs.Search.{IsGoing}
 use Rattle.run_verdict.specs.Text.{numbered}
 
--- a line of a thread, behind the lines `before`, tells of something that is under way behind the lines `past`: it calls an operation
--- that waits, begins a handler that executes, or takes what isn't given back
+-- a line of a thread, behind the lines `before`, tells of something that is under way behind the lines `past`: it
+-- calls an operation that waits, begins a handler that executes, or takes what isn't given back
 abbrev pub is_owed : List Line → List Line → ℕ → Doing → Bool
 is_owed past before thread (doing.Call op word context strand thing) = is_some (waiter_of past op)
 is_owed past before thread (doing.Begin op code size) = is_executing past op
