@@ -362,12 +362,16 @@ alike_more script free first second i d e within other_within alike pair =
     let next =
     alike_after script free (state_of script true (take i first)) (state_of script true (take i second))
     (get_or first i d) (get_or second i e) alike pair in
-    let one : state_of script true (take (i + 1) first) ≡ after_event script true (state_of script true (take i first)) (get_or first i d) =
+    let one : state_of script true (take (i + 1) first) ≡ after_event script true
+    (state_of script true (take i first)) (get_or first i d) =
     ap (λ n. state_of script true (take n first)) (sym more) ∙ state_suc script (first_state script true) first i d within in
-    let other : state_of script true (take (i + 1) second) ≡ after_event script true (state_of script true (take i second)) (get_or second i e) =
-    ap (λ n. state_of script true (take n second)) (sym more) ∙ state_suc script (first_state script true) second i e other_within in
+    let other : state_of script true (take (i + 1) second) ≡ after_event script true
+    (state_of script true (take i second)) (get_or second i e) =
+    ap (λ n. state_of script true (take n second)) (sym more)
+    ∙ state_suc script (first_state script true) second i e other_within in
     subst (λ s. AreAlike f s (state_of script true (take (i + 1) second))) (sym one)
-    (subst (λ t. AreAlike f (after_event script true (state_of script true (take i first)) (get_or first i d)) t) (sym other) next)
+    (subst (λ t. AreAlike f (after_event script true (state_of script true (take i first)) (get_or first i d))
+    t) (sym other) next)
 
 pub alike_whole : (script : ScriptModel) (free : Bool) (first second : List Event) (i : ℕ) → length first ≤ i →
     length second ≡ length first →
