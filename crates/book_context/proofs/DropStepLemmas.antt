@@ -45,6 +45,14 @@ not_called (call.Open called) isnt = absurd (cc)
 not_called (call.Stopping called) isnt = absurd (cc)
 not_called (call.Back called back) isnt = absurd (cc)
 
+-- who was never called wasn't spent
+pub never_spent : (told : Bool) (r : Recording) (n : ℕ) → IsRecorded told r → slice_index_or r.called n false ≡ false →
+    is_spent_at told r n ≡ false
+never_spent told r n knows uncalled =
+    ap is_spent
+    (knows.kept.orderly.uncalled n
+    (not_called (call_at (recorded_state told r).context n) (sym (knows.called n) ∙ uncalled)))
+
 pub unspent_called : (told : Bool) (r : Recording) (n : ℕ) → IsRecorded told r →
     is_unspent_at told r n ≡ (is_op r.script n && (slice_index_or r.called n false && not (is_spent_at told r n)))
 unspent_called told r n knows = elim (cases_Bool (is_op r.script n)) [
@@ -121,6 +129,7 @@ dropping_begins told r knows done =
       acts = knows.kept.rest.acts;
       below = λ m less. absurd (omega (arith, less));
       from = λ m less. refl;
+      calls = λ m. refl;
       reactor = refl;
       called = refl;
       room =
@@ -152,6 +161,7 @@ module _ (told : Bool) (r : Recording) (n : ℕ) (t : Recording) (drops : IsDrop
       | inr differ ↦ drops.below m (omega (arith, less, differ))
     ];
     from = λ m less. drops.from m (omega (arith, less));
+    calls = drops.calls;
     reactor = drops.reactor;
     called = drops.called;
     room = drops.room;
@@ -220,6 +230,13 @@ module _ (told : Bool) (r : Recording) (n : ℕ) (t : Recording) (drops : IsDrop
       ];
       from = λ m less. ap (λ (act : ActState). act.phase) (others m (λ same. absurd (omega (arith, less, same))))
           ∙ drops.from m (omega (arith, less));
+      calls = λ m. elim (cases_eq m n) [
+        | inl same ↦
+            ap (λ m. call_at v.context m) same
+            ∙ (ap (λ (act : ActState). act.call) now
+            ∙ (drops.calls n ∙ ap (λ m. call_at (recorded_state told r).context m) (sym same)))
+        | inr differ ↦ ap (λ (act : ActState). act.call) (others m differ) ∙ drops.calls m
+      ];
       reactor = drops.reactor;
       called = drops.called;
       room = let less = fewer in let had = drops.room in omega (arith, less, had);

@@ -1,26 +1,33 @@
 -- Handlers that never ran are destroyed one after another, and what is left of a session that is over.
-use Rattle.std.proofs.Common.{◌≡◌, ◌⊎◌, ◌∙◌, ℕ, ◌+◌, ◌≤◌, arith, inl, inr, refl, sym, ap, subst}
+use Rattle.std.proofs.Common.{◌≡◌, ◌≢◌, ◌⊎◌, ◌∙◌, ℕ, ◌+◌, ◌<◌, ◌≤◌, arith, inl, inr, refl, sym, ap, subst}
 use Rattle.std.proofs.Common.{append_assoc, Bool, true, false, not, ◌&&◌, List, [], ◌∷◌, ◌++◌, Option, Some, None, length}
-use Rattle.std.specs.Prelude.{◌||◌, slice_set}
-use Rattle.std.specs.List.{Contains, list_all, slice_index_or}
-use Rattle.std.specs.Option.{option_map}
-use Rattle.std.proofs.lemmas.Bool.{cases_Bool}
+use Rattle.std.specs.Prelude.{◌||◌, if◌then◌else◌, slice_get, slice_set}
+use Rattle.std.specs.List.{Contains, list_all, range_with_len, slice_index_or, sum_by}
+use Rattle.std.specs.Option.{option_flatten, option_map}
+use Rattle.std.proofs.lemmas.Bool.{cases_Bool, cases_eq, cases_lt}
 use Rattle.std.proofs.lemmas.List.{append-nil}
+use Rattle.std.proofs.lemmas.Option.{slice_get_past}
 use Rattle.std.proofs.lemmas.List.Folds.{Any-from_list_any, list_all-append}
 use Rattle.asio_types.specs.declared.event.Event.{Event}
 use Rattle.asio_types.specs.declared.event.Event.TheVariants as event
-use Rattle.op_handlers.specs.Marks.{Marks}
+use Rattle.op_handlers.specs.Marks.{Marks, drop_mark_of}
+use Rattle.op_handlers.specs.Rack.{drop_marks}
+use Rattle.op_handlers.proofs.DiscardLemmas.{by_numbers, taken_same}
 use Rattle.session_script.specs.Lanes.{is_inline}
-use Rattle.session_script.specs.Script.{is_op}
+use Rattle.session_script.specs.Script.{ScriptModel, is_op}
 use Rattle.strand_core.specs.Hands.{Held, held_at}
 use Rattle.strand_core.proofs.HandLemmas.{taken_other}
+use Rattle.execution_laws.specs.Kinds.{was_called as called_by}
+use Rattle.execution_laws.specs.LetGo.{let_go_mark, let_go_marks}
+use Rattle.execution_laws.proofs.LetGoLemmas.{no_op_beyond, sums_below, sums_far}
 use Rattle.history_rules.specs.FromOutside.{has_fault, has_outside_stop, is_fault, is_outside_stop}
 use Rattle.book_context.specs.Book.{unless_spent}
 use Rattle.book_context.specs.DropSteps.{DropsGoOn, HasDropped, InlineAreSpent, SpentArePassed, UnspentAreCalled, is_unspent_at}
 use Rattle.book_context.specs.Finish.{GoesOnByDrops, IsEnding, is_drop}
 use Rattle.book_context.specs.InTurn.{KeepsFaults}
-use Rattle.book_context.specs.Recorded.{is_spent_at, recorded_half}
+use Rattle.book_context.specs.Recorded.{is_spent_at, recorded_half, recorded_state}
 use Rattle.book_context.specs.Recording.{Recording, with_event}
+use Rattle.book_context.proofs.DropStepLemmas.{never_spent}
 use Rattle.book_context.proofs.BookHistoryLemmas.{IsPlain, contains_any, faults-plain, marked-append, stops-plain}
 
 -- of a list without a fault the test finds none
@@ -64,6 +71,38 @@ no_mark : {H : Type 0} (marks : H → Marks) (is_spent : Bool) (own : Marks) (he
 no_mark marks true own held has is = refl
 no_mark marks false own None has is = absurd (cc (has))
 no_mark marks false own (Some h) has is = absurd (cc (is))
+
+-- the drop mark of a handler that is held unless it was spent
+held_mark : {H : Type 0} (marks : H → Marks) (spent : Bool) (own : Marks) (held : Option H) →
+    option_map marks held ≡ unless_spent spent own → drop_mark_of marks held ≡ (if spent then 0 else own.drop)
+held_mark marks true own None has = refl
+held_mark marks true own (Some h) has = absurd (cc has)
+held_mark marks false own None has = absurd (cc has)
+held_mark marks false own (Some h) has = let same : marks h ≡ own = cc has in ap (λ (m : Marks). m.drop) same
+
+-- what is held of an act that isn't unspent is the handler of an operation that was never called
+mark_by_tests : (drop : ℕ) (is called spent : Bool) → (is && (called && not spent)) ≡ false →
+    (called ≡ false → spent ≡ false) →
+    (if not is || spent then 0 else drop) ≡ (if is && not called then drop else 0)
+mark_by_tests drop false called spent isnt never = refl
+mark_by_tests drop true true true isnt never = refl
+mark_by_tests drop true true false isnt never = absurd (cc isnt)
+mark_by_tests drop true false true isnt never = absurd (let wrong = never refl in cc wrong)
+mark_by_tests drop true false false isnt never = refl
+
+-- and of one that was called, or is no operation, nothing
+no_mark_of : (drop : ℕ) (is called : Bool) → (is ≡ false) ⊎ (called ≡ true) → 0 ≡ (if is && not called then drop else 0)
+no_mark_of drop false called why = refl
+no_mark_of drop true true why = refl
+no_mark_of drop true false (inl wrong) = absurd (cc wrong)
+no_mark_of drop true false (inr wrong) = absurd (cc wrong)
+
+spent_called : (is called spent : Bool) → (not is || spent) ≡ true → (called ≡ false → spent ≡ false) →
+    (is ≡ false) ⊎ (called ≡ true)
+spent_called false called spent out never = inl refl
+spent_called true true spent out never = inr refl
+spent_called true false true out never = absurd (let wrong = never refl in cc wrong)
+spent_called true false false out never = absurd (cc out)
 
 -- what is unspent, by its three tests
 spent_out : (is called spent : Bool) → (not is || spent) ≡ true → (is && (called && not spent)) ≡ false
@@ -113,9 +152,33 @@ module _ {H : Type 0} {marks : H → Marks} {told : Bool} {run drop : ℕ → �
   holds_here = ap (option_map marks) (ending.from op (omega arith)) ∙ ending.holds.each op
 
   -- an act that isn't unspent is passed, whatever became of its own handler
+  -- the operation's drop mark, where it was never initiated
+  mark_is : let_go_mark ending.last.script drop (recorded_state told ending.last) op
+      ≡ (if is_one && not was_called then drop op else 0)
+  mark_is = ap (λ b. if is_one && not b then drop op else 0) (sym (ending.recorded.called op))
+
+  never : was_called ≡ false → was_spent ≡ false
+  never uncalled = never_spent told ending.last op ending.recorded uncalled
+
+  -- so much is told of those below the next one
+  module _ (after : Held H) (same : (m : ℕ) → m ≢ op → held_at after m ≡ held_at left m)
+      (here : drop_mark_of marks (held_at after op) ≡ (if is_one && not was_called then drop op else 0)) where
+    below_next : (m : ℕ) → m < op + 1 →
+        drop_mark_of marks (held_at after m) ≡ let_go_mark ending.last.script drop (recorded_state told ending.last) m
+    below_next m less = elim (cases_eq m op) [
+      | inl is ↦
+          ap (λ m. drop_mark_of marks (held_at after m)) is
+          ∙ (here
+          ∙ (sym mark_is ∙ ap (let_go_mark ending.last.script drop (recorded_state told ending.last)) (sym is)))
+      | inr differ ↦
+          ap (drop_mark_of marks) (same m differ) ∙ ending.below m (omega (arith, less, differ))
+    ]
+
   pass : SpentArePassed → is_unspent_at told ending.last op ≡ false → (after : Held H) → after.script ≡ left.script →
-      ((m : ℕ) → op + 1 ≤ m → held_at after m ≡ held_at left m) → IsEnding marks told run drop outside (op + 1) t after
-  pass passes isnt after script others = record {
+      ((m : ℕ) → m ≢ op → held_at after m ≡ held_at left m) →
+      drop_mark_of marks (held_at after op) ≡ (if is_one && not was_called then drop op else 0) →
+      IsEnding marks told run drop outside (op + 1) t after
+  pass passes isnt after script others here = record {
     last = ending.last;
     held = ending.held;
     recorded = ending.recorded;
@@ -125,7 +188,9 @@ module _ {H : Type 0} {marks : H → Marks} {told : Bool} {run drop : ℕ → �
     unstopped = ending.unstopped;
     set_up = ending.set_up;
     script = script ∙ ending.script;
-    from = λ m less. others m less ∙ ending.from m (omega (arith, less));
+    from = λ m less.
+        others m (λ same. absurd (omega (arith, same, less))) ∙ ending.from m (omega (arith, less));
+    below = below_next after others here;
   }
 
   module _ (unspent : UnspentAreCalled) where
@@ -137,7 +202,10 @@ module _ {H : Type 0} {marks : H → Marks} {told : Bool} {run drop : ℕ → �
 
     -- no operation, one that executes inside its call, and one that was never called
     pub pass_other : SpentArePassed → InlineAreSpent → IsOther → IsEnding marks told run drop outside (op + 1) t left
-    pass_other passes inline why = pass passes (isnt why) left refl (λ m less. refl)
+    pass_other passes inline why =
+        pass passes (isnt why) left refl (λ m less. refl)
+        (held_mark marks (not is_one || was_spent) (record { run = run op; drop = drop op }) (held_at left op) holds_here
+        ∙ mark_by_tests (drop op) is_one was_called was_spent (sym tests ∙ isnt why) never)
       where
         isnt : IsOther → is_unspent_at told ending.last op ≡ false
         isnt (inl no_op) =
@@ -153,10 +221,15 @@ module _ {H : Type 0} {marks : H → Marks} {told : Bool} {run drop : ℕ → �
 
     module _ (after : Held H) (script : after.script ≡ left.script)
         (taken : after.handlers ≡ slice_set left.handlers op None) where
-      others : (m : ℕ) → op + 1 ≤ m → held_at after m ≡ held_at left m
-      others m less =
+      others : (m : ℕ) → m ≢ op → held_at after m ≡ held_at left m
+      others m differ =
           ap (λ handlers. held_at (record after { handlers = handlers }) m) taken
-          ∙ taken_other left.handlers op m (λ same. absurd (omega (arith, same, less)))
+          ∙ taken_other left.handlers op m (λ same. differ (sym same))
+
+      gone : drop_mark_of marks (held_at after op) ≡ 0
+      gone =
+          ap (λ handlers. drop_mark_of marks (held_at (record after { handlers = handlers }) op)) taken
+          ∙ ap (drop_mark_of marks) (taken_same left.handlers op)
 
       -- the handler was spent
       pub pass_spent : SpentArePassed → option_map (λ h. (marks h).drop) (held_at left op) ≡ None →
@@ -165,6 +238,7 @@ module _ {H : Type 0} {marks : H → Marks} {told : Bool} {run drop : ℕ → �
           let spent =
           no_mark marks (not is_one || was_spent) (record { run = run op; drop = drop op }) (held_at left op) holds_here none in
           pass passes (tests ∙ spent_out is_one was_called was_spent spent) after script others
+          (gone ∙ no_mark_of (drop op) is_one was_called (spent_called is_one was_called was_spent spent never))
 
       module _ (goes : DropsGoOn) (called : slice_index_or t.called op false ≡ true) (mark : ℕ)
           (is : option_map (λ h. (marks h).drop) (held_at left op) ≡ Some mark) where
@@ -194,7 +268,13 @@ module _ {H : Type 0} {marks : H → Marks} {told : Bool} {run drop : ℕ → �
           unstopped = λ none. stops-plain run drop t.events (event.Dropped op mark ∷ []) plain ∙ ending.unstopped none;
           set_up = drop_behind t.events op mark;
           script = script ∙ ending.script;
-          from = λ m less. others m less ∙ ending.from m (omega (arith, less));
+          from = λ m less.
+              others m (λ same. absurd (omega (arith, same, less))) ∙ ending.from m (omega (arith, less));
+          below =
+              below_next after others
+              (gone
+              ∙ no_mark_of (drop op) is_one was_called
+              (inr (subst (λ called. slice_index_or called op false ≡ true) ending.dropping.called called)));
         }
 
         pub drop_half : recorded_half told next ≡ recorded_half told t
@@ -236,3 +316,53 @@ pub ends_all : {H : Type 0} {marks : H → Marks} {told : Bool} {run drop : ℕ 
     IsEnding marks told run drop outside (length first.script.acts) t left
 ends_all {marks} {told} {run} {drop} {outside} {t} {left} ends whole =
     subst (λ n. IsEnding marks told run drop outside n t left) (whole ∙ ends.acts) ends.ending
+
+-- what is held in the end are the handlers of the operations that were never initiated
+module _ {H : Type 0} {marks : H → Marks} {told : Bool} {run drop : ℕ → ℕ} {outside : Bool} {t : Recording}
+    {left : Held H} (n : ℕ) (ending : IsEnding marks told run drop outside n t left)
+    (all : length ending.last.script.acts ≤ n) where
+  abbrev mark : ℕ → ℕ
+  mark = let_go_mark ending.last.script drop (recorded_state told ending.last)
+
+  -- beyond the acts there is none
+  no_act : (m : ℕ) → length ending.last.script.acts ≤ m → is_op ending.last.script m ≡ false
+  no_act m beyond = no_op_beyond ending.last.script m beyond
+
+  far : (m : ℕ) → length ending.last.script.acts ≤ m → mark m ≡ 0
+  far m beyond = rw (no_act m beyond) refl
+
+  each : (m : ℕ) → drop_mark_of marks (held_at left m) ≡ mark m
+  each m = elim (cases_lt m n) [
+    | inl less ↦ ending.below m less
+    | inr more ↦
+        let beyond : length ending.last.script.acts ≤ m = omega (arith, more, all) in
+        let none : option_map marks (held_at ending.held m) ≡ None =
+        ending.holds.each m
+        ∙ ap (λ b. unless_spent (not b || is_spent_at told ending.last m) (record { run = run m; drop = drop m })) (no_act m beyond) in
+        ap (drop_mark_of marks) (ending.from m (omega (arith, more)) ∙ no_handler (held_at ending.held m) none)
+        ∙ sym (far m beyond)
+  ]
+    where
+      no_handler : (held : Option H) → option_map marks held ≡ None → held ≡ None
+      no_handler None none = refl
+      no_handler (Some h) none = absurd (cc none)
+
+  past : (m : ℕ) → length left.handlers ≤ m → mark m ≡ 0
+  past m beyond =
+      sym (each m) ∙ ap (λ slot. drop_mark_of marks (option_flatten slot)) (slice_get_past left.handlers m (omega (arith, beyond)))
+
+  -- the calls are those of the last state
+  same_mark : (m : ℕ) → mark m ≡ let_go_mark ending.last.script drop (recorded_state told t) m
+  same_mark m =
+      ap (λ of. if is_op ending.last.script m && not (called_by of) then drop m else 0) (sym (ending.dropping.calls m))
+
+  pub all_let_go : drop_marks marks left.handlers ≡ let_go_marks t.script told drop t.events
+  all_let_go =
+      by_numbers marks mark left.handlers 0
+      (λ m. let same : m ≡ 0 + m = omega arith in each m ∙ ap mark same)
+      ∙ (sums_far mark (length left.handlers) (length ending.last.script.acts) past far
+      ∙ (sums_below mark (let_go_mark ending.last.script drop (recorded_state told t)) (length ending.last.script.acts)
+      (λ m less. same_mark m)
+      ∙ ap (λ (script : ScriptModel).
+      sum_by (let_go_mark script drop (recorded_state told t)) (range_with_len 0 (length script.acts)))
+      (sym ending.dropping.script)))

@@ -1,5 +1,5 @@
 -- A session that is over: what its end begins with, and what its caller gets.
-use Rattle.std.proofs.Common.{◌≡◌, ◌∙◌, ℕ, Bool, true, false, List, Option, inl, inr, length, refl, sym, ap, subst}
+use Rattle.std.proofs.Common.{◌≡◌, ◌∙◌, ℕ, arith, Bool, true, false, List, Option, inl, inr, length, refl, sym, ap, subst}
 use Rattle.std.specs.Prelude.{IfSome, map}
 use Rattle.std.specs.List.{Contains}
 use Rattle.asio_types.specs.Faults.{Rose}
@@ -62,6 +62,7 @@ module _ {X : Type 0} {state : X → ReactorState} {tells_of : X → Option Outs
     set_up = history.set_up;
     script = refl;
     from = λ m less. refl;
+    below = λ m less. absurd (omega (arith, less));
   }
 
   module _ (t : Recording) (events : List Event) (is : events ≡ t.events) (kept : KeepsFaults r t) (after : X) where

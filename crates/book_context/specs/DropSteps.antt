@@ -6,7 +6,7 @@ use Rattle.session_script.specs.Script.{is_op}
 use Rattle.session_script.specs.Lanes.{is_inline}
 use Rattle.history_rules.specs.Legal.{IsLegal, IsLegalSoFar}
 use Rattle.history_rules.specs.Rounds.{IsOver, MayDrop, is_unspent}
-use Rattle.history_rules.specs.State.{ContextState, State, phase_at}
+use Rattle.history_rules.specs.State.{ContextState, State, call_at, phase_at}
 use Rattle.book_context.specs.Recorded.{IsRecorded, is_spent_at, recorded_half, recorded_state}
 use Rattle.book_context.specs.Recording.{Recording, with_event}
 
@@ -43,6 +43,7 @@ pub record DropsTo (told : Bool) (r : Recording) (n : ℕ) (t : Recording) (s : 
   pub acts : length s.context.acts ≡ length t.script.acts
   pub below : (m : ℕ) → m < n → is_unspent (phase_at s.context m) ≡ false
   pub from : (m : ℕ) → n ≤ m → phase_at s.context m ≡ phase_at (recorded_state told r).context m
+  pub calls : (m : ℕ) → call_at s.context m ≡ call_at (recorded_state told r).context m
   pub reactor : s.reactor ≡ recorded_half told r
   pub called : t.called ≡ r.called
   pub room : unspent_count s.context ≤ t.spare

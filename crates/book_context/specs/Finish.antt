@@ -1,15 +1,16 @@
 -- The end of a session: handlers that never ran are destroyed.
-use Rattle.std.specs.Prelude.{◌≡◌, ◌≤◌, ℕ, Bool, true, false, List, [], ◌∷◌, ◌++◌}
+use Rattle.std.specs.Prelude.{◌≡◌, ◌<◌, ◌≤◌, ℕ, Bool, true, false, List, [], ◌∷◌, ◌++◌}
 use Rattle.std.specs.List.{list_all}
 use Rattle.asio_types.specs.declared.event.Event.{Event}
 use Rattle.asio_types.specs.declared.event.Event.TheVariants as event
-use Rattle.op_handlers.specs.Marks.{Marks}
+use Rattle.op_handlers.specs.Marks.{Marks, drop_mark_of}
+use Rattle.execution_laws.specs.LetGo.{let_go_mark}
 use Rattle.history_rules.specs.FromOutside.{has_outside_stop}
 use Rattle.history_rules.specs.Marks.{HasMarks}
 use Rattle.strand_core.specs.Hands.{Held, held_at}
 use Rattle.book_context.specs.Book.{HoldsUnspent}
 use Rattle.book_context.specs.DropSteps.{IsDropping}
-use Rattle.book_context.specs.Recorded.{IsRecorded}
+use Rattle.book_context.specs.Recorded.{IsRecorded, recorded_state}
 use Rattle.book_context.specs.Recording.{Recording}
 
 abbrev pub is_drop : Event → Bool
@@ -37,3 +38,6 @@ pub record IsEnding {H : Type 0} (marks : H → Marks) (told : Bool) (run drop :
   pub set_up : t.events ≡ event.Fault ∷ [] → ⊥
   pub script : left.script ≡ held.script
   pub from : (m : ℕ) → n ≤ m → held_at left m ≡ held_at held m
+  -- of those below only the handlers of operations that were never initiated are held
+  pub below : (m : ℕ) → m < n →
+      drop_mark_of marks (held_at left m) ≡ let_go_mark last.script drop (recorded_state told last) m

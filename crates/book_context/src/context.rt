@@ -1,7 +1,8 @@
-ghost use Rattle.std.specs.Prelude.{◌≡◌, IfErr, OnErr, OnOk, true};
+ghost use Rattle.std.specs.Prelude.{◌≡◌, ◌≤◌, ◌^◌, IfErr, OnErr, OnOk, true};
 ghost use Rattle.op_handlers.specs.Rack.{handlers_in};
 ghost use Rattle.proactor_core.specs.Proactor.{tells};
 ghost use Rattle.execution_laws.specs.Finished.{IsFinished};
+ghost use Rattle.execution_laws.specs.LetGo.{let_go_marks};
 ghost use Rattle.execution_laws.specs.Setup.{HoldsMarked, IsRefused, TakesHandlers};
 ghost use Rattle.book_context.specs.BookSteps.{IsBookOver};
 
@@ -143,9 +144,21 @@ impl<'a, X: Reactor, H: CompletionHandler, N: Session> BookContext<'a, X, H, N> 
         ensures ended { IsFinished N.script N.told N.run N.drop N.outside N.faults
             (X.faults result.1) result.0.events (X.state result.1) (X.told result.1) }
     {
+        let (history, reactor, _) = self.finish_telling(rt);
+        (history, reactor)
+    }
+
+    /// The same, and the sum of the drop marks of the handlers whose operations were never accepted,
+    /// which discarding alone tells.
+    pub fn finish_telling<R: Wait>(self, rt: &R) -> (History, X, u128)
+        ensures ended { IsFinished N.script N.told N.run N.drop N.outside N.faults
+            (X.faults result.1) result.0.events (X.state result.1) (X.told result.1) }
+        ensures let_go { result.2 ≡ let_go_marks N.script N.told N.drop result.0.events }
+        ensures few { result.2 ≤ 2 ^ 96 }
+    {
         let BookContext { book } = self;
         let mut book = book.into_inner();
         close_rounds(rt, &mut book);
-        book.finish()
+        book.finish_telling()
     }
 }

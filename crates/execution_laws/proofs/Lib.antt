@@ -12,6 +12,7 @@ pub mod ExecutedLemmas
 pub mod FreeLemmas
 pub mod InsideLemmas
 pub mod KeptLemmas
+pub mod LetGoLemmas
 pub mod MovesLemmas
 pub mod OpenedLemmas
 pub mod OutsideLemmas

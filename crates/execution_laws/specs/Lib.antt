@@ -4,6 +4,7 @@ pub mod Executed
 pub mod Finished
 pub mod Kinds
 pub mod Lanes
+pub mod LetGo
 pub mod Opened
 pub mod Order
 pub mod Ready

@@ -2,7 +2,7 @@
 
 use crate::making::{MEMORY, Setup, text_in};
 use asio_types::{SureSink, SureSource};
-use group_script::{Member, WaitFor};
+use parallel_group::{Member, WaitFor};
 use std::alloc::Global;
 use std::process::Abort;
 use trace_check::check_session;

@@ -23,3 +23,5 @@ mod running;
 mod scripts;
 #[cfg(test)]
 mod sessions;
+#[cfg(test)]
+mod spent;

@@ -1,7 +1,7 @@
 //! Where a group is refused.
 
 use crate::making::{Feed, Setup, script_in, text_in, world_of};
-use group_script::{GroupFault, MOST_MEMBERS, Member, WaitFor};
+use parallel_group::{GroupFault, MOST_MEMBERS, Member, WaitFor};
 use session_script::MOST_BYTES;
 use std::alloc::Global;
 use std::process::Abort;

@@ -1,7 +1,7 @@
 //! Groups for tests, and what their scripts are written as.
 
 use asio_types::{Bytes, Line, Lines, Types, What, World};
-use group_script::{GroupFault, Member, Members, WaitFor, group_script};
+use parallel_group::{GroupFault, Member, Members, WaitFor, group_script};
 use session_script::{Script, write_script};
 use std::alloc::Global;
 use std::process::Abort;

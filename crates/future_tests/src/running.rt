@@ -6,10 +6,9 @@ ghost use Rattle.session_script.specs.Limits.{most_acts};
 
 use crate::making::MEMORY;
 use asio_types::{Code, Line, Lines, Types, What, World, class_of};
-use group_script::{GroupFault, Member, Members, WaitFor};
 use op_future::TaskEnd;
 use op_handlers::{Call, CompletionHandler, Rack, Ran};
-use parallel_group::{GroupReport, MemberDone, run_group};
+use parallel_group::{GroupFault, GroupReport, Member, MemberDone, Members, WaitFor, run_group};
 use reactor_mio::MioReactor;
 use reactor_script::{FailAt, Method, ScriptReactor};
 use reactor_trait::Reactor;
@@ -171,6 +170,7 @@ fn ran<R: Abort + Threads + Wait + Sync, X: Reactor + Send + Drop>(
                 order,
                 end,
                 reactor: _reactor,
+                let_go: _let_go,
             } = report;
             Ok((order, end))
         }

@@ -1,7 +1,7 @@
 //! What the script of a group is written as.
 
 use crate::making::{MEMORY, Setup, script_in, text_in, world_of};
-use group_script::{Member, WaitFor};
+use parallel_group::{Member, WaitFor};
 use std::alloc::Global;
 use std::process::Abort;
 

@@ -85,6 +85,7 @@ fn comes_to_by<R: Abort + Threads + Wait + Sync>(
         ends,
         tasks,
         reactor: _,
+        let_go: _,
     } = report;
     if !wanted.events.is_empty() {
         assert_eq!(rt; history.events(), wanted.events, "{}", wanted.script);

@@ -8,7 +8,7 @@ use Rattle.asio_types.specs.declared.event.Event.TheVariants as event
 use Rattle.session_script.specs.Script.{ScriptModel}
 use Rattle.history_rules.specs.Legal.{IsLegalFrom, IsWhole, after_event, state_from}
 use Rattle.history_rules.specs.Rounds.{AllClosed, IsOver, MayDrop, is_running, is_unspent}
-use Rattle.history_rules.specs.State.{State, act_at, fresh, phase_at}
+use Rattle.history_rules.specs.State.{State, act_at, call_at, fresh, phase_at}
 use Rattle.history_rules.specs.declared.phase.ActPhase.TheVariants as phase
 use Rattle.history_rules.specs.declared.phase.ActState.{ActState}
 use Rattle.execution_laws.proofs.RestLemmas.{is_within}
@@ -27,6 +27,7 @@ module _ (script : ScriptModel) (told : Bool) (drop : ℕ → ℕ) (test : ℕ �
     pub size : length t.context.acts ≡ length s.context.acts
     pub below : (m : ℕ) → m < n → is_unspent (phase_at t.context m) ≡ false
     pub from : (m : ℕ) → n ≤ m → phase_at t.context m ≡ phase_at s.context m
+    pub calls : (m : ℕ) → call_at t.context m ≡ call_at s.context m
     pub reactor : t.reactor ≡ s.reactor
     pub closings : t.context.closings ≡ s.context.closings
 
@@ -40,6 +41,7 @@ module _ (script : ScriptModel) (told : Bool) (drop : ℕ → ℕ) (test : ℕ �
         | inr other ↦ to.below m (omega (arith, less, other))
       ];
       from = λ m less. to.from m (omega (arith, less));
+      calls = to.calls;
       reactor = to.reactor;
       closings = to.closings;
     }
@@ -83,6 +85,12 @@ module _ (script : ScriptModel) (told : Bool) (drop : ℕ → ℕ) (test : ℕ �
         ];
         from = λ m less. ap (λ (act : ActState). act.phase) (others m (λ same. absurd (omega (arith, less, same))))
             ∙ to.from m (omega (arith, less));
+        calls = λ m. elim (cases_eq m n) [
+          | inl same ↦
+              ap (λ m. call_at u.context m) same
+              ∙ (ap (λ (act : ActState). act.call) now ∙ (to.calls n ∙ ap (λ m. call_at s.context m) (sym same)))
+          | inr other ↦ ap (λ (act : ActState). act.call) (others m other) ∙ to.calls m
+        ];
         reactor = to.reactor;
         closings = to.closings;
       }
@@ -141,6 +149,7 @@ module _ (script : ScriptModel) (told : Bool) (drop : ℕ → ℕ) (test : ℕ �
     pub legal : IsLegalFrom script told s (drops_from drop test 0 (length script.acts))
     pub whole : IsWhole script t
     pub reactor : t.reactor ≡ s.reactor
+    pub calls : (m : ℕ) → call_at t.context m ≡ call_at s.context m
 
   pub ends_whole : IsOver script s → length s.context.acts ≡ length script.acts →
       EndsWhole (state_from script told s (drops_from drop test 0 (length script.acts)))
@@ -150,6 +159,7 @@ module _ (script : ScriptModel) (told : Bool) (drop : ℕ → ℕ) (test : ℕ �
         size = refl;
         below = λ m less. absurd (omega (arith, less));
         from = λ m less. refl;
+        calls = λ m. refl;
         reactor = refl;
         closings = refl;
       } in
@@ -163,4 +173,5 @@ module _ (script : ScriptModel) (told : Bool) (drop : ℕ → ℕ) (test : ℕ �
               (λ n less. last.to.below n (omega (arith, less, last.to.size, size)));
         };
         reactor = last.to.reactor;
+        calls = last.to.calls;
       }

@@ -19,8 +19,10 @@ use Rattle.history_rules.specs.FromOutside.{has_fault, has_outside_stop, is_faul
 use Rattle.history_rules.specs.Legal.{IsLegalSoFar, IsWhole, MayHappen, reactor_after, state_from, state_of}
 use Rattle.history_rules.specs.Marks.{HasMarks}
 use Rattle.history_rules.specs.Rounds.{IsOver, is_running, is_unspent}
-use Rattle.history_rules.specs.State.{ReactorHalf, State, first_reactor, first_state, fresh, phase_at}
+use Rattle.history_rules.specs.State.{ReactorHalf, State, call_at, first_reactor, first_state, fresh, phase_at}
 use Rattle.history_rules.specs.Time.{at_last, at_time}
+use Rattle.execution_laws.specs.Kinds.{was_called}
+use Rattle.execution_laws.specs.LetGo.{is_uninitiated}
 use Rattle.execution_laws.proofs.EventLemmas.{legal-append, state_from-append}
 use Rattle.execution_laws.proofs.ShownLemmas.{marks-append}
 use Rattle.reactor_turns.proofs.ClockLemmas.{settled-clock, time-done}
@@ -29,7 +31,7 @@ use Rattle.lane_clock.proofs.MomentLemmas.{tail_refl}
 use Rattle.lane_map.specs.LaneNumbers.{home_lane, reactor_lane}
 use Rattle.lane_map.proofs.RankLemmas.{op_within}
 use Rattle.lane_logs.specs.declared.log.LogEntry.{LogEntry}
-use Rattle.lane_logs.specs.Drops.{has_call, is_call_of, is_left}
+use Rattle.lane_logs.specs.Drops.{has_call, is_call_of, is_left, is_untouched}
 use Rattle.lane_logs.specs.Half.{half_from, half_of}
 use Rattle.lane_logs.specs.Labels.{Labelled, entries_in, events_in}
 use Rattle.lane_logs.specs.LaneLog.{has_begun, is_begin_of}
@@ -44,7 +46,7 @@ use Rattle.history_merge.proofs.AmongLemmas.{IsGoing, going_ends}
 use Rattle.history_merge.proofs.BetweenLemmas.{take_whole}
 use Rattle.history_merge.proofs.BeyondLemmas.{none_beyond}
 use Rattle.history_merge.proofs.DroppedLemmas.{EndsWhole, drops_from, ends_whole}
-use Rattle.history_merge.proofs.ExactLemmas.{left_exact}
+use Rattle.history_merge.proofs.ExactLemmas.{left_exact, untouched_exact}
 use Rattle.history_merge.proofs.FirstFaultLemmas.{is_other, reactor_silent}
 use Rattle.history_merge.proofs.HalfLemmas.{half_is}
 use Rattle.history_merge.proofs.HistoryLemmas.{AreLabelled, shown_in}
@@ -271,6 +273,16 @@ module _ (names : SessionNames) (well : IsWellFormed names.script) (logs : LogsV
         subst (IsLegalSoFar script names.told) (sym are_all)
         (legal-append script names.told (first_state script names.told) s all_shown drops so.legal refl ends.legal)
 
+    -- an operation that no log has called isn't initiated
+    untouched_all : (n : ℕ) → n < length script.acts →
+        is_untouched names (all_events logs) n ≡ is_uninitiated script (state_of script names.told events) n
+    untouched_all n within =
+        ap (λ called. (is_op script n && not called) && not (has_begun n (all_events logs))) (sym (same_any (is_call_of n)))
+        ∙ (ap (λ begun. (is_op script n && not (has_call n all_shown)) && not begun) (sym (same_any (is_begin_of n)))
+        ∙ (untouched_exact script well names.told all_shown room so.expected so.dates.undropped n within so.state.order
+        ∙ (ap (λ of. is_op script n && not (was_called of)) (sym (ends.calls n))
+        ∙ ap (λ (t : State). is_uninitiated script t n) (sym state_is))))
+
     half_all : (state_of script names.told events).reactor ≡ half_of script names.told (entries_of logs (reactor_lane script))
     half_all = ap (λ (t : State). t.reactor) state_is ∙ (ends.reactor ∙ half_at_end)
 
@@ -300,6 +312,7 @@ module _ (names : SessionNames) (well : IsWellFormed names.script) (logs : LogsV
           ∙ (list_any-append is_outside_stop all_shown drops
           ∙ (ap (λ b. b || list_any is_outside_stop drops) (none_outside names well logs labels are quiet whole labelled)
           ∙ drops_inner names.drop (filter test (range_with_len 0 (length script.acts)))));
+      untouched = untouched_all;
       none_missing = none_missing names well logs labels logged are so.expected;
       none_beyond = none_beyond names well logs labels logged are so.expected;
       idle = moves_idly script names.told events legal_all;

@@ -112,6 +112,15 @@ left_by (phase.Running class progress) true true begun under kept spent entered 
 left_by phase.Ended true true begun under kept spent entered absent is = ap not is
 left_by phase.Dropped true true begun under kept spent entered absent is = absurd (cc)
 
+-- what was called is what was shown to be, and what wasn't never began
+untouched_by : (operation called shown begun : Bool) → called ≡ shown → (called ≡ false → begun ≡ false) →
+    ((operation && not shown) && not begun) ≡ (operation && not called)
+untouched_by false called shown begun same never = refl
+untouched_by true true true begun same never = refl
+untouched_by true true false begun same never = absurd (cc same)
+untouched_by true false true begun same never = absurd (cc same)
+untouched_by true false false begun same never = ap not (never refl)
+
 module _ (script : ScriptModel) (well : IsWellFormed script) (told : Bool) (events : List Event)
     (room : length events < most_faults) (are : AreExpected script told (first_state script told) events)
     (kept : (n : ℕ) → is_dropped (phase_at (state_from script told (first_state script told) events).context n) ≡ false)
@@ -153,3 +162,12 @@ module _ (script : ScriptModel) (well : IsWellFormed script) (told : Bool) (even
         (kinds n).spent (kinds n).entered
         (λ isnt. (order.acts n).absent (uncalled_is (call_at last.context n) isnt)) (begun_is n)
         ∙ ap (λ called. (is_op script n && called) && not (shows_begin n events)) (called_exact n within)
+
+    -- and these are those of operations that were never initiated
+    pub untouched_exact : (n : ℕ) → n < length script.acts → IsInOrder script last.context →
+        ((is_op script n && not (has_call n events)) && not (shows_begin n events))
+        ≡ (is_op script n && not (was_called (call_at last.context n)))
+    untouched_exact n within order =
+        untouched_by (is_op script n) (was_called (call_at last.context n)) (has_call n events) (shows_begin n events)
+        (called_exact n within)
+        (λ isnt. sym (begun_is n) ∙ ap has_begun ((order.acts n).absent (uncalled_is (call_at last.context n) isnt)))

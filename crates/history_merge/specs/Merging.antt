@@ -1,6 +1,6 @@
 -- The logs of a session put together: each entry at its position, and the drops behind them all; and
 -- that this is a legal history of the script on one io_context.
-use Rattle.std.specs.Prelude.{◌≡◌, ◌≢◌, ◌⊎◌, ℕ, ◌<◌, Bool, false, List, [], ◌∷◌, ◌++◌, None, slice_index}
+use Rattle.std.specs.Prelude.{◌≡◌, ◌≢◌, ◌⊎◌, ℕ, ◌<◌, Bool, false, List, [], ◌∷◌, ◌++◌, None, length, slice_index}
 use Rattle.asio_types.specs.declared.event.Event.{Event}
 use Rattle.asio_types.specs.declared.event.Event.TheVariants as event
 use Rattle.session_script.specs.Script.{ScriptModel}
@@ -9,12 +9,14 @@ use Rattle.history_rules.specs.FromOutside.{has_outside_stop}
 use Rattle.history_rules.specs.Legal.{IsLegal, state_of}
 use Rattle.history_rules.specs.Marks.{HasMarks}
 use Rattle.history_rules.specs.Time.{IsIdle}
+use Rattle.execution_laws.specs.LetGo.{is_uninitiated}
 use Rattle.lane_clock.specs.declared.step.ClockStep.TheVariants.{Place}
 use Rattle.lane_clock.specs.Rule.{StepAt}
 use Rattle.lane_map.specs.LaneNumbers.{cells_of, reactor_lane}
 use Rattle.lane_logs.specs.declared.log.LogEntry.{LogEntry}
+use Rattle.lane_logs.specs.Drops.{is_untouched}
 use Rattle.lane_logs.specs.Half.{half_of}
-use Rattle.lane_logs.specs.Logs.{AreLogs, LogsView, entries_of, missed_by}
+use Rattle.lane_logs.specs.Logs.{AreLogs, LogsView, all_events, entries_of, missed_by}
 use Rattle.lane_logs.specs.Names.{SessionNames}
 use Rattle.lane_logs.specs.SeatNumbers.{IsWorkerSeat, lane_count}
 use Rattle.history_merge.specs.Ordering.{IsInOrder}
@@ -59,6 +61,10 @@ pub record IsLegalMerging (names : SessionNames) (logs : LogsView) (events : Lis
   pub legal : IsLegal names.script names.told events
   pub marked : HasMarks names.run names.drop events
   pub unstopped : NoWorkerStops names.script logs → has_outside_stop events ≡ false
+  -- an operation that no log has called isn't initiated in it
+  pub untouched : (n : ℕ) → n < length names.script.acts →
+      is_untouched names (all_events logs) n
+      ≡ is_uninitiated names.script (state_of names.script names.told events) n
   pub none_missing : NoneIsMissing names.script logs
   pub none_beyond : NoneIsBeyond names.script logs
   pub idle : MovesTimeIdly names.script names.told events

@@ -4,7 +4,7 @@ ghost use Rattle.lane_clock.specs.Seats.{Remembers, copy_seat};
 ghost use Rattle.lane_map.specs.LaneNumbers.{has_cell, reactor_lane};
 ghost use Rattle.lane_logs.specs.AtRest.{FoundNoneFrom, IsAtRest};
 ghost use Rattle.lane_logs.specs.Cuts.{EventsAreCuts};
-ghost use Rattle.lane_logs.specs.KeptLogs.{logs_in};
+ghost use Rattle.lane_logs.specs.KeptLogs.{LetGo, logs_in};
 ghost use Rattle.lane_logs.specs.Logs.{AreLogs, session_layout};
 ghost use Rattle.lane_logs.specs.Knowing.{lists_of};
 ghost use Rattle.lane_logs.specs.Receipts.{IsReceiptOf};
@@ -183,6 +183,7 @@ impl<'a, X: Reactor, H: CompletionHandler, N: LaneSession> AtRest<'a, X, H, N> {
     /// proportion to the acts, the logs, the lanes and the workers.
     pub fn finish(self) -> (Logs, X)
         ensures logs { AreLogs N.names (logs_in result.0) }
+        ensures let_go { LetGo N.names result.0 }
         ensures rest { IsAtRest N.names.script (logs_in result.0).lists self.entry.since }
         ensures worker_logs { KeepLogsOf (λ worker. worker.pen.log) N.names.script
             (logs_in result.0) self.entry.workers }

@@ -4,7 +4,7 @@ ghost use Rattle.lane_turns.specs.Answers.{is_fault};
 ghost use Rattle.lane_turns.specs.Attempts.{HasAttempted, HasTried, IsSeated};
 ghost use Rattle.lane_turns.specs.LaneValues.{terms, tries};
 ghost use Rattle.lane_turns.specs.Polling.{most_made};
-ghost use Rattle.lane_turns.specs.Scanning.{GoesOn, HasLookedRound, HasScanned};
+ghost use Rattle.lane_turns.specs.Scanning.{GoesOn, HasLookedRound, HasScanned, HasTriedUntil};
 
 use crate::worker::Worker;
 use lane_clock::LaneClock;
@@ -181,6 +181,9 @@ impl<'a, X: Reactor, H: CompletionHandler, N: LaneSession> Context<'a, X, H, N> 
         requires most { 0 < most }
         ensures looked { HasLookedRound
             (tries (terms N.names H.marks X.state X.told X.faults N.faults N.clock) most) self.now.lanes result
+            worker.old worker.new }
+        ensures tried { HasTriedUntil
+            (tries (terms N.names H.marks X.state X.told X.faults N.faults N.clock) most) self.now.lanes
             worker.old worker.new }
         ensures turns { IsSeated self.now worker.new }
         ensures free { is_fault result ≡ false → worker.new.kept ≡ None }

@@ -2,7 +2,7 @@
 ghost use Rattle.std.specs.Prelude.{◌≡◌, ◌<◌, ◌≤◌, [], ℕ, IfSome, None, length, map, slice_get, slice_index_or, vec_capacity};
 ghost use Rattle.lane_clock.specs.Seats.{Remembers};
 ghost use Rattle.lane_map.specs.LaneNumbers.{reactor_lane};
-ghost use Rattle.lane_logs.specs.KeptLogs.{logs_in};
+ghost use Rattle.lane_logs.specs.KeptLogs.{LetGo, logs_in};
 ghost use Rattle.lane_logs.specs.Logs.{AreLogs};
 ghost use Rattle.lane_logs.specs.SeatNumbers.{opener_seat};
 ghost use Rattle.lane_turns.specs.AllWorkers.{AreCuts, AreReady, clock_seat, log_of};
@@ -145,6 +145,7 @@ impl<'a, X: Reactor, H: CompletionHandler, N: LaneSession> Context<'a, X, H, N> 
         requires cuts { AreCuts N.names.script workers.opener }
         requires over { IsOver N.names.script workers.opener }
         ensures logs { AreLogs N.names (logs_in result.0) }
+        ensures let_go { LetGo N.names result.0 }
         ensures worker_logs { KeepLogsOf log_of N.names.script (logs_in result.0) workers.entry.all }
         ensures worker_steps { KeepStepsOf clock_seat N.names.script (logs_in result.0)
             workers.entry.all }

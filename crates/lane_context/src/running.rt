@@ -1,8 +1,8 @@
 //! Executing handlers until there is nothing left to do.
-ghost use Rattle.std.specs.Prelude.{◌≡◌, IfErr, IfSome, None, OnOk};
+ghost use Rattle.std.specs.Prelude.{◌≡◌, IfErr, IfSome, None, OnOk, true};
 ghost use Rattle.lane_turns.specs.Attempts.{IsSeated};
 ghost use Rattle.lane_turns.specs.LaneValues.{terms, tries};
-ghost use Rattle.lane_turns.specs.Runs.{EndsAtOnce, EndsFor, HasRun, HasSettled};
+ghost use Rattle.lane_turns.specs.Runs.{EndsAtOnce, EndsFor, HasReadLeft, HasRun, HasSettled, HasStoppedAtOnce, HasTriedAndRead, MayHaveRead, ReadsAndTries, StopsAtOnce};
 ghost use Rattle.lane_turns.specs.Scanning.{GoesOn};
 
 use crate::context::Context;
@@ -21,6 +21,7 @@ impl<'a, X: Reactor, H: CompletionHandler, N: LaneSession> Context<'a, X, H, N> 
     fn read_first(&self, worker: &mut Worker<'a, X, H, N>) -> Result<u64, RunEnd>
         requires turns { IsSeated self.now worker.old }
         ensures ended { IfErr result (λ now. EndsAtOnce now worker.old worker.new) }
+        ensures left { OnOk result (HasReadLeft worker.old worker.new) }
         ensures free { OnOk result (worker.new.kept ≡ None) }
         ensures turns { IsSeated self.now worker.new }
         ensures on { GoesOn worker.old worker.new }
@@ -37,9 +38,11 @@ impl<'a, X: Reactor, H: CompletionHandler, N: LaneSession> Context<'a, X, H, N> 
 
     /// Where nothing was found to do: in a round in which time passes, other threads go first; in
     /// another one it reads, and the call ends where work is left, and nothing bars it.
+    #[tactic(auto, using(crate::proofs::RunLemmas::none_read, crate::proofs::RunLemmas::one_read))]
     fn settle(&self, worker: &mut Worker<'a, X, H, N>) -> Option<RunEnd>
         requires turns { IsSeated self.now worker.old }
         ensures ended { IfSome result (λ now. HasSettled now worker.old worker.new) }
+        ensures read { MayHaveRead worker.old worker.new }
         ensures turns { IsSeated self.now worker.new }
         ensures on { GoesOn worker.old worker.new }
     {
@@ -61,6 +64,9 @@ impl<'a, X: Reactor, H: CompletionHandler, N: LaneSession> Context<'a, X, H, N> 
         ensures ended { IfSome result (λ now. EndsFor
             (tries (terms N.names H.marks X.state X.told X.faults N.faults N.clock) 16) self.now.lanes now
             worker.old worker.new) }
+        ensures tried { HasTriedAndRead
+            (tries (terms N.names H.marks X.state X.told X.faults N.faults N.clock) 16) self.now.lanes
+            worker.old worker.new }
         ensures turns { IsSeated self.now worker.new }
         ensures on { GoesOn worker.old worker.new }
     {
@@ -80,6 +86,11 @@ impl<'a, X: Reactor, H: CompletionHandler, N: LaneSession> Context<'a, X, H, N> 
         ensures ended { IfSome result (λ now. EndsFor
             (tries (terms N.names H.marks X.state X.told X.faults N.faults N.clock) 16) self.now.lanes now
             worker.old worker.new) }
+        ensures round { ReadsAndTries
+            (tries (terms N.names H.marks X.state X.told X.faults N.faults N.clock) 16) self.now.lanes
+            worker.old worker.new }
+        ensures stopped { worker.old.seat.stopped ≡ true →
+            StopsAtOnce result worker.old worker.new }
         ensures turns { IsSeated self.now worker.new }
         ensures on { GoesOn worker.old worker.new }
     {
@@ -97,7 +108,8 @@ impl<'a, X: Reactor, H: CompletionHandler, N: LaneSession> Context<'a, X, H, N> 
 
     /// Executes handlers until no work is left, the context is stopped, the reactor failed, or, in a
     /// round in which time doesn't pass, nothing is ready (Asio reference, io_context::run, ::poll).
-    /// Before each round of looks it reads whether work is left and whether the context is stopped.
+    /// Before each round of looks it reads whether work is left and whether the context is stopped; behind
+    /// a stop of its own it does nothing but that.
     /// A lane's turn is kept while something is done there, for 16 executions or turns of the reactor at
     /// most. The first lane into which notes were put then is looked at next; at the others it hints, in
     /// the order of the puts, to whichever worker looks for one. A hint may take memory, and is dropped
@@ -108,6 +120,8 @@ impl<'a, X: Reactor, H: CompletionHandler, N: LaneSession> Context<'a, X, H, N> 
         ensures run { HasRun
             (tries (terms N.names H.marks X.state X.told X.faults N.faults N.clock) 16) self.now.lanes result
             worker.old worker.new }
+        ensures stopped { worker.old.seat.stopped ≡ true →
+            HasStoppedAtOnce result worker.old worker.new }
         ensures turns { IsSeated self.now worker.new }
         ensures on { GoesOn worker.old worker.new }
     {

@@ -12,6 +12,8 @@ pub struct Logs {
     entries: Vec<Vec<LogEntry>>,
     missed: Vec<Option<OpNo>>,
     drops: Vec<Event>,
+    // the sum of the drop marks of the handlers that were destroyed without an event
+    let_go: u128,
     last: Found,
     // what was known of all steps when the clock was closed; it has no bytes
     known: LaneCopy,
@@ -29,16 +31,19 @@ impl Model for Logs {
       entries = map (λ log. log.items) l.entries.items;
       missed = l.missed.items;
       drops = l.drops.items;
+      let_go = l.let_go;
     } };
 }
 
 impl Logs {
     /// The logs of a session: the entries of each seat, of each lane the operation that it missed
-    /// first, the drops, what the clock word held in the end, and what was known of all steps then.
+    /// first, the drops, the sum of the drop marks of the handlers that were destroyed without an event,
+    /// what the clock word held in the end, and what was known of all steps then.
     pub fn of(
         entries: Vec<Vec<LogEntry>>,
         missed: Vec<Option<OpNo>>,
         drops: Vec<Event>,
+        let_go: u128,
         last: Found,
         known: LaneCopy,
     ) -> Logs
@@ -48,12 +53,14 @@ impl Logs {
           entries = map (λ log. log.items) entries.items;
           missed = missed.items;
           drops = drops.items;
+          let_go = let_go;
         } }
     {
         Logs {
             entries,
             missed,
             drops,
+            let_go,
             last,
             known,
         }
@@ -72,6 +79,14 @@ impl Logs {
         ensures { result.now ≡ self.now.drops }
     {
         self.drops.as_slice()
+    }
+
+    /// The sum of the drop marks of the handlers whose operations were never initiated: they were
+    /// destroyed, and no event shows it.
+    pub fn let_go(&self) -> u128
+        ensures { result ≡ self.now.let_go }
+    {
+        self.let_go
     }
 
     /// Of each lane the operation that it missed first: a legal session has none.

@@ -1,14 +1,14 @@
 -- The handlers that are left are destroyed one after another.
 use Rattle.std.proofs.Common.{◌≡◌, ◌≢◌, ℕ, zero, suc, ◌+◌, ◌<◌, ◌≤◌, Bool, true, false, cond, List, [], ◌∷◌, ◌++◌, Option, None, Some, length, get_or, refl, sym, ap, subst, ◌∙◌, arith, ne_eqb}
-use Rattle.std.specs.Prelude.{IfSome, filter, map, slice_index_or, slice_set, ◌&&◌, ◌==◌}
-use Rattle.std.specs.List.{range_with_len}
+use Rattle.std.specs.Prelude.{IfSome, filter, map, not, slice_index_or, slice_set, if◌then◌else◌, unwrap_or, ◌&&◌, ◌==◌}
+use Rattle.std.specs.List.{range_with_len, sum_by}
 use Rattle.std.specs.Option.{option_map}
 use mathlib.Core.Logic.{dite}
 use native.Mathlib.Decide.{ℕ_discrete}
 use Rattle.std.proofs.lemmas.List.{append-nil, get_or-set_other, get_or-set_same, length-map, length-set, map-append}
 use Rattle.std.proofs.lemmas.List.Elements.{filter-append}
 use Rattle.std.proofs.lemmas.List.FromFn.{length-range_with_len}
-use Rattle.std.proofs.lemmas.List.Sums.{count_by-le-length, length-filter}
+use Rattle.std.proofs.lemmas.List.Sums.{count_by-le-length, length-filter, sum_by-append, sum_by-cons}
 use Rattle.asio_types.specs.declared.event.Event.{Event}
 use Rattle.asio_types.specs.declared.event.Event.TheVariants as event
 use Rattle.op_handlers.specs.Marks.{Marks}
@@ -17,9 +17,10 @@ use Rattle.session_script.specs.WellFormed.{HasParent}
 use Rattle.lane_map.specs.LaneNumbers.{home_lane}
 use Rattle.strand_core.specs.Hands.{CallerIsGone, Held}
 use Rattle.strand_core.proofs.HandLemmas.{callee_later, in_list-get_or}
-use Rattle.lane_logs.specs.Drops.{dropped, is_left}
+use Rattle.lane_logs.specs.Drops.{dropped, has_call, is_left, is_untouched, untouched_mark, untouched_marks}
+use Rattle.lane_logs.specs.LaneLog.{has_begun}
 use Rattle.lane_logs.specs.Names.{SessionNames}
-use Rattle.lane_turns.specs.Discarding.{IsDiscarding, held_in, held_on, without}
+use Rattle.lane_turns.specs.Discarding.{IsDiscarding, held_in, held_on, is_unrun, without}
 
 -- one number more
 range_more : (a n j : ℕ) → a + n ≡ j → range_with_len a (n + 1) ≡ range_with_len a n ++ j ∷ []
@@ -90,6 +91,49 @@ module _ (names : SessionNames) (events : List Event) where
 pub left_if : (a b c : Bool) → a ≡ true → (b && c) ≡ true → (a && b && c) ≡ true
 left_if true b c first second = second
 left_if false b c first second = absurd (cc first)
+
+-- what is left never ran, and neither did what was never initiated
+left_unrun : (a b c : Bool) → (a && b && not c) ≡ true → (a && not c) ≡ true
+left_unrun true true c is = is
+left_unrun true false c is = absurd (cc is)
+left_unrun false b c is = absurd (cc is)
+
+untouched_if : (a b c : Bool) → a ≡ true → (b && not c) ≡ false → c ≡ false → (a && not b && not c) ≡ true
+untouched_if true false false op left begun = refl
+untouched_if true true false op left begun = absurd (cc left)
+untouched_if true b true op left begun = absurd (cc begun)
+untouched_if false b c op left begun = absurd (cc op)
+
+pub untouched_no_op : (a b c : Bool) → a ≡ false → (a && not b && not c) ≡ false
+untouched_no_op true b c is = absurd (cc is)
+untouched_no_op false b c is = refl
+
+pub untouched_left : (a b c : Bool) → (b && not c) ≡ true → (a && not b && not c) ≡ false
+untouched_left true true c is = refl
+untouched_left true false c is = absurd (cc is)
+untouched_left false b c is = refl
+
+pub untouched_begun : (a b c : Bool) → c ≡ true → (a && not b && not c) ≡ false
+untouched_begun true true true is = refl
+untouched_begun true false true is = refl
+untouched_begun true b false is = absurd (cc is)
+untouched_begun false b c is = refl
+
+-- the mark of an operation that was initiated is 0
+pub no_mark : (names : SessionNames) (events : List Event) (op : ℕ) → is_untouched names events op ≡ false →
+    0 ≡ untouched_mark names events op
+no_mark names events op is = sym (ap (λ b. if b then names.drop op else 0) is)
+
+-- one number more
+pub untouched_more : (names : SessionNames) (events : List Event) (k : ℕ) →
+    untouched_marks names events (k + 1) ≡ untouched_marks names events k + untouched_mark names events k
+untouched_more names events k =
+    let e : 0 + k ≡ k = omega arith in
+    let front = sum_by-append (untouched_mark names events) (range_with_len 0 k) (k ∷ []) in
+    let last = sum_by-cons (untouched_mark names events) k [] in
+    let all : untouched_marks names events (k + 1) ≡ sum_by (untouched_mark names events) (range_with_len 0 k ++ k ∷ []) =
+    ap (sum_by (untouched_mark names events)) (range_more 0 k k e) in
+    omega (arith, all, front, last)
 
 pub left_not : (a b c : Bool) → (b && c) ≡ false → (a && b && c) ≡ false
 left_not true b c none = none
@@ -198,6 +242,9 @@ module _ {H : Type 0} (names : SessionNames) (marks : H → Marks) (events : Lis
           noted = noted;
         }
 
+    unrun : is_left names events k ≡ true → is_unrun names events k ≡ true
+    unrun left = left_unrun (is_op names.script k) (has_call k events) (has_begun k events) left
+
     -- its drop is no event
     pub discarded_silently : is_left names events k ≡ false → IsDiscarding names marks events (k + 1) news drops
     discarded_silently none = discarded drops (is.noted ∙ sym (noted_none names events k none))
@@ -210,7 +257,7 @@ module _ {H : Type 0} (names : SessionNames) (marks : H → Marks) (events : Lis
         let same : mark ≡ names.drop k =
         some_same mark (names.drop k)
         (told ∙ ap (λ l. option_map (λ (handler : H). (marks handler).drop) (held_on hands l k)) home
-        ∙ is.left k (omega arith) left) in
+        ∙ is.left k (omega arith) (unrun left)) in
         discarded now
         (is_now ∙ ap (λ m. drops ++ event.Dropped k m ∷ []) same
         ∙ ap (λ xs. xs ++ dropped names k ∷ []) is.noted ∙ sym (noted_one names events k left))
@@ -224,7 +271,25 @@ module _ {H : Type 0} (names : SessionNames) (marks : H → Marks) (events : Lis
     left_is_held left told =
         none_some (names.drop k)
         (told ∙ ap (λ l. option_map (λ (handler : H). (marks handler).drop) (held_on hands l k)) home
-        ∙ is.left k (omega arith) left)
+        ∙ is.left k (omega arith) (unrun left))
       where
         none_some : (b : ℕ) → None ≡ Some b → ⊥
         none_some b same = cc same
+
+    -- what the handler of an operation that never began tells is the mark that is named
+    pub told_mark : (mark : Option ℕ) → is_op names.script k ≡ true → (has_call k events && not (has_begun k events)) ≡ false →
+        mark ≡ option_map (λ handler. (marks handler).drop) (held_on hands lane k) →
+        (if has_begun k events then 0 else unwrap_or mark 0) ≡ untouched_mark names events k
+    told_mark mark op left told = by_case (has_begun k events) refl
+      where
+        by_case : (b : Bool) → has_begun k events ≡ b → (if b then 0 else unwrap_or mark 0) ≡ untouched_mark names events k
+        by_case true begun =
+            no_mark names events k (untouched_begun (is_op names.script k) (has_call k events) (has_begun k events) begun)
+        by_case false begun =
+            let held : is_unrun names events k ≡ true = rw (op, begun) refl in
+            let same : mark ≡ Some (names.drop k) =
+            told ∙ ap (λ l. option_map (λ (handler : H). (marks handler).drop) (held_on hands l k)) home
+            ∙ is.left k (omega arith) held in
+            ap (λ o. unwrap_or o 0) same
+            ∙ sym (ap (λ b. if b then names.drop k else 0)
+            (untouched_if (is_op names.script k) (has_call k events) (has_begun k events) op left begun))

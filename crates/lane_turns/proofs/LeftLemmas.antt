@@ -14,12 +14,11 @@ use Rattle.lane_map.specs.LaneNumbers.{home_lane, is_op_on, reactor_lane}
 use Rattle.lane_clock.specs.Seats.{ClockId}
 use Rattle.strand_core.specs.Hands.{Held, held_at}
 use Rattle.lane_logs.specs.declared.log.LogEntry.{LogEntry}
-use Rattle.lane_logs.specs.Drops.{has_call, is_left}
 use Rattle.lane_logs.specs.Labels.{events_in}
 use Rattle.lane_logs.specs.LaneLog.{has_begun, is_begin_of}
 use Rattle.lane_logs.specs.Names.{SessionNames}
 use Rattle.lane_turns.specs.Batons.{BatonView, HaveHands, IsHandlerBaton}
-use Rattle.lane_turns.specs.Discarding.{IsDiscarding, held_in, held_on}
+use Rattle.lane_turns.specs.Discarding.{IsDiscarding, held_in, held_on, is_unrun}
 use Rattle.lane_turns.specs.Pens.{no_pen}
 
 none_first : (b c : Bool) → (b || c) ≡ false → b ≡ false
@@ -42,11 +41,10 @@ none_in test (log ∷ logs) (suc k) is =
     (none_second (list_any test (events_in log)) (list_any test (flat_map events_in logs))
     (sym (list_any-append test (events_in log) (flat_map events_in logs)) ∙ is))
 
-left_parts : (a b c : Bool) → (a && b && not c) ≡ true → (a ≡ true) × (c ≡ false)
-left_parts true true false is = (refl, refl)
-left_parts true true true is = absurd (cc is)
-left_parts true false c is = absurd (cc is)
-left_parts false b c is = absurd (cc is)
+unrun_parts : (a c : Bool) → (a && not c) ≡ true → (a ≡ true) × (c ≡ false)
+unrun_parts true false is = (refl, refl)
+unrun_parts true true is = absurd (cc is)
+unrun_parts false c is = absurd (cc is)
 
 none_of : {H : Type 0} (o : Option H) → is_some o ≡ false → o ≡ None
 none_of None is = refl
@@ -109,13 +107,12 @@ module _ {H : Type 0} (names : SessionNames) (marks : H → Marks) (clock : Cloc
       (λ (past : length batons ≤ k). ap (λ o. held_in o op) (hands_past k past))
       (cases_lt k (length batons))
 
-  left_here : (op : ℕ) → is_left names (flat_map events_in logs) op ≡ true →
+  left_here : (op : ℕ) → is_unrun names (flat_map events_in logs) op ≡ true →
       option_map (λ handler. (marks handler).drop) (held_on hands (home_lane names.script op) op)
       ≡ Some (names.drop op)
   left_here op left =
       let k : ℕ = home_lane names.script op in
-      let parts = left_parts (is_op names.script op) (has_call op (flat_map events_in logs))
-      (has_begun op (flat_map events_in logs)) left in
+      let parts = unrun_parts (is_op names.script op) (has_begun op (flat_map events_in logs)) left in
       let less : home_lane names.script op < length batons = omega (arith, homes op parts.0, size) in
       let on : is_op_on names.script (home_lane names.script op) op ≡ true =
       rw parts.0 (eq-eqb (home_lane names.script op) (home_lane names.script op) refl) in

@@ -19,7 +19,7 @@ use Rattle.lane_turns.specs.Answers.{is_fault, is_nothing}
 use Rattle.lane_turns.specs.Attempts.{Gives, HasAttempted, HasTried, WorkerAt, WorkerState}
 use Rattle.lane_turns.specs.LaneValues.{HearsOf, LaneValue, Tries, handlers, reactor}
 use Rattle.lane_turns.specs.Receipts.{SeatHasGone}
-use Rattle.lane_turns.specs.Scanning.{CameBehind, GoesOn, Grows, HasLooked, HavePassed, Looks, HasLookedRound, HasScanned, Scans, SeatGoesOn, TriedAmong, TriedLast, misses_of, none_passed, numbers_of, one_passed}
+use Rattle.lane_turns.specs.Scanning.{CameBehind, GoesOn, Grows, HasLooked, HavePassed, Looks, HasLookedRound, HasScanned, HasTriedOne, HasTriedUntil, HaveTried, Scans, SeatGoesOn, TriedAmong, TriedLast, misses_of, none_passed, none_tried, numbers_of, one_passed, one_tried}
 use Rattle.lane_turns.specs.Workers.{HasHeard, HasRead, WorkerView}
 use Rattle.lane_turns.proofs.AttemptLemmas.{nothing_is}
 use Rattle.lane_turns.proofs.MeetingLemmas.{met_number}
@@ -283,4 +283,32 @@ module _ {H X : Type 0} (t : Tries H X) (first lanes : ℕ) (old mid new : Worke
             before = it.before;
             since = on_and_on old mid it.before on it.since;
             came = it.came;
+          }
+
+-- attempts at some lanes are attempts at lanes
+module _ {H X : Type 0} (t : Tries H X) (lanes : ℕ) where
+  pub tried_passed : (from : ℕ) (first old : WorkerState H X) → HaveTried t lanes first old → {to : ℕ} {new : WorkerState H X} →
+      HavePassed t from old to new → to ≤ lanes → HaveTried t lanes first new
+  tried_passed from first old tried none_passed less = tried
+  tried_passed from first old tried (one_passed {lane} {mid} {new} before came) less =
+      one_tried (tried_passed from first old tried before (omega (arith, less))) (omega (arith, less)) came
+
+  -- behind others that came to nothing
+  pub tried_scanned : (from to : ℕ) (answer : One) (first old new : WorkerState H X) → HaveTried t lanes first old →
+      HasScanned t from to answer old new → to ≤ lanes → HasTriedUntil t lanes first new
+  tried_scanned from to answer first old new tried scanned less = by_case (is_nothing answer) scanned
+    where
+      by_case : (b : Bool) → Scans t b from to answer old new → HasTriedUntil t lanes first new
+      by_case true passed =
+          record { mid = new; tried = tried_passed from first old tried passed less; last = inl refl }
+      by_case false behind =
+          record {
+            mid = behind.mid;
+            tried = tried_passed from first old tried behind.passed (omega (arith, behind.below, less));
+            last = inr (record {
+              lane = behind.lane;
+              there = omega (arith, behind.below, less);
+              answer = answer;
+              came = behind.came;
+            });
           }

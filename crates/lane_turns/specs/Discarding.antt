@@ -1,11 +1,12 @@
 -- The handlers that are left when a session is over: all are destroyed by rising number of the
 -- operation, and the drop of one that was initiated and never began is an event (Asio reference,
 -- io_context::~io_context).
-use Rattle.std.specs.Prelude.{◌≡◌, ℕ, ◌<◌, ◌≤◌, Bool, true, false, List, Option, Some, None, IfSome, filter, length, map, slice_index_or, slice_set}
+use Rattle.std.specs.Prelude.{◌≡◌, ℕ, ◌<◌, ◌≤◌, Bool, true, false, List, Option, Some, None, IfSome, filter, length, map, not, slice_index_or, slice_set, ◌&&◌}
 use Rattle.std.specs.List.{range_with_len}
 use Rattle.std.specs.Option.{option_map}
 use Rattle.asio_types.specs.declared.event.Event.{Event}
 use Rattle.op_handlers.specs.Marks.{Marks}
+use Rattle.session_script.specs.Script.{is_op}
 use Rattle.lane_map.specs.LaneNumbers.{home_lane, is_op_on, reactor_lane}
 use Rattle.strand_core.specs.Hands.{Held, held_at}
 use Rattle.lane_logs.specs.Drops.{dropped, has_call, is_left}
@@ -39,8 +40,12 @@ pub record AreSeen (events : List Event) (called begun : List Bool) : Type 0 whe
   pub begun_so : (op : ℕ) → op < length called →
       slice_index_or begun op false ≡ has_begun op events
 
+-- an operation whose handler never ran
+abbrev pub is_unrun : SessionNames → List Event → ℕ → Bool
+is_unrun names events op = is_op names.script op && not (has_begun op events)
+
 -- the handlers of the operations below a number were destroyed, each drop that is an event was
--- noted, and of the other operations that are left the handlers are held, with the marks that are
+-- noted, and of the other operations that never ran the handlers are held, with the marks that are
 -- named
 pub record IsDiscarding {H : Type 0} (names : SessionNames) (marks : H → Marks)
     (events : List Event) (number : ℕ) (hands : List (Option (Held H))) (drops : List Event)
@@ -51,7 +56,7 @@ pub record IsDiscarding {H : Type 0} (names : SessionNames) (marks : H → Marks
   pub spent : (lane op : ℕ) → op < number → held_on hands lane op ≡ None
   pub placed : (lane op : ℕ) → is_op_on names.script lane op ≡ false →
       held_on hands lane op ≡ None
-  pub left : (op : ℕ) → number ≤ op → is_left names events op ≡ true →
+  pub left : (op : ℕ) → number ≤ op → is_unrun names events op ≡ true →
       option_map (λ handler. (marks handler).drop)
       (held_on hands (home_lane names.script op) op)
       ≡ Some (names.drop op)

@@ -7,7 +7,7 @@ use Rattle.lane_turns.specs.declared.run_end.RunEnd.{RunEnd}
 use Rattle.lane_turns.specs.declared.run_end.RunEnd.TheVariants as end
 use Rattle.lane_turns.specs.Attempts.{WorkerState}
 use Rattle.lane_turns.specs.LaneValues.{Tries}
-use Rattle.lane_turns.specs.Scanning.{GoesOn, HasLooked, HasLookedRound, TriedAmong, TriedLast}
+use Rattle.lane_turns.specs.Scanning.{GoesOn, HasLooked, HasLookedRound, HasTriedUntil, TriedAmong, TriedLast}
 use Rattle.lane_turns.specs.Workers.{is_set}
 
 -- whether a worker may begin nothing, by what it read: the stop word counts as set, or it keeps the
@@ -20,6 +20,21 @@ pub record HasReadAs {H X : Type 0} (barred : Bool) (old new : WorkerState H X) 
   pub found : Found
   pub looked : HasLooked old new found
   pub is : is_barred old found ≡ barred
+
+-- and by that it may begin something, and some work is left
+pub record HasReadLeft {H X : Type 0} (old new : WorkerState H X) : Type 0 where
+  pub found : Found
+  pub looked : HasLooked old new found
+  pub free : is_barred old found ≡ false
+  pub left : found.work ≢ 0
+
+-- it read the clock word, or did nothing
+abbrev pub MayHaveRead : {H X : Type 0} → WorkerState H X → WorkerState H X → Type 0
+MayHaveRead old new = (new ≡ old) ⊎ ((found : Found) × HasLooked old new found)
+
+-- a turn of it by a worker that stopped the context ends it behind one read
+abbrev pub StopsAtOnce : {H X : Type 0} → Option RunEnd → WorkerState H X → WorkerState H X → Type 0
+StopsAtOnce result old new = (result ≡ Some end.Stopped) × HasReadAs true old new
 
 -- how a call ends by what was read: no work is left, or nothing may begin, or some is left in a round
 -- in which time doesn't pass
@@ -87,6 +102,21 @@ module _ {H X : Type 0} (t : Tries H X) (lanes : ℕ) where
   EndsFor end.Idle old new = FoundNothing end.Idle old new
   EndsFor end.Fault old new = CameLast one.Fault old new
 
+  -- attempts at lanes, and perhaps a read behind them
+  pub record HasTriedAndRead (old new : WorkerState H X) : Type 0 where
+    pub mid : WorkerState H X
+    pub tried : HasTriedUntil t lanes old mid
+    pub read : MayHaveRead mid new
+
+  -- all that a call of `run` did: it read, and made attempts at lanes only directly behind a read by which
+  -- it might begin something and some work was left, until one came to something
+  pub data ReadsAndTries (old : WorkerState H X) : WorkerState H X → Type 0 where
+    at_first : ReadsAndTries old old
+    has_read : {mid new : WorkerState H X} → ReadsAndTries old mid → MayHaveRead mid new →
+        ReadsAndTries old new
+    has_tried : {before mid new : WorkerState H X} → ReadsAndTries old before →
+        HasReadLeft before mid → HasTriedUntil t lanes mid new → ReadsAndTries old new
+
 -- the last end is kept; after a fault that stays
 abbrev pub last_end : Option RunEnd → RunEnd → Option RunEnd
 last_end (Some end.Fault) now = Some end.Fault
@@ -103,4 +133,12 @@ pub record HasRun {H X : Type 0} (t : Tries H X) (lanes : ℕ) (now : RunEnd)
     (old new : WorkerState H X) : Type 0 where
   pub ended : WorkerState H X
   pub why : EndsFor t lanes now old ended
+  pub turns : ReadsAndTries t lanes old ended
   pub kept : new ≡ with_end ended now
+
+-- one call of `run` by a worker that stopped the context: it read that once, and did nothing else
+pub record HasStoppedAtOnce {H X : Type 0} (now : RunEnd) (old new : WorkerState H X) : Type 0 where
+  pub is : now ≡ end.Stopped
+  pub ended : WorkerState H X
+  pub read : HasReadAs true old ended
+  pub kept : new ≡ with_end ended end.Stopped

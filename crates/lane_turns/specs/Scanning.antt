@@ -1,6 +1,6 @@
 -- Attempts at lanes one after another, up to the first that comes to something (Asio reference,
 -- io_context::poll_one).
-use Rattle.std.specs.Prelude.{◌≡◌, ℕ, ◌+◌, ◌<◌, Bool, true, false, List, [], ◌++◌, Option, Some, None}
+use Rattle.std.specs.Prelude.{◌≡◌, ◌⊎◌, ℕ, ◌+◌, ◌<◌, Bool, true, false, List, [], ◌++◌, Option, Some, None}
 use Rattle.turn_table.specs.Seated.{Seated}
 use Rattle.lane_clock.specs.Seats.{Remembers, own}
 use Rattle.lane_clock.specs.Steps.{draw_count, step_count}
@@ -94,3 +94,22 @@ module _ {H X : Type 0} (t : Tries H X) where
 
   abbrev pub HasLookedRound : ℕ → One → WorkerState H X → WorkerState H X → Type 0
   HasLookedRound lanes answer old new = Looks (is_nothing answer) lanes answer old new
+
+  -- attempts at lanes, each of which came to nothing
+  pub data HaveTried (lanes : ℕ) (old : WorkerState H X) : WorkerState H X → Type 0 where
+    none_tried : HaveTried lanes old old
+    one_tried : {lane : ℕ} {mid new : WorkerState H X} → HaveTried lanes old mid → lane < lanes →
+        HasAttempted t lane one.Nothing mid new → HaveTried lanes old new
+
+  -- an attempt at a lane
+  pub record HasTriedOne (lanes : ℕ) (old new : WorkerState H X) : Type 0 where
+    pub lane : ℕ
+    pub there : lane < lanes
+    pub answer : One
+    pub came : HasAttempted t lane answer old new
+
+  -- attempts at lanes and nothing else, of which none but the last came to something
+  pub record HasTriedUntil (lanes : ℕ) (old new : WorkerState H X) : Type 0 where
+    pub mid : WorkerState H X
+    pub tried : HaveTried lanes old mid
+    pub last : (new ≡ mid) ⊎ HasTriedOne lanes mid new

@@ -1,10 +1,11 @@
 //! The handlers that are left when a session is over are destroyed.
-ghost use Rattle.std.specs.Prelude.{◌≡◌, ◌+◌, ◌<◌, ◌≤◌, All, None, IfSome, false, length, map, slice_index_or, slice_set, vec_capacity};
+ghost use Rattle.std.specs.Prelude.{◌≡◌, ◌+◌, ◌*◌, ◌^◌, ◌<◌, ◌≤◌, All, None, IfSome, false, length, map, slice_index_or, slice_set, unwrap_or, vec_capacity, if◌then◌else◌};
 ghost use Rattle.std.specs.List.{flat_map};
 ghost use Rattle.std.specs.Option.{option_map};
 ghost use Rattle.strand_core.specs.Hands.{CallerIsGone};
-ghost use Rattle.lane_logs.specs.Drops.{drops_of};
+ghost use Rattle.lane_logs.specs.Drops.{drops_of, untouched_mark, untouched_marks};
 ghost use Rattle.lane_logs.specs.Labels.{events_in};
+ghost use Rattle.lane_logs.specs.LaneLog.{has_begun};
 ghost use Rattle.lane_turns.specs.Discarding.{IsDiscarding, held_on, without};
 
 use crate::op_lanes::operations_have_lanes;
@@ -45,7 +46,26 @@ fn discard_on<'a, H: CompletionHandler>(
     }
 }
 
-// Destroys the handler of an operation, and notes its drop where it was called and never began.
+/// What is told of the handlers that are left when a session is over: the drops of those whose
+/// operations were initiated, and the sum of the drop marks of all others that never ran.
+pub struct Discarded {
+    pub drops: Vec<Event>,
+    pub let_go: u128,
+}
+
+// The drop mark that was told of an operation whose handler never began; 0 of any other.
+fn unbegun_mark(seen: &SeenActs<'_>, op: OpNo, mark: Option<u64>) -> u64
+    requires { op < seen.now.acts }
+    ensures { result ≡ (if has_begun op seen.now.events then 0 else unwrap_or mark 0) }
+{
+    if seen.has_begun(op) {
+        return 0;
+    }
+    mark.unwrap_or(0)
+}
+
+// Destroys the handler of an operation, and notes its drop where it was called and never began; of one
+// that was never called it answers the drop mark.
 fn discard_next<'a, H: CompletionHandler, N: LaneSession>(
     script: &'a Script,
     map: &LaneMap<'a>,
@@ -53,7 +73,7 @@ fn discard_next<'a, H: CompletionHandler, N: LaneSession>(
     seen: &SeenActs<'_>,
     drops: &mut Vec<Event>,
     op: OpNo,
-)
+) -> u64
     requires script { script.now ≡ N.names.script }
     requires map { map.now ≡ script.now }
     requires act { op < length script.now.acts }
@@ -63,46 +83,79 @@ fn discard_next<'a, H: CompletionHandler, N: LaneSession>(
     ensures so_far { IsDiscarding N.names H.marks seen.now.events (op + 1) hands.new
         drops.new.items }
     ensures capacity { vec_capacity drops.new ≡ vec_capacity drops.old }
+    ensures let_go { result ≡ untouched_mark N.names seen.now.events op }
 {
     parents_come_first(script);
     operations_have_lanes(script);
     if !script.is_op(op) {
-        return;
+        return 0;
     }
     let mark = discard_on(hands, map.home(op), op);
     if !seen.is_left(op) {
-        return;
+        return unbegun_mark(seen, op, mark);
     }
     if let Some(mark) = mark {
         drops.push_reserved(Event::Dropped { op, mark });
+        return 0;
     }
+    0
+}
+
+// Destroys all handlers that are left, by rising number of the operation. Notes the drops of those that
+// the logs have called and that never began, for which there is room, and answers the sum of the drop
+// marks of those that they haven't called.
+fn discard_each<'a, H: CompletionHandler, N: LaneSession>(
+    script: &'a Script,
+    map: &LaneMap<'a>,
+    hands: &mut [Option<Hands<'a, H>>],
+    seen: &SeenActs<'_>,
+    drops: &mut Vec<Event>,
+) -> u128
+    requires script { script.now ≡ N.names.script }
+    requires map { map.now ≡ script.now }
+    requires seen { seen.now.acts ≡ length script.now.acts }
+    requires room { length script.now.acts ≤ vec_capacity drops.old }
+    requires first { IsDiscarding N.names H.marks seen.now.events 0 hands.old drops.old.items }
+    ensures drops { drops.new.items ≡ drops_of N.names seen.now.events }
+    ensures let_go { result
+        ≡ untouched_marks N.names seen.now.events (length N.names.script.acts) }
+    ensures few { result < 2 ^ 96 }
+{
+    let mut let_go: u128 = 0;
+    for op in 0..script.acts() {
+        let_go += discard_next::<H, N>(script, map, hands, seen, drops, op) as u128;
+    }
+    let_go
 }
 
 /// Destroys all handlers that are left, by rising number of the operation, and answers the drops of
-/// those that the logs have called and that never began. `drops` is the room for them.
+/// those that the logs have called and that never began, and the sum of the drop marks of those that
+/// they haven't called. `drops` is the room for the drops.
 pub fn discard_all<'a, H: CompletionHandler, N: LaneSession>(
     script: &'a Script,
     map: &LaneMap<'a>,
     mut hands: Vec<Option<Hands<'a, H>>>,
     seen: &SeenActs<'_>,
     mut drops: Vec<Event>,
-) -> Vec<Event>
+) -> Discarded
     requires script { script.now ≡ N.names.script }
     requires map { map.now ≡ script.now }
     requires seen { seen.now.acts ≡ length script.now.acts }
     requires room { length script.now.acts ≤ vec_capacity drops }
     requires first { IsDiscarding N.names H.marks seen.now.events 0 hands.items drops.items }
-    ensures { result.items ≡ drops_of N.names seen.now.events }
+    ensures drops { result.drops.items ≡ drops_of N.names seen.now.events }
+    ensures let_go { result.let_go
+        ≡ untouched_marks N.names seen.now.events (length N.names.script.acts) }
+    ensures few { result.let_go < 2 ^ 96 }
 {
-    for op in 0..script.acts() {
-        discard_next::<H, N>(script, map, hands.as_mut_slice(), seen, &mut drops, op);
-    }
+    let let_go = discard_each::<H, N>(script, map, hands.as_mut_slice(), seen, &mut drops);
     discard_none_left(hands);
-    drops
+    Discarded { drops, let_go }
 }
 
-/// The drops of the operations that the logs have called and that never began. `called` and `begun`
-/// are the room for a mark for each act, and `drops` for the drops.
+/// The drops of the operations that the logs have called and that never began, and the sum of the drop
+/// marks of those that they haven't called. `called` and `begun` are the room for a mark for each act,
+/// and `drops` for the drops.
 pub fn discard_left<'a, H: CompletionHandler, N: LaneSession>(
     script: &'a Script,
     lanes: &LaneMap<'a>,
@@ -111,7 +164,7 @@ pub fn discard_left<'a, H: CompletionHandler, N: LaneSession>(
     called: Vec<bool>,
     begun: Vec<bool>,
     drops: Vec<Event>,
-) -> Vec<Event>
+) -> Discarded
     requires script { script.now ≡ N.names.script }
     requires lanes { lanes.now ≡ script.now }
     requires none_called { All (λ is. is ≡ false) called.items }
@@ -121,8 +174,11 @@ pub fn discard_left<'a, H: CompletionHandler, N: LaneSession>(
     requires room { length script.now.acts ≤ vec_capacity drops }
     requires first { IsDiscarding N.names H.marks
         (flat_map events_in (map (λ log. log.items) logs.now)) 0 hands.items drops.items }
-    ensures { result.items
+    ensures drops { result.drops.items
         ≡ drops_of N.names (flat_map events_in (map (λ log. log.items) logs.now)) }
+    ensures let_go { result.let_go ≡ untouched_marks N.names
+        (flat_map events_in (map (λ log. log.items) logs.now)) (length N.names.script.acts) }
+    ensures few { result.let_go < 2 ^ 96 }
 {
     let seen = SeenActs::in_logs(logs, called, begun);
     discard_all::<H, N>(script, lanes, hands, &seen, drops)

@@ -4,7 +4,7 @@ ghost use Rattle.lane_clock.specs.Seats.{Owns, Remembers};
 ghost use Rattle.lane_map.specs.LaneNumbers.{reactor_lane};
 ghost use Rattle.lane_logs.specs.AtRest.{RestsFrom};
 ghost use Rattle.lane_logs.specs.Cuts.{EventsAreCuts};
-ghost use Rattle.lane_logs.specs.KeptLogs.{logs_in};
+ghost use Rattle.lane_logs.specs.KeptLogs.{LetGo, logs_in};
 ghost use Rattle.lane_logs.specs.Logs.{AreLogs, session_layout};
 ghost use Rattle.lane_logs.specs.Knowing.{lists_of};
 ghost use Rattle.lane_logs.specs.SeatNumbers.{lane_count, opener_seat, worker_count};
@@ -16,7 +16,7 @@ ghost use Rattle.lane_turns.specs.Openers.{IsOpener};
 ghost use Rattle.lane_turns.specs.Pens.{PenView};
 ghost use Rattle.lane_turns.specs.Turning.{log_half};
 
-use crate::discarding::discard_left;
+use crate::discarding::{Discarded, discard_left};
 use crate::ending_room::LeavingRoom;
 use crate::handler_baton::HandlerBaton;
 use crate::op_lanes::operations_have_lanes;
@@ -122,6 +122,7 @@ pub fn finish<'a, X: Reactor, H: CompletionHandler, N: LaneSession>(
     requires heard { HasHeardPens ending.opener
         (pens_of (lanes_in ending.batons.items ending.reactor.lane) ending.workers.items) }
     ensures logs { AreLogs N.names (logs_in result.0) }
+    ensures let_go { LetGo N.names result.0 }
     ensures worker_logs { KeepLogsOf (λ worker. worker.pen.log) N.names.script (logs_in result.0)
         ending.entry.workers.items }
     ensures worker_steps { KeepStepsOf (λ worker. worker.pen.seat) N.names.script
@@ -165,7 +166,7 @@ pub fn finish<'a, X: Reactor, H: CompletionHandler, N: LaneSession>(
         last,
         known,
     } = close_all(clock, opener, pens, logs);
-    let drops = discard_left::<H, N>(
+    let Discarded { drops, let_go } = discard_left::<H, N>(
         script,
         lanes,
         hands,
@@ -174,6 +175,6 @@ pub fn finish<'a, X: Reactor, H: CompletionHandler, N: LaneSession>(
         begun,
         drops,
     );
-    let logs = Logs::of(entries, missed, drops, last, known);
+    let logs = Logs::of(entries, missed, drops, let_go, last, known);
     (logs, proactor.into_reactor())
 }

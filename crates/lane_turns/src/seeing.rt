@@ -118,4 +118,12 @@ impl<'l> SeenActs<'l> {
     {
         self.called[op as usize] && !self.begun[op as usize]
     }
+
+    /// Whether the handler of an operation began.
+    pub fn has_begun(&self, op: OpNo) -> bool
+        requires { op < self.now.acts }
+        ensures { result ≡ has_begun op self.now.events }
+    {
+        self.begun[op as usize]
+    }
 }

@@ -11,4 +11,7 @@ pub struct TaskReport<X, T> {
     pub tasks: Vec<T>,
     /// The reactor, which is set up.
     pub reactor: X,
+    /// The sum of the drop marks of all handlers whose operations were never initiated: they were
+    /// discarded, which alone tells these marks.
+    pub let_go: u128,
 }

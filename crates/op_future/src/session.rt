@@ -1,15 +1,17 @@
 //! A session of tasks.
-ghost use Rattle.std.specs.Prelude.{◌≡◌, ◌↔◌, ◌≤◌, false, length, map, IfErr, IfOk, IsTrue};
+ghost use Rattle.std.specs.Prelude.{◌≡◌, ◌↔◌, ◌≤◌, ◌^◌, false, length, map, IfErr, IfOk, IsTrue, OnOk};
 ghost use Rattle.execution_laws.specs.Finished.{IsFinished};
-ghost use Rattle.execution_laws.specs.Setup.{IsRefused};
+ghost use Rattle.execution_laws.specs.LetGo.{is_initiated, let_go_marks};
+ghost use Rattle.execution_laws.specs.Setup.{IsRefused, TakesHandlers};
 ghost use Rattle.history_merge.specs.Room.{most_merged};
+ghost use Rattle.history_rules.specs.Legal.{state_of};
 ghost use Rattle.lane_logs.specs.Logs.{session_layout};
 ghost use Rattle.op_future.specs.Seats.{IsRoomFor};
 ghost use Rattle.op_future.specs.Sessions.{AreEndsOf, HasOneRun, HaveGot};
 ghost use Rattle.op_handlers.specs.Rack.{IsWholeRack, handlers_in};
 ghost use Rattle.proactor_core.specs.Proactor.{tells};
 ghost use Rattle.session_run.specs.LaneNames.{names_of};
-ghost use Rattle.session_run.specs.RackMarks.{drop_mark, rack_run_mark};
+ghost use Rattle.session_run.specs.RackMarks.{drop_mark, drop_marks_but, rack_run_mark};
 
 use crate::ending::ends_by;
 use crate::gathering::{Gathered, gather_all};
@@ -81,11 +83,15 @@ fn run_lanes<
     requires round { HasOneRun script.now (length tasks.items) }
     requires whole { IsWholeRack rack.old }
     requires count { length script.now.acts ≤ length (handlers_in rack.old) }
+    ensures taken { OnOk result (TakesHandlers script.now rack.old rack.new) }
     ensures refused { IfErr result (λ back. IsRefused N.names.told N.faults (X.faults back.1)
         (X.state back.1) (X.told back.1) back.0) }
     ensures finished { IfOk result (λ report. IsFinished N.names.script N.names.told N.names.run
         N.names.drop false N.faults (X.faults report.reactor) report.history.events
         (X.state report.reactor) (X.told report.reactor)) }
+    ensures let_go { IfOk result (λ report. report.let_go
+        ≡ let_go_marks N.names.script N.names.told N.names.drop report.history.events) }
+    ensures few { IfOk result (λ report. report.let_go ≤ 2 ^ 96) }
     ensures got { IfOk result (λ report. HaveGot N.names.script report.history.events
         (map T.state tasks.items) (map T.state report.tasks.items)) }
     ensures ended { IfOk result (λ report. AreEndsOf N.names.script report.history.events
@@ -119,6 +125,7 @@ fn run_lanes<
     let mut rest = context.rest(workers);
     let Gathered { tasks, ends: found } = gather_all(&mut rest, script, tasks, found);
     let (logs, reactor) = rest.finish();
+    let let_go = logs.let_go();
     let history = merge::<N>(&logs, script, history);
     let ends = ends_by(&history, found.as_slice(), ends);
     Ok(TaskReport {
@@ -126,6 +133,7 @@ fn run_lanes<
         ends,
         tasks,
         reactor,
+        let_go,
     })
 }
 
@@ -146,12 +154,16 @@ fn run_unlocked<
     requires round { HasOneRun script.now (length tasks.items) }
     requires whole { IsWholeRack rack.old }
     requires count { length script.now.acts ≤ length (handlers_in rack.old) }
+    ensures taken { OnOk result (TakesHandlers script.now rack.old rack.new) }
     ensures refused { IfErr result (λ back. IsRefused (tells (X.told reactor)) (X.faults reactor)
         (X.faults back.1) (X.state back.1) (X.told back.1) back.0) }
     ensures finished { IfOk result (λ report. IsFinished script.now (tells (X.told reactor))
         (rack_run_mark H.marks rack.old) (drop_mark H.marks rack.old) false (X.faults reactor)
         (X.faults report.reactor) report.history.events (X.state report.reactor)
         (X.told report.reactor)) }
+    ensures let_go { IfOk result (λ report. report.let_go ≡ let_go_marks script.now
+        (tells (X.told reactor)) (drop_mark H.marks rack.old) report.history.events) }
+    ensures few { IfOk result (λ report. report.let_go ≤ 2 ^ 96) }
     ensures got { IfOk result (λ report. HaveGot script.now report.history.events
         (map T.state tasks.items) (map T.state report.tasks.items)) }
     ensures ended { IfOk result (λ report. AreEndsOf script.now report.history.events
@@ -217,6 +229,9 @@ pub fn task_session<
         (rack_run_mark H.marks rack) (drop_mark H.marks rack) false (X.faults reactor)
         (X.faults report.reactor) report.history.events (X.state report.reactor)
         (X.told report.reactor)) }
+    ensures let_go { IfOk result (λ report. report.let_go ≡ drop_marks_but H.marks
+        (is_initiated script.now
+        (state_of script.now (tells (X.told reactor)) report.history.events)) rack) }
     ensures got { IfOk result (λ report. HaveGot script.now report.history.events
         (map T.state tasks.items) (map T.state report.tasks.items)) }
     ensures ended { IfOk result (λ report. AreEndsOf script.now report.history.events
@@ -224,6 +239,12 @@ pub fn task_session<
 {
     let mut rack = rack;
     let ran = run_unlocked(rt, alloc, script, &mut rack, reactor, tasks);
-    rack.discard_all();
-    ran
+    let rest = rack.discard_all();
+    match ran {
+        Ok(mut report) => {
+            report.let_go += rest;
+            Ok(report)
+        }
+        Err(refusal) => Err(refusal),
+    }
 }

@@ -21,6 +21,10 @@ handler_at rack a = option_flatten (slice_get (handlers_in rack) a)
 abbrev pub drop_marks : {H : Type 0} → (H → Marks) → List (Option H) → ℕ
 drop_marks marks handlers = sum_by (drop_mark_of marks) handlers
 
+-- the sum of the drop marks of the handlers that were let go of, as a rack was told
+abbrev pub let_go_of : {H : Type 0} → Rack H → ℕ
+let_go_of rack = rack.let_go
+
 -- no handler is left, and the numbers stay
 pub record AllTaken {H : Type 0} (old new : Rack H) : Type 0 where
   pub size : length (handlers_in new) ≡ length (handlers_in old)

@@ -1,4 +1,4 @@
-ghost use Rattle.std.specs.Prelude.{◌≡◌, ◌<◌, ◌^◌, length};
+ghost use Rattle.std.specs.Prelude.{◌≡◌, ◌<◌, ◌≤◌, ◌^◌, length};
 ghost use Rattle.op_handlers.specs.Marks.{drop_mark_of};
 
 use crate::completion::CompletionHandler;
@@ -12,12 +12,14 @@ use asio_types::ActNo;
 pub struct Rack<H = Handler> {
     // at each number its handler, or nothing where it was taken
     slots: Vec<Option<H>>,
+    // the sum of the drop marks of the handlers that were let go of
+    let_go: u128,
     ghost few: { length slots.items < 2 ^ 32 },
 }
 
 impl<H> Rack<H> {
     ghost use Rattle.std.specs.Prelude.{◌↔◌, IsSome, IsTrue, slice_get, slice_set, vec_len};
-    ghost use Rattle.op_handlers.specs.Rack.{handlers_in, handler_at, IsWholeRack};
+    ghost use Rattle.op_handlers.specs.Rack.{handlers_in, handler_at, let_go_of, IsWholeRack};
 
     /// The rack of these handlers, where a `None` counts as taken. It takes no memory.
     ///
@@ -34,7 +36,10 @@ impl<H> Rack<H> {
         requires { vec_len handlers < 2 ^ 32 }
         ensures { handlers_in result ≡ handlers.items }
     {
-        Rack { slots: handlers }
+        Rack {
+            slots: handlers,
+            let_go: 0,
+        }
     }
 
     /// How many numbers there are, with those that were taken.
@@ -57,6 +62,22 @@ impl<H> Rack<H> {
     {
         let number = a as usize;
         number < self.slots.len() && self.slots[number].is_some()
+    }
+
+    /// The sum of the drop marks of the handlers that were let go of: what the latest `discard_rest`
+    /// heard, or `note` was told since; 0 where there was neither.
+    pub fn let_go(&self) -> u128
+        ensures { result ≡ let_go_of self.now }
+    {
+        self.let_go
+    }
+
+    /// Notes the sum of the drop marks of the handlers that were let go of, for whoever has the rack.
+    pub fn note(&mut self, let_go: u128)
+        ensures handlers { handlers_in self.new ≡ handlers_in self.old }
+        ensures let_go { let_go_of self.new ≡ let_go }
+    {
+        self.let_go = let_go;
     }
 
     /// Takes the handler of an act: `None` exactly where the number is not below the count or was
@@ -86,27 +107,32 @@ impl<H> Rack<H> {
 }
 
 impl<H: CompletionHandler> Rack<H> {
-    ghost use Rattle.op_handlers.specs.Rack.{AllTaken, drop_marks, handlers_in};
+    ghost use Rattle.op_handlers.specs.Rack.{AllTaken, drop_marks, handlers_in, let_go_of};
 
     /// Discards the handlers that are left, in rising number, and executes none. The numbers stay,
-    /// with nothing at any. Answers the sum of the drop marks, which discarding alone tells.
+    /// with nothing at any. Answers the sum of the drop marks, which discarding alone tells, and
+    /// keeps it for whoever has the rack (`let_go`).
     pub fn discard_rest(&mut self) -> u128
         ensures taken { AllTaken self.old self.new }
         ensures marks { result ≡ drop_marks H.marks (handlers_in self.old) }
+        ensures let_go { let_go_of self.new ≡ drop_marks H.marks (handlers_in self.old) }
+        ensures few { result ≤ 2 ^ 96 }
     {
         let mut marks = 0;
         for n in 0..self.count() {
             marks += discarded(self.take(n)) as u128;
         }
+        self.let_go = marks;
         marks
     }
 
     /// Discards the handlers that are left, in rising number, and executes none. Answers the sum of
     /// the drop marks, which discarding alone tells.
     pub fn discard_all(self) -> u128
-        ensures { result ≡ drop_marks H.marks (handlers_in self) }
+        ensures marks { result ≡ drop_marks H.marks (handlers_in self) }
+        ensures few { result ≤ 2 ^ 96 }
     {
-        let Rack { slots } = self;
+        let Rack { slots, let_go: _ } = self;
         let mut rest = slots.into_iter();
         let mut marks = 0;
         while let Some(slot) = rest.next() {

@@ -23,4 +23,7 @@ pub struct GroupReport<X> {
     pub end: TaskEnd,
     /// The reactor, which is set up.
     pub reactor: X,
+    /// The sum of the drop marks of all handlers whose operations were never initiated: they were
+    /// discarded, which alone tells these marks.
+    pub let_go: u128,
 }

@@ -1,9 +1,11 @@
 //! Running a group.
 ghost use Rattle.std.specs.Prelude.{◌≡◌, ◌≤◌, [], false, Some, length, slice_get, vec_capacity, IfErr, IfOk};
 ghost use Rattle.execution_laws.specs.Finished.{IsFinished};
+ghost use Rattle.execution_laws.specs.LetGo.{is_initiated};
 ghost use Rattle.execution_laws.specs.Setup.{IsRefused};
 ghost use Rattle.group_script.specs.Group.{group_of, script_of};
 ghost use Rattle.group_script.specs.Limits.{IsGroup};
+ghost use Rattle.history_rules.specs.Legal.{state_of};
 ghost use Rattle.op_handlers.specs.Rack.{IsWholeRack, drop_marks, handlers_in};
 ghost use Rattle.parallel_group.specs.Collecting.{none_found};
 ghost use Rattle.parallel_group.specs.Placed.{IsFirstInOrder};
@@ -12,7 +14,7 @@ ghost use Rattle.parallel_group.specs.Orders.{GroupEnds, IsOrderOf};
 ghost use Rattle.parallel_group.specs.Refusing.{IsUntouched, RefusesGroup, fault_of};
 ghost use Rattle.parallel_group.specs.Scripts.{IsGroupScript};
 ghost use Rattle.proactor_core.specs.Proactor.{tells};
-ghost use Rattle.session_run.specs.RackMarks.{drop_mark, rack_run_mark};
+ghost use Rattle.session_run.specs.RackMarks.{drop_mark, drop_marks_but, rack_run_mark};
 ghost use Rattle.session_script.specs.Limits.{most_acts};
 
 use crate::member_task::{GroupOps, MemberTask};
@@ -48,6 +50,7 @@ fn report_of<N: GroupOps, X>(
     requires room { length N.ops ≤ vec_capacity order }
     ensures history { result.history ≡ report.history }
     ensures reactor { result.reactor ≡ report.reactor }
+    ensures let_go { result.let_go ≡ report.let_go }
     ensures end { slice_get report.ends.items 0 ≡ Some result.end }
     ensures order { IsFirstInOrder N.ops report.tasks.items result.order.items }
 {
@@ -56,6 +59,7 @@ fn report_of<N: GroupOps, X>(
         ends,
         tasks,
         reactor,
+        let_go,
     } = report;
     let end = ends[0];
     let Some(first) = tasks.into_iter().next() else {
@@ -66,6 +70,7 @@ fn report_of<N: GroupOps, X>(
         order: in_order(first.into_found(), order),
         end,
         reactor,
+        let_go,
     }
 }
 
@@ -112,6 +117,9 @@ fn run_script<
         (rack_run_mark H.marks rack) (drop_mark H.marks rack) false (X.faults reactor)
         (X.faults report.reactor) report.history.events (X.state report.reactor)
         (X.told report.reactor)) }
+    ensures let_go { IfOk result (λ report. report.let_go ≡ drop_marks_but H.marks
+        (is_initiated script.now
+        (state_of script.now (tells (X.told reactor)) report.history.events)) rack) }
     ensures order { IfOk result (λ report.
         IsOrderOf script.now report.history.events report.order.items) }
     ensures ended { IfOk result (λ report.
@@ -178,6 +186,10 @@ pub fn run_group<R: Threads + Wait + Sync, X: Reactor + Send, H: CompletionHandl
         (tells (X.told reactor)) (rack_run_mark H.marks rack) (drop_mark H.marks rack) false
         (X.faults reactor) (X.faults report.reactor) report.history.events
         (X.state report.reactor) (X.told report.reactor)) }
+    ensures let_go { IfOk result (λ report. report.let_go ≡ drop_marks_but H.marks
+        (is_initiated (script_of (group_of world.now members.now rule types workers))
+        (state_of (script_of (group_of world.now members.now rule types workers))
+        (tells (X.told reactor)) report.history.events)) rack) }
     ensures order { IfOk result (λ report.
         IsOrderOf (script_of (group_of world.now members.now rule types workers))
         report.history.events report.order.items) }

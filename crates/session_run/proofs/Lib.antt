@@ -4,6 +4,7 @@ pub mod GenLemmas
 pub mod LaneRoundLemmas
 pub mod LaneWorkerLemmas
 pub mod LastLemmas
+pub mod LetGoLemmas
 pub mod MergedLemmas
 pub mod NumberLemmas
 pub mod RackLemmas

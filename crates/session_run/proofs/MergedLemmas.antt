@@ -1,6 +1,6 @@
 -- A merged history, with the reactor that was given back, is what a context leaves.
 use Rattle.std.proofs.Common.{◌≡◌, ◌∙◌, ℕ, ◌-◌, ◌≤◌, Bool, true, false, List, [], ◌∷◌, Option, Some, ap, length, map, refl, subst, sym}
-use Rattle.std.specs.Prelude.{◌||◌, IfSome}
+use Rattle.std.specs.Prelude.{◌||◌, IfSome, if◌then◌else◌}
 use Rattle.asio_types.specs.declared.event.Event.{Event}
 use Rattle.asio_types.specs.declared.event.Event.TheVariants as event
 use Rattle.session_script.specs.Script.{ScriptModel}
@@ -12,9 +12,13 @@ use Rattle.op_handlers.specs.Marks.{Marks}
 use Rattle.op_handlers.specs.Rack.{IsWholeRack, handlers_in}
 use Rattle.op_handlers.specs.declared.rack.Rack.{Rack}
 use Rattle.execution_laws.specs.Finished.{IsFinished}
+use Rattle.execution_laws.specs.LetGo.{let_go_mark, let_go_marks}
+use Rattle.execution_laws.proofs.LetGoLemmas.{sums_below}
 use Rattle.book_context.proofs.FinishLemmas.{no_fault, no_stop, some_fault}
 use Rattle.lane_map.specs.LaneNumbers.{reactor_lane}
-use Rattle.lane_logs.specs.Logs.{LogsView, entries_of}
+use Rattle.lane_logs.specs.Drops.{untouched_mark}
+use Rattle.lane_logs.specs.KeptLogs.{KeptLogs, LetGo, logs_in}
+use Rattle.lane_logs.specs.Logs.{LogsView, all_events, entries_of}
 use Rattle.lane_logs.specs.Names.{SessionNames}
 use Rattle.lane_turns.specs.Finishing.{IsGivenBack}
 use Rattle.lane_context.specs.Setup.{HoldsNamed}
@@ -84,3 +88,12 @@ module _ (names : SessionNames) (logs : LogsView) (events : List Event) (merged 
         (λ outside. map (λ stream. stream.sent) outside.streams ≡ map (λ stream. stream.sent) r.streams))
         (sym merged.half) (back.sent (shows ∙ no_fault events absent));
   }
+
+-- the handlers that were let go of without an event are those of the operations that were never initiated
+pub let_go_is : (names : SessionNames) (kept : KeptLogs) (events : List Event) → IsLegalMerging names (logs_in kept) events →
+    LetGo names kept → kept.let_go ≡ let_go_marks names.script names.told names.drop events
+let_go_is names kept events merged go =
+    go.is
+    ∙ sums_below (untouched_mark names (all_events (logs_in kept)))
+    (let_go_mark names.script names.drop (state_of names.script names.told events)) (length names.script.acts)
+    (λ n less. ap (λ b. if b then names.drop n else 0) (merged.untouched n less))

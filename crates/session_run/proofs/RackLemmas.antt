@@ -1,6 +1,7 @@
 -- The marks of the handlers of a whole rack, and what was taken from one.
 use Rattle.std.proofs.Common.{◌≡◌, ℕ, zero, suc, ◌<◌, ◌≤◌, List, [], ◌∷◌, Option, Some, None, IsSome, true, length, ap, arith, refl, subst, sym, ◌∙◌}
 use Rattle.std.specs.Option.{option_flatten, option_map}
+use Rattle.std.specs.Prelude.{slice_get}
 use Rattle.std.proofs.lemmas.Option.{slice_get-get_or}
 use Rattle.session_script.specs.Script.{ScriptModel, is_op}
 use Rattle.op_handlers.specs.Marks.{Marks}
@@ -50,3 +51,12 @@ all_taken old made new same taken = record { size = taken.size ∙ same; none = 
 pub all_taken_kept : {H : Type 0} (old made new : Rack H) → handlers_in made ≡ handlers_in old → AllTaken made new →
     AllTaken old new
 all_taken_kept old made new same taken = all_taken old made new (ap length same) taken
+
+-- and where it was only told something since
+pub all_taken_told : {H : Type 0} (old made new : Rack H) → handlers_in new ≡ handlers_in made → AllTaken old made →
+    AllTaken old new
+all_taken_told old made new same taken =
+    record {
+      size = ap length same ∙ taken.size;
+      none = λ n. ap (λ hs. option_flatten (slice_get hs n)) same ∙ taken.none n;
+    }

@@ -11,13 +11,14 @@ use Rattle.history_laws.proofs.PromiseLemmas.{keeps}
 use Rattle.reactor_trait.specs.Reactor.{Outside, ReactorState}
 use Rattle.history_book.specs.Trace.{AreEvents}
 use Rattle.execution_laws.specs.Finished.{IsFinished}
+use Rattle.execution_laws.specs.LetGo.{is_initiated}
 use Rattle.history_rules.specs.Legal.{IsLegal, state_of}
 use Rattle.history_rules.specs.State.{State}
 use Rattle.op_handlers.specs.Marks.{Marks}
-use Rattle.op_handlers.specs.Rack.{AllTaken}
+use Rattle.op_handlers.specs.Rack.{AllTaken, let_go_of}
 use Rattle.op_handlers.specs.declared.rack.Rack.{Rack}
 use Rattle.session_run.specs.Given.{SeenReactor, sent_outside}
-use Rattle.session_run.specs.RackMarks.{drop_mark, rack_run_mark}
+use Rattle.session_run.specs.RackMarks.{drop_mark, drop_marks_but, rack_run_mark}
 use Rattle.session_run.specs.Run.{IsRunOf, sent_by}
 
 -- a reactor is seen to tell its bytes where it does
@@ -49,10 +50,10 @@ seen_of first outside before after state =
 -- what a context gives back that was made for the script, the reactor and the rack
 pub run_of : {H : Type 0} (marks : H → Marks) (script : ScriptModel) (told : Bool) (before after : ℕ)
     (events : List Event) (state : ReactorState) (first outside : Option Outside) (old new : Rack H) →
-    AllTaken old new → AreEvents events → IsWellFormed script →
+    AllTaken old new → let_go_of new ≡ drop_marks_but marks (is_initiated script (state_of script told events)) old → AreEvents events → IsWellFormed script →
     IsFinished script told (rack_run_mark marks old) (drop_mark marks old) false before after events state outside →
     IsRunOf marks script (seen_of first outside before after state) old new events
-run_of marks script told before after events state first outside old new spent numbers well f =
+run_of marks script told before after events state first outside old new spent let_go numbers well f =
     let told_is : told ≡ is_some (option_map sent_outside outside) =
     sym f.still_told ∙ sym (seen_to_tell outside) in
     record {
@@ -61,6 +62,9 @@ run_of marks script told before after events state first outside old new spent n
       numbers = numbers;
       marked = f.marked;
       spent = spent;
+      let_go =
+          subst (λ told. let_go_of new ≡ drop_marks_but marks (is_initiated script (state_of script told events)) old)
+          told_is let_go;
       unstopped = f.unstopped refl;
       faults = f.rose;
       stood = f.stood;

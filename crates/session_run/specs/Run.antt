@@ -4,16 +4,17 @@ use Rattle.asio_types.specs.Faults.{Rose}
 use Rattle.asio_types.specs.declared.event.Event.{Event}
 use Rattle.asio_types.specs.declared.event.Event.TheVariants as event
 use Rattle.session_script.specs.Script.{ScriptModel}
+use Rattle.execution_laws.specs.LetGo.{is_initiated}
 use Rattle.history_book.specs.Trace.{AreEvents}
 use Rattle.history_laws.specs.Promise.{KeepsPromise}
 use Rattle.history_rules.specs.Legal.{IsLegal, state_of}
 use Rattle.history_rules.specs.Marks.{HasMarks}
 use Rattle.history_rules.specs.State.{State}
 use Rattle.op_handlers.specs.Marks.{Marks}
-use Rattle.op_handlers.specs.Rack.{AllTaken}
+use Rattle.op_handlers.specs.Rack.{AllTaken, let_go_of}
 use Rattle.op_handlers.specs.declared.rack.Rack.{Rack}
 use Rattle.session_run.specs.Given.{SeenReactor, tells_bytes}
-use Rattle.session_run.specs.RackMarks.{drop_mark, rack_run_mark}
+use Rattle.session_run.specs.RackMarks.{drop_mark, drop_marks_but, rack_run_mark}
 
 -- the events show a failure of the reactor
 abbrev pub ShowsFault : List Event → Type 0
@@ -43,6 +44,9 @@ pub record IsRunOf {H : Type 0} (marks : H → Marks) (script : ScriptModel) (re
   pub marked : HasMarks (rack_run_mark marks old) (drop_mark marks old) events
   -- every handler was spent
   pub spent : AllTaken old new
+  -- every handler whose operation was never initiated was destroyed without a call
+  pub let_go : let_go_of new
+      ≡ drop_marks_but marks (is_initiated script (state_of script (tells_bytes reactor) events)) old
   -- nobody stopped the context from outside
   pub unstopped : Contains events (event.Stop None) → ⊥
   -- a fault stands exactly where the reactor failed

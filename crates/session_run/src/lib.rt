@@ -27,6 +27,8 @@ mod writing;
 
 pub use context_kind::{ContextKind, run_script};
 pub use form::{Form, asks_for_sockets};
+// A session is made from two numbers, and its history summed up, also by callers of their own.
+pub use generated_session::{generate, write_summary};
 pub use last::end_buffered;
 pub use rounds::run_rounds;
 pub use session::{asio_session, book_session};

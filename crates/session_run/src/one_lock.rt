@@ -1,6 +1,7 @@
 //! A script on the io_context with one lock.
-ghost use Rattle.std.specs.Prelude.{◌≡◌, length, IfErr, IfOk, OnErr, OnOk};
+ghost use Rattle.std.specs.Prelude.{◌≡◌, ◌≤◌, ◌^◌, length, IfErr, IfOk, OnErr, OnOk};
 ghost use Rattle.execution_laws.specs.Finished.{IsFinished};
+ghost use Rattle.execution_laws.specs.LetGo.{let_go_marks};
 ghost use Rattle.execution_laws.specs.Setup.{IsRefused, TakesHandlers};
 ghost use Rattle.op_handlers.specs.Rack.{IsWholeRack, handlers_in};
 ghost use Rattle.proactor_core.specs.Proactor.{tells};
@@ -40,7 +41,7 @@ pub(crate) fn run_locked<
     script: &Script,
     reactor: X,
     rack: &mut Rack<H>,
-) -> Result<(History, X), (SetupFault, X)>
+) -> Result<(History, X, u128), (SetupFault, X)>
     requires named { N.script ≡ script.now }
     requires told { N.told ≡ tells (X.told reactor) }
     requires faults { N.faults ≡ X.faults reactor }
@@ -54,6 +55,9 @@ pub(crate) fn run_locked<
         IsRefused N.told N.faults (X.faults back.1) (X.state back.1) (X.told back.1) back.0) }
     ensures ended { IfOk result (λ ran. IsFinished N.script N.told N.run N.drop N.outside N.faults
         (X.faults ran.1) ran.0.events (X.state ran.1) (X.told ran.1)) }
+    ensures let_go { IfOk result
+        (λ ran. ran.2 ≡ let_go_marks N.script N.told N.drop ran.0.events) }
+    ensures few { IfOk result (λ ran. ran.2 ≤ 2 ^ 96) }
 {
     // The rack has a number for each act.
     prove!(script.acts() <= rack.count());
@@ -62,5 +66,5 @@ pub(crate) fn run_locked<
         run_rounds(rt, script, &mut context);
     }
     // Closes each round behind its work, with the context out of its lock.
-    Ok(context.finish(rt))
+    Ok(context.finish_telling(rt))
 }

@@ -22,8 +22,9 @@ use std::sync::Wait;
 use std::thread::Threads;
 
 /// Runs a script, discards the handlers that are no operation's, and gives the history and the
-/// reactor; where that can't be set up, the history shows it. Takes all memory first: without it,
-/// the reactor alone comes back, and nothing was run.
+/// reactor, and to the rack what those told that were never called; where the reactor can't be set
+/// up, the history shows it. Takes all memory first: without it, the reactor alone comes back, and
+/// nothing was run.
 fn run_to_history<R: Threads + Wait + Sync, X: Reactor + Send, H: CompletionHandler + Send>(
     rt: &R,
     alloc: Global,
@@ -42,13 +43,17 @@ fn run_to_history<R: Threads + Wait + Sync, X: Reactor + Send, H: CompletionHand
     ensures counts { IfErr result (λ back. X.faults back ≡ X.faults reactor) }
 {
     scripts_are_well_formed(script);
+    // The rack has a number for each act.
+    prove!(script.acts() <= rack.count());
     let Ok(broken) = broken_history(alloc) else {
         return Err(reactor);
     };
     match run_script(rt, alloc, kind, script, reactor, rack) {
         Ok(ran) => {
             ran.0.holds_events();
-            rack.discard_rest();
+            let uninitiated = rack.let_go();
+            let rest = rack.discard_rest();
+            rack.note(uninitiated + rest);
             Ok(ran)
         }
         Err((SetupFault::Failed, reactor)) => {

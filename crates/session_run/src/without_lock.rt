@@ -1,6 +1,7 @@
 //! A script on the io_context without a lock.
-ghost use Rattle.std.specs.Prelude.{◌≡◌, ◌≤◌, false, length, IfErr, IfOk, OnErr, OnOk};
+ghost use Rattle.std.specs.Prelude.{◌≡◌, ◌≤◌, ◌^◌, false, length, IfErr, IfOk, OnErr, OnOk};
 ghost use Rattle.execution_laws.specs.Finished.{IsFinished};
+ghost use Rattle.execution_laws.specs.LetGo.{let_go_marks};
 ghost use Rattle.execution_laws.specs.Setup.{IsRefused, TakesHandlers};
 ghost use Rattle.history_merge.specs.Room.{most_merged};
 ghost use Rattle.lane_logs.specs.Logs.{session_layout};
@@ -48,7 +49,7 @@ fn run_lanes<
     script: &'a Script,
     reactor: X,
     rack: &mut Rack<H>,
-) -> Result<(History, X), (SetupFault, X)>
+) -> Result<(History, X, u128), (SetupFault, X)>
     requires names { N.names ≡ names_of H.marks script.now (tells (X.told reactor)) rack.old }
     requires faults { N.faults ≡ X.faults reactor }
     requires clock { room.parts ≡ N.clock }
@@ -63,6 +64,9 @@ fn run_lanes<
         (X.state back.1) (X.told back.1) back.0) }
     ensures ended { IfOk result (λ ran. IsFinished N.names.script N.names.told N.names.run N.names.drop
         false N.faults (X.faults ran.1) ran.0.events (X.state ran.1) (X.told ran.1)) }
+    ensures let_go { IfOk result (λ ran.
+        ran.2 ≡ let_go_marks N.names.script N.names.told N.names.drop ran.0.events) }
+    ensures few { IfOk result (λ ran. ran.2 ≤ 2 ^ 96) }
 {
     // The rack has a number for each act.
     prove!(script.acts() <= rack.count());
@@ -79,7 +83,8 @@ fn run_lanes<
     context.opening(&mut workers);
     run_lane_rounds(rt, script, &mut context, &mut workers);
     let (logs, reactor) = context.finish(workers);
-    Ok((merge::<N>(&logs, script, history), reactor))
+    let let_go = logs.let_go();
+    Ok((merge::<N>(&logs, script, history), reactor, let_go))
 }
 
 /// Runs a script on the io_context without a lock. Takes all memory first.
@@ -93,7 +98,7 @@ pub(crate) fn run_unlocked<
     script: &Script,
     reactor: X,
     rack: &mut Rack<H>,
-) -> Result<(History, X), (SetupFault, X)>
+) -> Result<(History, X, u128), (SetupFault, X)>
     requires whole { IsWholeRack rack.old }
     requires count { length (handlers_in rack.old) ≡ most_acts }
     ensures taken { OnOk result (TakesHandlers script.now rack.old rack.new) }
@@ -103,6 +108,9 @@ pub(crate) fn run_unlocked<
     ensures ended { IfOk result (λ ran. IsFinished script.now (tells (X.told reactor))
         (rack_run_mark H.marks rack.old) (drop_mark H.marks rack.old) false (X.faults reactor)
         (X.faults ran.1) ran.0.events (X.state ran.1) (X.told ran.1)) }
+    ensures let_go { IfOk result (λ ran. ran.2 ≡ let_go_marks script.now (tells (X.told reactor))
+        (drop_mark H.marks rack.old) ran.0.events) }
+    ensures few { IfOk result (λ ran. ran.2 ≤ 2 ^ 96) }
 {
     let Ok(map) = LaneMap::make(alloc, script) else {
         return Err((SetupFault::NoMemory, reactor));

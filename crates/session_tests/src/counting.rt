@@ -1,4 +1,4 @@
-//! Handlers that count their executions, and that may wait for another one.
+//! Handlers that count how they are spent, and that may wait for another one.
 
 ghost use Rattle.std.specs.Prelude.{◌≡◌, length};
 ghost use Rattle.op_handlers.specs.Rack.{IsWholeRack, handlers_in};
@@ -12,10 +12,12 @@ use std::alloc::Global;
 use std::process::Abort;
 use std::sync::atomic::{AtomicU64, Ordering};
 
-/// How many handlers were executed, and how many of them saw that a second one was.
+/// How many handlers were executed, how many of them saw that a second one was, and how many were
+/// discarded.
 #[derive(Drop)]
 pub(crate) struct Executions {
     count: AtomicU64,
+    discards: AtomicU64,
     met: AtomicU64,
     /// How often each looks for a second one.
     looks: u32,
@@ -31,6 +33,7 @@ impl Executions {
     pub(crate) fn with_looks(looks: u32) -> Executions {
         Executions {
             count: AtomicU64::new(0),
+            discards: AtomicU64::new(0),
             met: AtomicU64::new(0),
             looks,
         }
@@ -39,6 +42,11 @@ impl Executions {
     /// How many were so far.
     pub(crate) fn count(&self) -> u64 {
         self.count.load(Ordering::SeqCst)
+    }
+
+    /// How many were discarded so far.
+    pub(crate) fn discards(&self) -> u64 {
+        self.discards.load(Ordering::SeqCst)
     }
 
     /// How many saw a second one.
@@ -78,10 +86,8 @@ impl<'a> CompletionHandler for Counting<'a> {
     }
 
     fn discard(self) -> u64 {
-        let Counting {
-            number,
-            executions: _,
-        } = self;
+        let Counting { number, executions } = self;
+        executions.discards.fetch_add(1, Ordering::SeqCst);
         number
     }
 }

@@ -27,6 +27,8 @@ mod silent;
 #[cfg(test)]
 mod sockets;
 #[cfg(test)]
+mod spent;
+#[cfg(test)]
 mod texts;
 #[cfg(test)]
 mod threads;

@@ -281,7 +281,8 @@ impl<'a, H: CompletionHandler> Hands<'a, H> {
     /// Discards the handlers that are left, in rising number, and executes none. Answers the sum of
     /// the drop marks, which discarding alone tells.
     pub fn discard_all(self) -> u128
-        ensures { result ≡ drop_marks H.marks self.entry.handlers }
+        ensures marks { result ≡ drop_marks H.marks self.entry.handlers }
+        ensures few { result ≤ 2 ^ 96 }
     {
         let Hands {
             script: _,

@@ -14,6 +14,11 @@ abbrev pub IsFilled : Option (List ℕ) → ℕ → List ℕ → Option (List �
 IsFilled told len buf now =
     MatchOption told ⊤ (λ before. (len ≤ length before) × (take len buf ≡ take len before) × (now ≡ Some (drop len before)))
 
+-- nothing was read yet
+pub filled_none : (told : Option (List ℕ)) (buf : List ℕ) → IsFilled told 0 buf told
+filled_none None buf = tt
+filled_none (Some before) buf = (omega arith, refl, refl)
+
 take-add : (a n : ℕ) (xs : List ℕ) → take (a + n) xs ≡ take a xs ++ take n (drop a xs)
 take-add zero n xs = ap (λ k. take k xs) (zero-add n)
 take-add (suc a) n [] = simp (take-nil, drop-nil) refl

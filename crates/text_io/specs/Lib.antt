@@ -3,3 +3,4 @@ pub mod Counts
 pub mod Note
 pub mod Seen
 pub mod Text
+pub mod Turns

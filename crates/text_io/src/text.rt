@@ -1,7 +1,8 @@
-ghost use Rattle.std.specs.Prelude.{◌≡◌, ◌≤◌, length, take, Err, IfOk, vec_len};
+ghost use Rattle.std.specs.Prelude.{◌≡◌, ◌≤◌, length, take, Err, IfOk, OnErr, vec_len};
 ghost use Rattle.asio_types.specs.Faults.{CountsFaults};
 ghost use Rattle.text_io.specs.Counts.{CountsFailures};
 ghost use Rattle.text_io.specs.Text.{ReadsText, TakesSome};
+ghost use Rattle.text_io.specs.Turns.{HasBrokenOff, HasReadOn};
 
 use crate::unfinished::Unfinished;
 use asio_types::{Failed, Source};
@@ -13,6 +14,10 @@ fn fill<S: Source>(source: &mut S, buf: &mut [u8]) -> Result<usize, Failed>
     ensures bound { IfOk result (λ n. n ≤ length buf.new) }
     ensures text { IfOk result
         (λ n. ReadsText (length buf.old) (S.left source.old) (take n buf.new) (S.left source.new)) }
+    ensures turns { IfOk result
+        (λ n. HasReadOn S.left S.faults (length buf.old) n source.old source.new) }
+    ensures failed { OnErr result
+        (HasBrokenOff S.left S.faults (length buf.old) source.old source.new) }
     ensures some { TakesSome (length buf.old) (S.left source.old) (S.left source.new) }
     ensures counts { CountsFaults result (S.faults source.old) (S.faults source.new) }
 {
@@ -28,7 +33,8 @@ fn fill<S: Source>(source: &mut S, buf: &mut [u8]) -> Result<usize, Failed>
 }
 
 /// Reads the source to its end, but no more than so many bytes. Takes room for them all first:
-/// where memory runs out, nothing was read. After a failure some of the first bytes are gone.
+/// where memory runs out, nothing was read. After a failure some of the first bytes are gone. Each
+/// time that the source is asked it gives at least one byte, save the last time.
 pub fn read_text<S: Source>(
     alloc: Global,
     source: &mut S,
@@ -37,6 +43,10 @@ pub fn read_text<S: Source>(
     ensures text { IfOk result
         (λ text. ReadsText most (S.left source.old) text.items (S.left source.new)) }
     ensures bound { IfOk result (λ text. vec_len text ≤ most) }
+    ensures turns { IfOk result
+        (λ text. HasReadOn S.left S.faults most (vec_len text) source.old source.new) }
+    ensures failed { result ≡ Err Unfinished.Failed →
+        HasBrokenOff S.left S.faults most source.old source.new }
     ensures some { TakesSome most (S.left source.old) (S.left source.new) }
     ensures unread { result ≡ Err Unfinished.NoMemory → source.new ≡ source.old }
     ensures counts { CountsFailures result (S.faults source.old) (S.faults source.new) }

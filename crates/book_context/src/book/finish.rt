@@ -1,5 +1,6 @@
-ghost use Rattle.std.specs.Prelude.{◌≡◌, ◌<◌, ◌+◌, length};
+ghost use Rattle.std.specs.Prelude.{◌≡◌, ◌<◌, ◌≤◌, ◌+◌, ◌^◌, length};
 ghost use Rattle.execution_laws.specs.Finished.{IsFinished};
+ghost use Rattle.execution_laws.specs.LetGo.{let_go_marks};
 ghost use Rattle.book_context.specs.BookSteps.{IsBookOver};
 ghost use Rattle.book_context.specs.Finish.{GoesOnByDrops, IsEnding};
 ghost use Rattle.book_context.specs.InTurn.{KeepsFaults};
@@ -72,6 +73,20 @@ impl<'a, X: Reactor, H: CompletionHandler, N: Session> Book<'a, X, H, N> {
         ensures ended { IsFinished N.script N.told N.run N.drop N.outside N.faults
             (X.faults result.1) result.0.events (X.state result.1) (X.told result.1) }
     {
+        let (history, reactor, _) = self.finish_telling();
+        (history, reactor)
+    }
+
+    /// The same, and the sum of the drop marks of the handlers whose operations were never accepted,
+    /// which discarding alone tells.
+    pub fn finish_telling(self) -> (History, X, u128)
+        requires over { IsBookOver N.script self.recording }
+        ensures begins { GoesOnByDrops self.entry.recording.events result.0.events }
+        ensures ended { IsFinished N.script N.told N.run N.drop N.outside N.faults
+            (X.faults result.1) result.0.events (X.state result.1) (X.told result.1) }
+        ensures let_go { result.2 ≡ let_go_marks N.script N.told N.drop result.0.events }
+        ensures few { result.2 ≤ 2 ^ 96 }
+    {
         drops_are_recorded();
         let Book {
             mut record,
@@ -80,7 +95,7 @@ impl<'a, X: Reactor, H: CompletionHandler, N: Session> Book<'a, X, H, N> {
             names: _,
         } = self;
         let left = discard_unspent::<H, N>(&mut record, hands);
-        left.discard_all();
-        (record.into_history(), proactor.into_reactor())
+        let let_go = left.discard_all();
+        (record.into_history(), proactor.into_reactor(), let_go)
     }
 }

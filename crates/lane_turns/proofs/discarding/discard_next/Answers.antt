@@ -5,7 +5,7 @@ use Rattle.session_script.specs.WellFormed.{HasParent}
 use Rattle.lane_map.specs.LaneNumbers.{home_lane, reactor_lane}
 use Rattle.lane_logs.specs.Drops.{has_call, is_left}
 use Rattle.lane_logs.specs.LaneLog.{has_begun}
-use Rattle.lane_turns.proofs.DiscardingLemmas.{caller_gone, discarded_noted, discarded_silently, few_noted, left_if, left_not, passed}
+use Rattle.lane_turns.proofs.DiscardingLemmas.{caller_gone, discarded_noted, discarded_silently, few_noted, left_if, left_is_held, left_not, no_mark, passed, told_mark, untouched_left, untouched_no_op}
 use Rattle.lane_turns.proofs.discarding.discard_next.Given.{Over}
 use Rattle.lane_turns.proofs.discarding.discard_next.Goals as goal
 use Rattle.lane_turns.proofs.discarding.discard_next.Goals.{After-home, Else-not-is_left}
@@ -79,3 +79,29 @@ returns-in-Some-clause-so_far g c =
     (home_within g at) c.discard_on-mark.ensures.after c.in-Some.mark c.push_reserved.new.self.items
     (is_left_here g (goal.at.returns-in-Some-clause-so_far g c).Else-not-is_left)
     (sym c.in-Some.is ∙ c.discard_on-mark.ensures.mark) c.push_reserved.ensures.items
+
+op_here : (g : Over) (c : After-home g) → is_op g.N.LaneSession.names.script c.args.op ≡ true
+op_here g c =
+    subst (λ (s : ScriptModel). is_op s c.args.op ≡ true) c.requires.script (sym c.is_op.ensures ∙ c.if-not-is_op.false)
+
+pub returns-then-not-is_op-clause-let_go : goal.returns-then-not-is_op-clause-let_go
+returns-then-not-is_op-clause-let_go g c =
+    no_mark g.N.LaneSession.names c.args.seen.now.events c.args.op
+    (untouched_no_op (is_op g.N.LaneSession.names.script c.args.op) (has_call c.args.op c.args.seen.now.events)
+    (has_begun c.args.op c.args.seen.now.events)
+    (subst (λ (s : ScriptModel). is_op s c.args.op ≡ false) c.requires.script (sym c.is_op.ensures ∙ c.if-not-is_op.true)))
+
+pub returns-then-not-is_left-clause-let_go : goal.returns-then-not-is_left-clause-let_go
+returns-then-not-is_left-clause-let_go g c =
+    let at = (goal.at.returns-then-not-is_left-clause-let_go g c).After-home in
+    c.unbegun_mark.ensures
+    ∙ told_mark g.N.LaneSession.names g.H.CompletionHandler.marks c.args.seen.now.events c.args.op c.args.hands.now
+    c.args.drops.now.items c.requires.so_far c.discard_on-mark.new.hands c.home.result (home_is g at)
+    (home_within g at) c.discard_on-mark.ensures.after c.discard_on-mark.result (op_here g at)
+    (sym c.is_left.ensures ∙ c.if-not-is_left.true) c.discard_on-mark.ensures.mark
+
+pub returns-in-Some-clause-let_go : goal.returns-in-Some-clause-let_go
+returns-in-Some-clause-let_go g c =
+    no_mark g.N.LaneSession.names c.args.seen.now.events c.args.op
+    (untouched_left (is_op g.N.LaneSession.names.script c.args.op) (has_call c.args.op c.args.seen.now.events)
+    (has_begun c.args.op c.args.seen.now.events) (sym c.is_left.ensures ∙ c.if-not-is_left.false))

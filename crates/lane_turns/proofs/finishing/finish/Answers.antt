@@ -6,11 +6,11 @@ use Rattle.lane_clock.specs.Seats.{ClockId, Owns, Remembers}
 use Rattle.lane_map.specs.LaneNumbers.{home_lane, reactor_lane}
 use Rattle.strand_core.specs.Hands.{Held}
 use Rattle.lane_logs.specs.declared.log.LogEntry.{LogEntry}
-use Rattle.lane_logs.specs.Drops.{drops_of}
+use Rattle.lane_logs.specs.Drops.{drops_of, untouched_marks}
 use Rattle.lane_logs.specs.Labels.{events_in}
 use Rattle.lane_logs.specs.Logs.{AreLogs}
 use Rattle.lane_logs.specs.Knowing.{lists_of}
-use Rattle.lane_logs.specs.KeptLogs.{KeptLogs, logs_in}
+use Rattle.lane_logs.specs.KeptLogs.{KeptLogs, LetGo, logs_in}
 use Rattle.lane_logs.specs.AtRest.{RestsFrom}
 use Rattle.lane_logs.specs.SeatNumbers.{opener_seat}
 use Rattle.lane_turns.specs.AtRest.{HasHeardPens}
@@ -133,17 +133,17 @@ returns-clause-logs g c =
       last = c.close_all-entries.result.last;
       entries = map (λ log. log.items) c.close_all-entries.result.entries.items;
       missed = missed;
-      drops = c.discard_left-drops.result.items;
+      drops = c.discard_left-drops.result.drops.items;
     }))
     (sym c.part_all-pens.ensures.missed)
     (are_logs g.N.LaneSession.names g.N.LaneSession.clock (lanes_in c.args.ending.batons.items c.reactor.inside.lane)
     c.args.ending.workers.items (left_of g first) c.args.ending.opener
     (map (λ log. log.items) c.close_all-entries.result.entries.items) c.close_all-entries.result.known
-    c.close_all-entries.result.last (shut_of g at) c.discard_left-drops.result.items
+    c.close_all-entries.result.last (shut_of g at) c.discard_left-drops.result.drops.items
     (ap (λ (clock : ClockId). clock.plan) (sym c.requires.clock) ∙ c.requires.plan)
     c.requires.cuts
     c.requires.over
-    (c.discard_left-drops.ensures
+    (c.discard_left-drops.ensures.drops
     ∙ ap (λ logs. drops_of g.N.LaneSession.names (flat_map events_in (map (λ log. log.items) logs)))
     c.as_slice.ensures.value)))
 
@@ -231,3 +231,17 @@ returns-clause-resting g c =
     c.args.ending.workers.items (left_of g first) c.args.ending.opener
     (map (λ log. log.items) c.close_all-entries.result.entries.items) c.close_all-entries.result.known
     c.close_all-entries.result.last (shut_of g at))
+
+pub returns-clause-let_go : goal.returns-clause-let_go
+returns-clause-let_go g c =
+    subst (λ (kept : KeptLogs). LetGo g.N.LaneSession.names kept)
+    (sym c.of-logs.ensures)
+    record {
+      is =
+          c.discard_left-drops.ensures.let_go
+          ∙ ap (λ logs.
+          untouched_marks g.N.LaneSession.names (flat_map events_in (map (λ log. log.items) logs))
+          (length g.N.LaneSession.names.script.acts))
+          c.as_slice.ensures.value;
+      few = c.discard_left-drops.ensures.few;
+    }

@@ -12,7 +12,7 @@ use Rattle.lane_turns.proofs.AllWorkersLemmas.{images_size}
 use Rattle.lane_turns.proofs.ContextEndLemmas.{kept_of}
 use Rattle.lane_turns.proofs.KeptStepsLemmas.{steps_of}
 use Rattle.session_run.proofs.LaneWorkerLemmas.{none_stopped}
-use Rattle.session_run.proofs.MergedLemmas.{finished, holds_named}
+use Rattle.session_run.proofs.MergedLemmas.{finished, holds_named, let_go_is}
 use Rattle.op_future.specs.Gathering.{AreEndsBy}
 use Rattle.op_future.proofs.EndLemmas.{are_ends}
 use Rattle.op_future.proofs.HaveGotLemmas.{have_got}
@@ -83,3 +83,12 @@ returns-clause-ended g c =
     (absent_at_rest c.unfound_at_rest_are_absent.ensures g.N.LaneSession.names logs c.merge-history.result.events
     c.gather_all-tasks.new.rest well c.finish-logs.ensures.logs c.merge-history.ensures.merging c.finish-logs.ensures.rest
     (c.finish-logs.ensures.remembers (opener_seat script)))
+
+pub returns-clause-let_go : goal.returns-clause-let_go
+returns-clause-let_go g c =
+    c.let_go-let_go.ensures
+    ∙ let_go_is g.N.LaneSession.names c.finish-logs.result.0 c.merge-history.result.events c.merge-history.ensures.legal
+    c.finish-logs.ensures.let_go
+
+pub returns-clause-few : goal.returns-clause-few
+returns-clause-few g c = omega (arith, c.let_go-let_go.ensures, c.finish-logs.ensures.let_go.few)

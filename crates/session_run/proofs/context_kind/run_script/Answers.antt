@@ -1,18 +1,19 @@
+use Rattle.std.proofs.Common.{◌∙◌, ap, length}
+use Rattle.std.specs.Option.{option_flatten}
+use Rattle.std.specs.Prelude.{slice_get}
+use Rattle.history_laws.proofs.PromiseLemmas.{keeps}
 use Rattle.proactor_core.specs.Proactor.{tells}
-use Rattle.session_run.specs.RackMarks.{drop_mark, rack_run_mark}
-use Rattle.session_run.proofs.RunLemmas.{promised}
 use Rattle.session_run.proofs.context_kind.run_script.Goals as goal
 
-pub returns-in-Hinted-2-clause-promise : goal.returns-in-Hinted-2-clause-promise
-returns-in-Hinted-2-clause-promise g c =
-    promised c.args.script.now (tells (g.X.Reactor.told c.args.reactor))
-    (rack_run_mark g.H.CompletionHandler.marks c.args.rack.now) (drop_mark g.H.CompletionHandler.marks c.args.rack.now)
-    (g.X.Reactor.faults c.args.reactor) (λ ran. g.X.Reactor.faults ran.1) (λ ran. ran.0.events) (λ ran. g.X.Reactor.state ran.1)
-    (λ ran. g.X.Reactor.told ran.1) c.run_unlocked.result c.scripts_are_well_formed.ensures c.run_unlocked.ensures.ended
+pub returns-in-Ok-clause-taken : goal.returns-in-Ok-clause-taken
+returns-in-Ok-clause-taken g c =
+    record {
+      left = λ n.
+          ap (λ hs. option_flatten (slice_get hs n)) c.note.ensures.handlers ∙ c.in-Ok.ensures.taken.left n;
+      count = ap length c.note.ensures.handlers ∙ c.in-Ok.ensures.taken.count;
+    }
 
-pub returns-clause-promise : goal.returns-clause-promise
-returns-clause-promise g c =
-    promised c.args.script.now (tells (g.X.Reactor.told c.args.reactor))
-    (rack_run_mark g.H.CompletionHandler.marks c.args.rack.now) (drop_mark g.H.CompletionHandler.marks c.args.rack.now)
-    (g.X.Reactor.faults c.args.reactor) (λ ran. g.X.Reactor.faults ran.1) (λ ran. ran.0.events) (λ ran. g.X.Reactor.state ran.1)
-    (λ ran. g.X.Reactor.told ran.1) c.run_locked.result c.scripts_are_well_formed.ensures c.run_locked.ensures.ended
+pub returns-in-Ok-clause-promise : goal.returns-in-Ok-clause-promise
+returns-in-Ok-clause-promise g c =
+    keeps c.args.script.now (tells (g.X.Reactor.told c.args.reactor)) c.in-Ok.history.events
+    c.scripts_are_well_formed.ensures c.in-Ok.ensures.ended.legal

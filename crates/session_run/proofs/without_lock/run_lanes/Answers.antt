@@ -1,7 +1,7 @@
 use Rattle.std.proofs.Common.{◌∙◌, arith}
 use Rattle.lane_logs.specs.KeptLogs.{logs_in}
 use Rattle.session_run.proofs.LaneWorkerLemmas.{fresh_unfaulted, none_faulted, none_stopped}
-use Rattle.session_run.proofs.MergedLemmas.{finished, holds_named}
+use Rattle.session_run.proofs.MergedLemmas.{finished, holds_named, let_go_is}
 use Rattle.session_run.proofs.without_lock.run_lanes.Goals as goal
 
 pub make-made-requires-clause-marks : goal.make-made-requires-clause-marks
@@ -23,3 +23,12 @@ returns-clause-ended g c =
     c.finish-logs.ensures.worker_logs)
     g.N.LaneSession.faults (g.X.Reactor.faults c.finish-logs.result.1) (g.X.Reactor.state c.finish-logs.result.1)
     (g.X.Reactor.told c.finish-logs.result.1) c.finish-logs.ensures.reactor
+
+pub returns-clause-let_go : goal.returns-clause-let_go
+returns-clause-let_go g c =
+    c.let_go-let_go.ensures
+    ∙ let_go_is g.N.LaneSession.names c.finish-logs.result.0 c.merge.result.events c.merge.ensures.legal
+    c.finish-logs.ensures.let_go
+
+pub returns-clause-few : goal.returns-clause-few
+returns-clause-few g c = omega (arith, c.let_go-let_go.ensures, c.finish-logs.ensures.let_go.few)

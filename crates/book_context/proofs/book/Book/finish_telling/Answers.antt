@@ -1,11 +1,13 @@
-use Rattle.std.proofs.Common.{◌≡◌, ◌∙◌, ap, rules, sym, subst}
+use Rattle.std.proofs.Common.{◌≡◌, ◌∙◌, ap, arith, length, List, rules, sym, subst}
 use Rattle.history_rules.specs.FromOutside.{has_outside_stop}
 use Rattle.book_context.specs.Book.{BookView}
 use Rattle.book_context.specs.BookSteps.{IsBookOver}
 use Rattle.book_context.specs.Finish.{GoesOnByDrops}
-use Rattle.book_context.proofs.FinishLemmas.{no_stop}
+use Rattle.execution_laws.specs.LetGo.{let_go_marks}
+use Rattle.session_script.specs.Script.{ScriptModel}
+use Rattle.book_context.proofs.FinishLemmas.{all_let_go, no_stop}
 use Rattle.book_context.proofs.FinishOverLemmas.{begin_ending, over_legal, rose_at_end, sent_at_end, stood_at_end}
-use Rattle.book_context.proofs.book.Book.finish.Goals as goal
+use Rattle.book_context.proofs.book.Book.finish_telling.Goals as goal
 
 pub discard_unspent-left-requires : goal.discard_unspent-left-requires
 discard_unspent-left-requires g c = record {
@@ -49,3 +51,17 @@ returns-clause-begins g c =
     (sym (ap (λ h. h.events) c.into_history.ensures))
     (subst (λ (v : BookView g.row.X.Denot). GoesOnByDrops v.recording.events c.discard_unspent-left.new.recording.events)
     c.self.view_is c.discard_unspent-left.ensures.goes_on)
+
+pub returns-clause-let_go : goal.returns-clause-let_go
+returns-clause-let_go g c =
+    let discarded = c.discard_unspent-left.ensures in
+    let history = c.self.invariant.history in
+    let left = c.discard_unspent-left.new.recording in
+    let N = g.N.Session in
+    let same : c.into_history.result.events ≡ left.events = ap (λ h. h.events) c.into_history.ensures in
+    let size = ap (λ (s : ScriptModel). length s.acts) discarded.ending.dropping.script in
+    let kept = ap (λ (s : ScriptModel). length s.acts) discarded.script in
+    c.discard_all-let_go.ensures.marks
+    ∙ (all_let_go _ discarded.ending (omega (arith, size, kept))
+    ∙ (ap (λ (s : ScriptModel). let_go_marks s N.told N.drop left.events) (discarded.script ∙ history.is_script)
+    ∙ ap (λ (events : List _). let_go_marks N.script N.told N.drop events) (sym same)))

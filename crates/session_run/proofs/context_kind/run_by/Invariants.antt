@@ -1,7 +1,7 @@
 use Rattle.std.proofs.Common.{false}
 use Rattle.proactor_core.specs.Proactor.{tells}
 use Rattle.session_run.specs.RackMarks.{drop_mark, rack_run_mark}
-use Rattle.session_run.proofs.context_kind.run_script.Given as goal
+use Rattle.session_run.proofs.context_kind.run_by.Given as goal
 
 abbrev pub ghosts-run_locked : goal.ghosts-run_locked
 ghosts-run_locked g a =
