@@ -64,14 +64,14 @@ said_of given verdict.Incomplete judged = (
 )
 
 -- what holds of the input that was read, where the source told this one
-input_of : (source : Seen (List ℕ)) (Q : List ℕ → Type 0) (input : List ℕ) → source.told_before ≡ Some input →
+pub input_of : (source : Seen (List ℕ)) (Q : List ℕ → Type 0) (input : List ℕ) → source.told_before ≡ Some input →
     length input ≤ most_input → ReadsInput source Q → Q input
 input_of source Q input told few (text, read, holds) =
     subst Q
     (text_of most_input_read source.told_before text source.told_after input told (omega (arith, few)) read) holds
 
 -- an input asks one question
-one_question : (input : List ℕ) (script script' : ScriptModel) (events events' : List Event) →
+pub one_question : (input : List ℕ) (script script' : ScriptModel) (events events' : List Event) →
     IsQuestionOf input script events → IsQuestionOf input script' events' → (script ≡ script') × (events ≡ events')
 one_question input script script' events events' asks asks' =
     let same =
@@ -84,7 +84,7 @@ one_question input script script' events events' asks asks' =
     )
 
 -- what asks something has no fault
-not_faulty : (input : List ℕ) (script : ScriptModel) (events : List Event) (refusal : Refusal) →
+pub not_faulty : (input : List ℕ) (script : ScriptModel) (events : List Event) (refusal : Refusal) →
     IsQuestionOf input script events → HasScriptFault input refusal → ⊥
 not_faulty input script events refusal asks faulty =
     let same =
@@ -92,7 +92,7 @@ not_faulty input script events refusal asks faulty =
     no_fault faulty.script_text script refusal (subst (λ text. IsScript text script) same.0 asks.is_script) faulty.fault
 
 -- and a trace
-not_traceless : (input : List ℕ) (script : ScriptModel) (events : List Event) (line : ℕ) →
+pub not_traceless : (input : List ℕ) (script : ScriptModel) (events : List Event) (line : ℕ) →
     IsQuestionOf input script events → HasNoTrace input line → ⊥
 not_traceless input script events line asks (inl (same, inl long)) = absurd (omega (arith, long, asks.has.few))
 not_traceless input script events line asks (inl (same, inr none)) =
@@ -138,7 +138,7 @@ complete given status.WriteFault note said input script events calm =
     absurd (stood given.out.faults_before given.out.faults_after calm.write said.0.written.1)
 
 -- what has a fault has no bad trace
-faulty_not_bad : (input : List ℕ) (refusal : Refusal) (line : ℕ) → HasScriptFault input refusal →
+pub faulty_not_bad : (input : List ℕ) (refusal : Refusal) (line : ℕ) → HasScriptFault input refusal →
     HasNoTrace input line → ⊥
 faulty_not_bad input refusal line faulty (inl (same, inl long)) = absurd (omega (arith, long, faulty.has.few))
 faulty_not_bad input refusal line faulty (inl (same, inr none)) =
@@ -162,7 +162,7 @@ whole_of input script_text trace_text has =
     subst (λ text. HasParts text script_text trace_text) (take_all most_input_read input (omega (arith, few))) has
 
 -- where an input has no trace, no question was read
-bad_not_asked : (source : Seen (List ℕ)) (input : List ℕ) (line : ℕ) (script : ScriptModel) (events : List Event) →
+pub bad_not_asked : (source : Seen (List ℕ)) (input : List ℕ) (line : ℕ) (script : ScriptModel) (events : List Event) →
     source.told_before ≡ Some input → HasNoTrace input line →
     ReadsInput source (λ text. IsQuestionOf text script events) → ⊥
 bad_not_asked source input line script events told bad (text, read, asks) =
@@ -180,7 +180,7 @@ bad_not_asked source input line script events told bad (text, read, asks) =
     }) bad
 
 -- nor a fault of its script
-bad_not_faulty : (source : Seen (List ℕ)) (input : List ℕ) (line : ℕ) (refusal : Refusal) →
+pub bad_not_faulty : (source : Seen (List ℕ)) (input : List ℕ) (line : ℕ) (refusal : Refusal) →
     source.told_before ≡ Some input → HasNoTrace input line →
     ReadsInput source (λ text. HasScriptFault text refusal) → ⊥
 bad_not_faulty source input line refusal told bad (text, read, faulty) =
@@ -210,7 +210,7 @@ found_bad given status.Refused note (refusal, words, text, same) input line form
     absurd (bad_not_faulty given.source input line refusal told bad text)
 
 -- an input whose script has a fault gives no question
-faulty_not_asked : (source : Seen (List ℕ)) (input : List ℕ) (refusal : Refusal) (script : ScriptModel)
+pub faulty_not_asked : (source : Seen (List ℕ)) (input : List ℕ) (refusal : Refusal) (script : ScriptModel)
     (events : List Event) → source.told_before ≡ Some input → HasScriptFault input refusal →
     ReadsInput source (λ text. IsQuestionOf text script events) → ⊥
 faulty_not_asked source input refusal script events told faulty read =

@@ -1,7 +1,8 @@
 -- What each status says of a session.
-use Rattle.std.specs.Prelude.{ℕ, List}
+use Rattle.std.specs.Prelude.{◌≡◌, ℕ, Bool, List}
 use Rattle.asio_types.specs.Faults.{Rose}
 use Rattle.asio_types.specs.declared.event.Event.{Event}
+use Rattle.history_rules.specs.Legal.{IsLegal}
 use Rattle.session_script.specs.Script.{ScriptModel}
 use Rattle.session_script.specs.declared.refusal.Refusal.{Refusal}
 use Rattle.text_io.specs.Seen.{Seen, Writes}
@@ -64,3 +65,20 @@ ShowSays given status.BadTrace =
     (line : ℕ) × HasShowForm given.words
     × ReadsInput given.source (λ input. HasNoTrace input line)
 ShowSays given status.Illegal = Shown given (λ said. SaysLegal said → ⊥)
+
+-- status 0 comes for a legal history alone, and status 8 for another one alone
+pub record DecidesShown (answer : CheckStatus) (script : ScriptModel) (told : Bool)
+    (events : List Event) : Type 0 where
+  pub legal : answer ≡ status.Done → IsLegal script told events
+  pub illegal : answer ≡ status.Illegal → IsLegal script told events → ⊥
+
+-- the statuses with which nothing was written; for want of memory a part of a picture may stand
+abbrev pub ShowsNothing : CheckStatus → Type 0
+ShowsNothing status.Done = ⊥
+ShowsNothing status.Usage = Unit {0}
+ShowsNothing status.Refused = Unit {0}
+ShowsNothing status.ReadFault = Unit {0}
+ShowsNothing status.WriteFault = ⊥
+ShowsNothing status.NoMemory = ⊥
+ShowsNothing status.BadTrace = Unit {0}
+ShowsNothing status.Illegal = ⊥

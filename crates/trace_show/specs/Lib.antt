@@ -1,4 +1,5 @@
 pub mod Answer
+pub mod Earlier
 pub mod Reason
 pub mod RuleLine
 pub mod ShowForm

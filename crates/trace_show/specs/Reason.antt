@@ -18,6 +18,7 @@ use Rattle.history_rules.specs.Rounds.{AllQuiet, HasRoundLeft, IsDrained, IsNext
 use Rattle.history_rules.specs.State.{State, phase_at}
 use Rattle.history_rules.specs.Stopping.{MayStart}
 use Rattle.history_rules.specs.Time.{MayBreakOff, next_time, pending_count}
+use Rattle.trace_show.specs.Earlier.{earlier}
 use Rattle.trace_show.specs.declared.reason.Reason.{Reason}
 use Rattle.trace_show.specs.declared.reason.Reason.TheVariants as reason
 
@@ -164,12 +165,14 @@ condition script told s event.Polled r = polled_condition script s r
 condition script told s event.Restart r = restart_condition script s r
 condition script told s (event.Dropped o mark) r = drop_condition script s o r
 
--- something may not be, and the condition of it with this name doesn't hold
-pub record Fails (May : Type 0) (condition_of : Reason → Type 0) (r : Reason) : Type 0 where
+-- something may not be, the condition of it with this name doesn't hold, and those before it do
+pub record Fails (May : Type 0) (condition_of earlier : Reason → Type 0) (r : Reason) : Type 0 where
   pub illegal : May → ⊥
   pub broken : condition_of r → ⊥
+  pub first : earlier r
 
--- the event may not happen in this state, and this is a condition of it that doesn't hold there
+-- the event may not happen in this state, and this is the first condition of it that doesn't hold there
 abbrev pub Breaks : ScriptModel → Bool → State → Event → Reason → Type 0
 Breaks script told s event =
     Fails (MayHappen script told s event) (condition script told s event)
+    (earlier script told s event)

@@ -4,6 +4,7 @@ ghost use Rattle.history_rules.specs.Executions.{MayBeginOutside};
 ghost use Rattle.history_rules.specs.Legal.{MayHappen};
 ghost use Rattle.history_rules.specs.Requests.{MayTurn};
 ghost use Rattle.history_rules.specs.Time.{IsIdle};
+ghost use Rattle.trace_show.specs.Earlier.{begin_earlier, idle_earlier, turn_earlier};
 ghost use Rattle.trace_show.specs.Reason.{Breaks, Fails, begin_condition, idle_condition, turn_condition};
 
 use crate::reason::Reason;
@@ -71,7 +72,8 @@ fn against_outside_stop(replay: &Replay) -> Option<Reason>
 fn against_outside(replay: &Replay, o: OpNo, code: Code, size: u32) -> Option<Reason>
     ensures some { IfSome result (Fails (MayBeginOutside replay.now.script
         replay.now.state.context o code size)
-        (begin_condition replay.now.script replay.now.state o code size)) }
+        (begin_condition replay.now.script replay.now.state o code size)
+        (begin_earlier replay.now.script replay.now.state o code size)) }
     ensures none { IfNone result
         (MayBeginOutside replay.now.script replay.now.state.context o code size) }
 {
@@ -123,7 +125,8 @@ fn against_end(replay: &Replay, o: OpNo, mark: u64) -> Option<Reason>
 /// Why no turn of the reactor may begin.
 fn against_turn(replay: &Replay) -> Option<Reason>
     ensures some { IfSome result (Fails (MayTurn replay.now.script replay.now.state)
-        (turn_condition replay.now.script replay.now.state)) }
+        (turn_condition replay.now.script replay.now.state)
+        (turn_earlier replay.now.script replay.now.state)) }
     ensures none { IfNone result (MayTurn replay.now.script replay.now.state) }
 {
     if !replay.round_is_open() {
@@ -180,7 +183,8 @@ fn against_done(replay: &Replay, o: OpNo, code: Code, size: u32) -> Option<Reaso
 /// Why the context isn't idle.
 fn against_idle(replay: &Replay) -> Option<Reason>
     ensures some { IfSome result (Fails (IsIdle replay.now.script replay.now.state)
-        (idle_condition replay.now.script replay.now.state)) }
+        (idle_condition replay.now.script replay.now.state)
+        (idle_earlier replay.now.script replay.now.state)) }
     ensures none { IfNone result (IsIdle replay.now.script replay.now.state) }
 {
     if let Some(reason) = against_turn(replay) {

@@ -167,7 +167,11 @@ fn explain_ready_before(detail: &mut Detail, at: &Situation, n: ActNo) -> Result
 fn explain_stopped_lane(detail: &mut Detail, at: &Situation, lane: Lane) -> Result<(), NoMemory> {
     at.lane(detail, lane)?;
     detail.words(" may begin nothing more: the context was stopped")?;
-    detail.at_line(" at line ", at.line_of_stop())
+    detail.at_line(" at line ", at.line_of_stop())?;
+    detail.at_line(
+        ", and the lane had its one more turn at line ",
+        at.line_since_stop(lane),
+    )
 }
 
 fn explain_end(detail: &mut Detail, at: &Situation, o: OpNo) -> Result<(), NoMemory> {
@@ -217,11 +221,13 @@ fn explain_done(
                 head.op,
                 " with ",
                 head.outcome,
-            )
+            )?;
+            at.sizes_cut_off(detail, head.op, head.outcome.0)
         }
         (Reason::MayTell, None) => {
             detail.words("it doesn't complete so now, and nothing is due: ")?;
-            at.act(detail, o)
+            at.act(detail, o)?;
+            at.sizes_untold(detail, o)
         }
         (other, _) => explain_context(detail, at, other),
     }
@@ -296,16 +302,35 @@ fn explain_kind_of_round(
         Reason::IsRunning => explain_pace(detail, at, "round ", " is one of `poll`"),
         Reason::IsPolling => explain_pace(detail, at, "round ", " is one of `run`"),
         Reason::HasRestart => explain_pace(detail, at, "round ", " has no `restart`"),
-        Reason::IsOver => explain_pace(detail, at, "the session goes on: round ", " isn't closed"),
+        Reason::IsOver => explain_going_on(detail, at),
         other => explain_quiet(detail, at, other),
     }
 }
 
-fn explain_turn(detail: &mut Detail, at: &Situation) -> Result<(), NoMemory> {
-    if at.replay.round_is_open() {
-        detail.words("a part of this turn was told, and another part is due")
+/// Why the session isn't over.
+fn explain_going_on(detail: &mut Detail, at: &Situation) -> Result<(), NoMemory> {
+    if at.replay.has_failed() {
+        explain_first(
+            detail,
+            at,
+            "the reactor failed, and a handler isn't done: ",
+            Against::Runs,
+        )
     } else {
-        explain_round(detail, at)
+        explain_pace(detail, at, "the session goes on: round ", " isn't closed")
+    }
+}
+
+fn explain_turn(detail: &mut Detail, at: &Situation) -> Result<(), NoMemory> {
+    match at.replay.next_due() {
+        Some(head) if at.replay.round_is_open() => explain_due(
+            detail,
+            "a part of this turn was told, and operation ",
+            head.op,
+            " is due with ",
+            head.outcome,
+        ),
+        _ => explain_round(detail, at),
     }
 }
 
@@ -370,6 +395,14 @@ fn explain_quiet(detail: &mut Detail, at: &Situation, reason: Reason) -> Result<
             detail.words("the context was stopped")?;
             detail.at_line(" at line ", at.line_of_stop())
         }
+        Reason::IsDrained => {
+            let line = at.line_of_event(Event::Last);
+            detail.at_line(
+                "operations of streams are still to complete since `last` at line ",
+                line,
+            )?;
+            explain_first(detail, at, ": ", Against::IsPendingOnStream)
+        }
         other => explain_since(detail, at, other),
     }
 }
@@ -378,10 +411,6 @@ fn explain_quiet(detail: &mut Detail, at: &Situation, reason: Reason) -> Result<
 fn explain_since(detail: &mut Detail, at: &Situation, reason: Reason) -> Result<(), NoMemory> {
     let (event, words) = match reason {
         Reason::IsWorking => (Event::Fault, "the reactor failed at line "),
-        Reason::IsDrained => (
-            Event::Last,
-            "operations of streams are still to complete, since `last` at line ",
-        ),
         Reason::IsRestartedOnce => (Event::Restart, "the `restart` of this round came at line "),
         other => return explain_acts(detail, at, other),
     };

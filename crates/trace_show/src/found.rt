@@ -1,6 +1,7 @@
 use asio_types::{ActNo, OpNo};
 use history_book::Replay;
 use history_rules::{ActPhase, CallPhase, called_at, goes_before, is_back_before};
+use session_script::{Act, Script};
 
 /// What may stand against an event: an act of which this holds.
 #[derive(Clone, Copy)]
@@ -21,6 +22,8 @@ pub(crate) enum Against {
     IsUnspent,
     /// It is outstanding.
     IsOutstanding,
+    /// It is an operation of a stream that was taken and is still to complete.
+    IsPendingOnStream,
 }
 
 /// The first act of which this holds. Looks at each act.
@@ -49,11 +52,30 @@ pub(crate) fn stands_against(replay: &Replay, against: Against, n: ActNo) -> boo
         Against::IsNotQuiet => runs(replay, n) || is_ready(replay, n) || replay.is_untaken(n),
         Against::IsUnspent => is_unspent(replay, n),
         Against::IsOutstanding => is_unspent(replay, n) || replay.is_untaken(n),
+        Against::IsPendingOnStream => is_pending_on_stream(replay, n),
     }
 }
 
 fn runs(replay: &Replay, n: ActNo) -> bool {
     matches!(replay.act(n).phase, ActPhase::Running { .. })
+}
+
+fn is_pending_on_stream(replay: &Replay, n: ActNo) -> bool {
+    matches!(replay.act(n).phase, ActPhase::Requested)
+        && replay.was_taken(n)
+        && is_of_stream(replay.script(), n)
+}
+
+fn is_of_stream(script: &Script, n: ActNo) -> bool {
+    n < script.acts()
+        && matches!(
+            script.act(n),
+            Act::ReadSome { .. }
+                | Act::ReadAll { .. }
+                | Act::Until { .. }
+                | Act::WriteSome { .. }
+                | Act::WriteAll { .. }
+        )
 }
 
 fn is_ready(replay: &Replay, n: ActNo) -> bool {

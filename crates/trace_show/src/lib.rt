@@ -17,6 +17,7 @@ mod reason;
 mod refused;
 mod session;
 mod situation;
+mod sizes;
 mod why;
 
 pub use against::reason_against;

@@ -75,7 +75,8 @@ pub(crate) fn line_of_stop(events: &[Event]) -> Option<u32> {
     line
 }
 
-fn number_of(index: usize) -> Option<u32> {
+/// The number of the event of this place.
+pub(crate) fn number_of(index: usize) -> Option<u32> {
     match u32::try_from(index) {
         Ok(index) => index.checked_add(1),
         Err(_) => None,

@@ -1,13 +1,18 @@
-ghost use Rattle.std.specs.Prelude.{◌≡◌, ◌<◌, ◌^◌, ℕ, IfOk, length, map, string_bytes};
-ghost use Rattle.text_io.specs.Counts.{CountsFailures};
+ghost use Rattle.std.specs.Prelude.{◌≡◌, ◌<◌, ◌^◌, ℕ, List, IfOk, Some, length, map, string_bytes};
+ghost use Rattle.asio_types.specs.declared.event.Event.{Event as Event_of};
+ghost use Rattle.session_script.specs.Script.{ScriptModel};
+ghost use Rattle.session_script.specs.declared.refusal.Refusal.{Refusal as Refusal_of};
+ghost use Rattle.text_io.specs.Counts.{CountsFailures, Stood};
 ghost use Rattle.text_io.specs.Seen.{seen_by};
 ghost use Rattle.text_io.specs.Text.{ReadsText, TakesSome};
-ghost use Rattle.trace_check.specs.Answer.{CheckCountsReads, CheckCountsWrites, CheckGiven};
+ghost use Rattle.trace_check.specs.Answer.{CheckCountsReads, CheckCountsWrites, CheckGiven, IsBad, IsJudged, IsRefused};
 ghost use Rattle.trace_check.specs.Parting.{most_input_read};
+ghost use Rattle.trace_check.specs.Question.{HasNoTrace, HasScriptFault, IsQuestionOf};
 ghost use Rattle.trace_check.specs.Verdict.{IsVerdict};
 ghost use Rattle.trace_check.specs.declared.status.CheckStatus.TheVariants as status;
-ghost use Rattle.trace_show.specs.Answer.{IsWritten, ShowSays, ending_status};
-ghost use Rattle.trace_show.specs.ShowForm.{IsShowForm, show_form_tells};
+ghost use Rattle.trace_show.specs.Answer.{DecidesShown, IsWritten, ShowSays, ShowsNothing, ending_status};
+ghost use Rattle.trace_show.specs.ShowForm.{HasShowForm, IsShowForm, show_form_tells};
+ghost use Rattle.trace_show.specs.declared.form.ShowForm.{ShowForm as ShowForm_of};
 
 use crate::detail::Detail;
 use crate::form::{ShowForm, form_of};
@@ -154,6 +159,7 @@ fn end<S: Source, K: Sink, N: Sink>(
           source = seen_by S.left S.faults source.old source.new;
           out = seen_by K.written K.faults out.old out.new;
         }) (ending_status result) }
+    ensures quiet { ShowsNothing (ending_status result) → out.new ≡ out.old }
     ensures unread { ending_status result ≡ status.Usage → source.new ≡ source.old }
     ensures taken { TakesSome most_input_read (S.left source.old) (S.left source.new) }
     ensures reads { CheckCountsReads (ending_status result)
@@ -185,6 +191,7 @@ fn end_of_input<K: Sink, N: Sink>(
         ReadsText most_input_read given.source.told_before input.now given.source.told_after →
         given.out ≡ seen_by K.written K.faults out.old out.new →
         ShowSays given (ending_status result) }
+    ensures quiet { ShowsNothing (ending_status result) → out.new ≡ out.old }
     ensures used { ending_status result ≡ status.Usage → ⊥ }
     ensures reads { (faults : ℕ) → CheckCountsReads (ending_status result) faults faults }
     ensures writes { CheckCountsWrites (ending_status result)
@@ -239,12 +246,33 @@ pub fn show_session<S: Source, K: Sink, N: Sink>(
           source = seen_by S.left S.faults source.old source.new;
           out = seen_by K.written K.faults out.old out.new;
         }) result }
+    // With these statuses nothing was written.
+    ensures quiet { ShowsNothing result → out.new ≡ out.old }
     ensures unread { result ≡ status.Usage → source.new ≡ source.old }
     ensures taken { TakesSome most_input_read (S.left source.old) (S.left source.new) }
     // Status 3 comes exactly where the source's count of faults rose, and status 4 exactly where
     // out's did.
     ensures reads { CheckCountsReads result (S.faults source.old) (S.faults source.new) }
     ensures writes { CheckCountsWrites result (K.faults out.old) (K.faults out.new) }
+    // A whole input whose reading and writing don't fail is shown, unless memory runs out.
+    ensures complete { (input : List ℕ) (script : ScriptModel) (events : List Event_of) →
+        HasShowForm (map string_bytes words.now) → S.left source.old ≡ Some input →
+        IsQuestionOf input script events → Stood (S.faults source.old) (S.faults source.new) →
+        Stood (K.faults out.old) (K.faults out.new) → IsJudged result }
+    // One whose script has a fault is refused, and one that has no trace is bad, unless memory runs out.
+    ensures refused { (input : List ℕ) (refusal : Refusal_of) →
+        HasShowForm (map string_bytes words.now) → S.left source.old ≡ Some input →
+        HasScriptFault input refusal → Stood (S.faults source.old) (S.faults source.new) →
+        Stood (K.faults out.old) (K.faults out.new) → IsRefused result }
+    ensures bad { (input : List ℕ) (line : ℕ) → HasShowForm (map string_bytes words.now) →
+        S.left source.old ≡ Some input → HasNoTrace input line →
+        Stood (S.faults source.old) (S.faults source.new) →
+        Stood (K.faults out.old) (K.faults out.new) → IsBad result }
+    // A verdict on a whole input is the right one.
+    ensures right { (form : ShowForm_of) (input : List ℕ) (script : ScriptModel)
+        (events : List Event_of) → IsShowForm (map string_bytes words.now) form →
+        S.left source.old ≡ Some input → IsQuestionOf input script events →
+        DecidesShown result script (show_form_tells form) events }
 {
     let ending = end(alloc, words, source, out, notes, on_terminal);
     let _ = write_note(notes, &ending);

@@ -1,6 +1,7 @@
 use crate::detail::{Detail, class_words};
 use crate::found::{Against, first_act};
-use crate::lines::{EventKind, line_about, line_of_event, line_of_stop};
+use crate::lines::{EventKind, line_about, line_of_event, line_of_stop, number_of};
+use crate::sizes::{write_sizes_cut_off, write_sizes_untold};
 use asio_types::{ActNo, Class, Code, Event, Lane, NoMemory, OpNo};
 use history_book::Replay;
 use history_rules::{ActPhase, CallPhase};
@@ -10,6 +11,8 @@ use history_rules::{ActPhase, CallPhase};
 pub(crate) struct Situation<'s, 'r> {
     pub(crate) replay: &'s Replay<'r>,
     pub(crate) before: &'s [Event],
+    /// Whether the reactor tells its bytes.
+    pub(crate) tells: bool,
 }
 
 impl<'s, 'r> Situation<'s, 'r> {
@@ -26,6 +29,70 @@ impl<'s, 'r> Situation<'s, 'r> {
     /// The line that stopped the context.
     pub(crate) fn line_of_stop(&self) -> Option<u32> {
         line_of_stop(self.before)
+    }
+
+    /// The line at which a lane had the one turn that a stop leaves it; none where it has had none since
+    /// the stop.
+    pub(crate) fn line_since_stop(&self, lane: Lane) -> Option<u32> {
+        let mut stopped = false;
+        let mut line = None;
+        for (i, event) in self.before.iter().enumerate() {
+            match event {
+                Event::Restart => {
+                    stopped = false;
+                    line = None;
+                }
+                Event::Stop { .. } => stopped = true,
+                other => {
+                    if stopped && line.is_none() && self.has_turn(lane, i, *other) {
+                        line = number_of(i);
+                    }
+                }
+            }
+        }
+        line
+    }
+
+    /// Whether this event, at this place, is a turn of the lane: what begins inside its call is none.
+    fn has_turn(&self, lane: Lane, place: usize, event: Event) -> bool {
+        match event {
+            Event::Begin { op, .. } => self.replay.lane(op) == lane && self.was_back(op, place),
+            Event::Take { .. } | Event::Tick { .. } | Event::Last => lane == Lane::Reactor,
+            _ => false,
+        }
+    }
+
+    /// Whether the call of an act was back before this place.
+    fn was_back(&self, n: ActNo, place: usize) -> bool {
+        match self.line(EventKind::Back, n) {
+            Some(line) => line as usize <= place,
+            None => false,
+        }
+    }
+
+    /// Which sizes an operation of a stream may complete with where bytes are untold; nothing where they
+    /// are told.
+    pub(crate) fn sizes_untold(&self, detail: &mut Detail, n: OpNo) -> Result<(), NoMemory> {
+        let script = self.replay.script();
+        if self.tells || n >= script.acts() {
+            return Ok(());
+        }
+        write_sizes_untold(detail, script.act(n))
+    }
+
+    /// Which sizes a composed operation that was cut off with this code may complete with, where bytes
+    /// are untold.
+    pub(crate) fn sizes_cut_off(
+        &self,
+        detail: &mut Detail,
+        n: OpNo,
+        code: Code,
+    ) -> Result<(), NoMemory> {
+        let script = self.replay.script();
+        if self.tells || n >= script.acts() || code != Code::Aborted {
+            return Ok(());
+        }
+        write_sizes_cut_off(detail, script.act(n))
     }
 
     /// The first act of which this holds.

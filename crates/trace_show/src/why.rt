@@ -76,6 +76,7 @@ pub fn finding_on(replay: &mut Replay, events: &[Event]) -> Finding
 fn explain_at(
     detail: &mut Detail,
     replay: &Replay,
+    tells: bool,
     events: &[Event],
     number: u32,
     reason: Option<Reason>,
@@ -85,13 +86,19 @@ fn explain_at(
     else {
         return Ok(());
     };
-    explain(detail, &Situation { replay, before }, *event, reason)
+    let at = Situation {
+        replay,
+        before,
+        tells,
+    };
+    explain(detail, &at, *event, reason)
 }
 
 /// What is said beside a finding.
 fn explain_finding(
     detail: &mut Detail,
     replay: &Replay,
+    tells: bool,
     events: &[Event],
     said: Finding,
 ) -> Result<(), NoMemory> {
@@ -102,9 +109,10 @@ fn explain_finding(
             &Situation {
                 replay,
                 before: events,
+                tells,
             },
         ),
-        Verdict::Illegal(number) => explain_at(detail, replay, events, number, said.reason),
+        Verdict::Illegal(number) => explain_at(detail, replay, tells, events, number, said.reason),
     }
 }
 
@@ -112,11 +120,12 @@ fn explain_finding(
 fn details(
     alloc: Global,
     replay: &Replay,
+    tells: bool,
     events: &[Event],
     said: Finding,
 ) -> Result<Detail, NoMemory> {
     let mut detail = Detail::empty(alloc);
-    explain_finding(&mut detail, replay, events, said)?;
+    explain_finding(&mut detail, replay, tells, events, said)?;
     Ok(detail)
 }
 
@@ -153,7 +162,7 @@ fn told_on(alloc: Global, script: &Script, tells: bool, events: &[Event]) -> Res
         return Err(NoMemory);
     };
     let said = finding_on(&mut replay, events);
-    let Ok(detail) = details(alloc, &replay, events, said) else {
+    let Ok(detail) = details(alloc, &replay, tells, events, said) else {
         return Err(NoMemory);
     };
     Ok(Told { said, detail })
