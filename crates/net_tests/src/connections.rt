@@ -172,6 +172,26 @@ fn shows<R: Abort + Net<Listener = net::TcpListener, Stream = net::TcpStream>>(
     Ok(())
 }
 
+/// An end that connects to an address at which nobody listens any more.
+fn refused<R: Net<Listener = net::TcpListener, Stream = net::TcpStream>>(
+    rt: &R,
+) -> io::Result<Connection> {
+    let any = SocketAddr::from((Ipv4Addr::LOCALHOST, 0));
+    let address = net::TcpListener::bind(rt, any)?.local_addr()?;
+    Ok(Connection {
+        near: StreamSocket::of(TcpStream::connect(rt, address)?),
+        far: None,
+    })
+}
+
+/// A failing call is no wait: the read that is told of the refusal fails.
+#[test]
+fn a_refused_connection_fails(rt: HostRuntime) -> io::Result<()> {
+    let mut connection = refused(&rt)?;
+    is_seen(&rt, connection.reads(), Seen::Failed, 0, 0);
+    Ok(())
+}
+
 #[test]
 fn a_connection_ends_is_reset_or_breaks(rt: HostRuntime) -> io::Result<()> {
     for (row, steps) in ROWS.iter().enumerate() {

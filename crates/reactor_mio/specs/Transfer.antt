@@ -1,6 +1,10 @@
 -- What a call on a socket tells of its stream (Asio reference, `basic_stream_socket::read_some`,
 -- `write_some`, and `error::basic_errors`). The system tells a reset once, so it is kept.
-use Rattle.std.specs.Prelude.{ℕ, ◌≤◌, ⊤, Bool, true, false, Result, Ok, Err}
+use Rattle.std.specs.Prelude.{ℕ, zero, suc, ◌≤◌, ⊤, Bool, true, false, Result, Ok, Err}
+use Rattle.std.specs.IoError.{error_kind}
+use Rattle.std.specs.declared.io.Error.{Error}
+use Rattle.std.specs.declared.io.ErrorKind.{ErrorKind}
+use Rattle.std.specs.declared.io.ErrorKind.TheVariants as kind
 use Rattle.asio_types.specs.declared.failure.Failed.{Failed}
 use Rattle.asio_types.specs.declared.outside.Moved.{Moved}
 use Rattle.asio_types.specs.declared.outside.Moved.TheVariants as moved
@@ -11,6 +15,21 @@ use Rattle.reactor_mio.specs.declared.transfer.Transfer.TheVariants as transfer
 abbrev pub IsTransferWithin : ℕ → Transfer → Type 0
 IsTransferWithin most (transfer.Bytes count) = (1 ≤ count) × (count ≤ most)
 IsTransferWithin most _ = ⊤
+
+-- what a call came to that failed so: only what asks to try again, and what the peer did, is told apart
+abbrev pub failed_transfer : ErrorKind → Transfer
+failed_transfer kind.WouldBlock = transfer.WouldBlock
+failed_transfer kind.Interrupted = transfer.Interrupted
+failed_transfer kind.ConnectionReset = transfer.Reset
+failed_transfer kind.BrokenPipe = transfer.BrokenPipe
+failed_transfer kind.NotConnected = transfer.NotConnected
+failed_transfer _ = transfer.Failed
+
+-- what a call came to that gave this
+abbrev pub given_transfer : Result ℕ Error → Transfer
+given_transfer (Ok zero) = transfer.Nothing
+given_transfer (Ok (suc n)) = transfer.Bytes (suc n)
+given_transfer (Err error) = failed_transfer (error_kind error)
 
 -- the end of a stream, or that it was reset
 abbrev pub ended : Bool → Moved

@@ -16,4 +16,4 @@ mod wires;
 
 pub use mio_reactor::MioReactor;
 pub use stream_socket::StreamSocket;
-pub use transfer::{Transfer, moved_of_read, moved_of_write};
+pub use transfer::{Transfer, moved_of_read, moved_of_write, transfer_failed, transfer_of};

@@ -1,5 +1,5 @@
 ghost use Rattle.std.specs.Prelude.{◌≡◌, ◌≤◌, ◌<◌, ◌^◌, IfOk};
-ghost use Rattle.reactor_mio.specs.Transfer.{read_moved, write_moved, IsTransferWithin};
+ghost use Rattle.reactor_mio.specs.Transfer.{read_moved, write_moved, failed_transfer, given_transfer, IsTransferWithin};
 
 use asio_types::{Failed, Moved};
 use std::io;
@@ -27,8 +27,8 @@ pub enum Transfer {
 }
 
 /// What a call came to that failed so.
-pub(crate) fn transfer_failed(kind: ErrorKind) -> Transfer
-    ensures { IsTransferWithin 0 result }
+pub fn transfer_failed(kind: ErrorKind) -> Transfer
+    ensures { result ≡ failed_transfer kind }
 {
     match kind {
         ErrorKind::WouldBlock => Transfer::WouldBlock,
@@ -41,10 +41,11 @@ pub(crate) fn transfer_failed(kind: ErrorKind) -> Transfer
 }
 
 /// What a call came to that was to move so many bytes at most, and gave this.
-pub(crate) fn transfer_of(gave: io::Result<usize>, most: usize) -> Transfer
+pub fn transfer_of(gave: io::Result<usize>, most: usize) -> Transfer
     requires within { IfOk gave (λ count. count ≤ most) }
     requires countable { most < 2 ^ 32 }
-    ensures { IsTransferWithin most result }
+    ensures within { IsTransferWithin most result }
+    ensures told { result ≡ given_transfer gave }
 {
     match gave {
         Ok(0) => Transfer::Nothing,

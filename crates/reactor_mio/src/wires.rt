@@ -1,4 +1,4 @@
-ghost use Rattle.std.specs.Prelude.{◌≡◌, ◌<◌, IfOk, length};
+ghost use Rattle.std.specs.Prelude.{◌≡◌, ◌<◌, IfOk, None, length, slice_set};
 ghost use Rattle.reactor_trait.specs.Reactor.{IsMoveWithin};
 ghost use Rattle.reactor_mio.specs.Wires.{KeepsPlan};
 
@@ -59,8 +59,10 @@ impl Wires {
         }
     }
 
-    /// Drops both ends of a stream.
-    pub(crate) fn close(&mut self, stream: StreamNo) {
+    /// Drops both ends of a stream, which closes their sockets.
+    pub(crate) fn close(&mut self, stream: StreamNo)
+        ensures { self.new.each.items ≡ slice_set self.old.each.items stream None }
+    {
         if let Some(wire) = self.each.get_mut(stream as usize) {
             *wire = None;
         }
