@@ -59,22 +59,22 @@ IsPast phase.Ended = Unit {0}
 IsPast phase.Dropped = Unit {0}
 IsPast _ = ⊥
 
-abbrev AbortsOnly : ℕ → Completion → Type 0
+abbrev pub AbortsOnly : ℕ → Completion → Type 0
 AbortsOnly n done = done.op ≡ n → done.outcome.0 ≡ code.Aborted
 
-abbrev IsOther : ℕ → ℕ → Type 0
+abbrev pub IsOther : ℕ → ℕ → Type 0
 IsOther n op = op ≢ n
 
-abbrev OtherTimed : ScriptModel → ℕ → ℕ → ℕ → Type 0
+abbrev pub OtherTimed : ScriptModel → ℕ → ℕ → ℕ → Type 0
 OtherTimed script n timer op = IsWaitOf script timer op × IsOther n op
 
-abbrev OtherStreamed : ScriptModel → ℕ → ℕ → ℕ → Type 0
+abbrev pub OtherStreamed : ScriptModel → ℕ → ℕ → ℕ → Type 0
 OtherStreamed script n stream op = IsOn script stream op × IsOther n op
 
 -- nothing of it is pending but a completion that aborts it
-record IsAborting (script : ScriptModel) (n : ℕ) (r : ReactorHalf) : Type 0 where
-  held : Holds (OtherTimed script n) (OtherStreamed script n) r
-  due : All (AbortsOnly n) r.due
+pub record IsAborting (script : ScriptModel) (n : ℕ) (r : ReactorHalf) : Type 0 where
+  pub held : Holds (OtherTimed script n) (OtherStreamed script n) r
+  pub due : All (AbortsOnly n) r.due
 
 record IsWaiting (script : ScriptModel) (n : ℕ) (s : State) : Type 0 where
   asks : phase_at s.context n ≡ phase.Requested
@@ -120,7 +120,7 @@ module _ (script : ScriptModel) (n : ℕ) where
   asked_moved e old new (destroys is isnt never) asks = inr (inl tt)
 
 module _ (script : ScriptModel) (told : Bool) (timer n : ℕ) (wait : IsWaitOf script timer n) where
-  other_stream : (stream op : ℕ) → IsOn script stream op → IsOther n op
+  pub other_stream : (stream op : ℕ) → IsOn script stream op → IsOther n op
   other_stream stream op on same = no_wait script stream timer n (subst (IsOn script stream) same on) wait
 
   -- a turn that settles
@@ -200,7 +200,7 @@ module _ (script : ScriptModel) (told : Bool) (timer n : ℕ) (wait : IsWaitOf s
   cancels_aborting a (act.Cancel other) r cancels before kept none = waits_gone other r r cancels before kept none refl refl refl
   cancels_aborting a _ r cancels before kept none = absurd (cc)
 
-  cancel_taken : (a : ℕ) (by : Act) (r : ReactorHalf) (given : Option Act) → given ≡ Some by → cancels_waits timer by ≡ true →
+  pub cancel_taken : (a : ℕ) (by : Act) (r : ReactorHalf) (given : Option Act) → given ≡ Some by → cancels_waits timer by ≡ true →
       (before : List Event) → IsKept script before r → r.due ≡ [] →
       IsAborting script n (settled told (with_taken a (performed_by script a given r)))
   cancel_taken a by r None is cancels before kept none = absurd (cc)
@@ -245,13 +245,13 @@ module _ (script : ScriptModel) (well : IsWellFormed script) (told : Bool) (even
   abbrev s : ℕ → State
   s place = at script well told events legal place
 
-  sound : (place : ℕ) → IsSound script (s place)
+  pub sound : (place : ℕ) → IsSound script (s place)
   sound place = (counted_at script well told events legal place).shown.sound
 
   kept : (place : ℕ) → IsKept script (take place events) (s place).reactor
   kept place = kept_at script well told events legal place
 
-  half_after : (place : ℕ) (e : Event) → MayHappen script told (s place) e → was_taken (s place).reactor n ≡ true →
+  pub half_after : (place : ℕ) (e : Event) → MayHappen script told (s place) e → was_taken (s place).reactor n ≡ true →
       IsAborting script n (s place).reactor → IsAborting script n (after_event script told (s place) e).reactor
   half_after place (event.Take a) may taken half =
       takes_aborting script told timer n wait a (s place).reactor
@@ -277,7 +277,7 @@ module _ (script : ScriptModel) (well : IsWellFormed script) (told : Bool) (even
   half_after place (event.Stop None) may taken half = half
   half_after place _ may taken half = half
 
-  stays_taken : (place : ℕ) (e : Event) → MayHappen script told (s place) e → was_taken (s place).reactor n ≡ true →
+  pub stays_taken : (place : ℕ) (e : Event) → MayHappen script told (s place) e → was_taken (s place).reactor n ≡ true →
       was_taken (after_event script told (s place) e).reactor n ≡ true
   stays_taken place e may taken =
       let rose = taken_after script well told (s place) (sound place) e may n in
@@ -289,7 +289,7 @@ module _ (script : ScriptModel) (well : IsWellFormed script) (told : Bool) (even
       one_true false is = absurd (omega (arith, is))
 
   -- it completes as aborted
-  aborts : (place : ℕ) (given : Code) (size : ℕ) → MayComplete script told (s place) n given size →
+  pub aborts : (place : ℕ) (given : Code) (size : ℕ) → MayComplete script told (s place) n given size →
       IsAborting script n (s place).reactor → given ≡ code.Aborted
   aborts place given size may half = elim may.next [
     | inl next ↦

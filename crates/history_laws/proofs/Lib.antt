@@ -19,6 +19,7 @@ pub mod Moves
 pub mod MovingLemmas
 pub mod NextLemmas
 pub mod OrderLemmas
+pub mod OrderedLemmas
 pub mod PendingLemmas
 pub mod PerformedLemmas
 pub mod PromiseLemmas
@@ -35,3 +36,4 @@ pub mod TakingLemmas
 pub mod TimeLemmas
 pub mod TimerLawLemmas
 pub mod TurnSoundLemmas
+pub mod WaitOrderLemmas

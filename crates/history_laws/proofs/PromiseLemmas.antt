@@ -9,8 +9,9 @@ use Rattle.history_laws.proofs.HeededLemmas.{heeds}
 use Rattle.history_laws.proofs.LawLemmas.{alone, follows, once}
 use Rattle.history_laws.proofs.LengthLemmas.{short}
 use Rattle.history_laws.proofs.OrderLemmas.{in_order}
+use Rattle.history_laws.proofs.OrderedLemmas.{keep_time}
 use Rattle.history_laws.proofs.StopLemmas.{heeded}
-use Rattle.history_laws.proofs.TimerLawLemmas.{aborted, keep_time}
+use Rattle.history_laws.proofs.TimerLawLemmas.{aborted}
 
 pub keeps : (script : ScriptModel) (told : Bool) (events : List Event) → IsWellFormed script →
     IsLegal script told events → KeepsPromise script events

@@ -161,7 +161,7 @@ module _ (script : ScriptModel) (a timer : ℕ) (r : ReactorHalf) (within : time
       unchanged (closed_at stream r) (expiries_if (queues_at r stream).closed r r (shut_at stream r) refl refl)
   expiry_performed _ = (refl, refl)
 
-  expiry_performed_by : (given : Option Act) →
+  pub expiry_performed_by : (given : Option Act) →
       (slice_index_or (performed_by script a given r).expiries timer 0
       ≡ expiry_by timer r.now (slice_index_or r.expiries timer 0) given)
       × (length (performed_by script a given r).expiries ≡ length r.expiries)

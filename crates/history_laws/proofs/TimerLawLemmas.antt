@@ -1,4 +1,4 @@
--- The laws of timers and of cancellation.
+-- Laws of timers and of cancellation.
 use Rattle.std.proofs.Common.{◌≡◌, ◌≢◌, ◌⊎◌, ℕ, ◌+◌, ◌<◌, ◌≤◌, ◌==◌, zero, suc, Bool, true, false, cond, List, [], ◌∷◌, ◌++◌, Option, Some, None, length, take, inl, inr, refl, sym, ap, subst, ◌∙◌, arith}
 use Rattle.std.specs.List.{All, slice_index_or}
 use Rattle.std.specs.Prelude.{slice_get}
@@ -30,7 +30,7 @@ use Rattle.history_rules.specs.declared.phase.CallPhase.TheVariants as call
 use Rattle.history_laws.specs.Cancelled.{WasCancelled}
 use Rattle.history_laws.specs.Clock.{IsWaitOf, expiry_at, time_after, time_at}
 use Rattle.history_laws.specs.Events.{StandsAt}
-use Rattle.history_laws.specs.Timers.{IsAtRest, TimersKeepTime}
+use Rattle.history_laws.specs.Timers.{IsAtRest}
 use Rattle.history_laws.proofs.ClockLemmas.{forward}
 use Rattle.history_laws.proofs.KeptLemmas.{CancelledIn, IsKept, IsRight, first_kept, kept_after}
 use Rattle.history_laws.proofs.LawLemmas.{at, happens, shown_at, stands_before}
@@ -105,7 +105,7 @@ module _ (script : ScriptModel) (well : IsWellFormed script) (told : Bool) (even
       (first_kept script told) (take place events)
       (legal_take script told (first_state script told) events place legal)
 
-  clocked_at : (timer place : ℕ) → timer < script.timers → IsClocked script timer (take place events) (s place).reactor
+  pub clocked_at : (timer place : ℕ) → timer < script.timers → IsClocked script timer (take place events) (s place).reactor
   clocked_at timer place within =
       along script told (λ before s. IsClocked script timer before s.reactor)
       (λ before s e clocked may. clocked_after script told timer before s e clocked may) [] (first_state script told)
@@ -151,14 +151,14 @@ module _ (script : ScriptModel) (well : IsWellFormed script) (told : Bool) (even
         cancels = cancels.1;
       }
 
-  untold_wait : (timer n : ℕ) → IsWaitOf script timer n → (given : Code) (size : ℕ) (r : ReactorHalf) →
+  pub untold_wait : (timer n : ℕ) → IsWaitOf script timer n → (given : Code) (size : ℕ) (r : ReactorHalf) →
       MayGiveUntold r n (act_of script n) given size → ⊥
   untold_wait timer n wait given size r may = subst (λ (found : Option Act). MayGiveUntold r n found given size) wait.act may
 
   pub timer_within : (timer n : ℕ) → IsWaitOf script timer n → timer < script.timers
   timer_within timer n wait = (act_fits script n well (act.Wait timer wait.strand wait.slot wait.filter) wait.act).0
 
-  expired : (n timer place size : ℕ) → IsWaitOf script timer n → StandsAt events place (event.Done n code.Ok size) →
+  pub expired : (n timer place size : ℕ) → IsWaitOf script timer n → StandsAt events place (event.Done n code.Ok size) →
       expiry_at script events timer place ≤ time_at events place
   expired n timer place size wait stands =
       let right = right_at n place code.Ok size stands (untold_wait timer n wait code.Ok size) in
@@ -173,13 +173,13 @@ module _ (script : ScriptModel) (well : IsWellFormed script) (told : Bool) (even
       (λ before s e same may. time_next script told before s e same may) [] (first_state script told) refl (take place events)
       (legal_take script told (first_state script told) events place legal)
 
-  rising : (place now : ℕ) → StandsAt events place (event.Tick now) → time_at events place < now
+  pub rising : (place now : ℕ) → StandsAt events place (event.Tick now) → time_at events place < now
   rising place now stands =
       let may = happens script well told events legal place (event.Tick now) stands in
       let more = forward script told (s place).reactor now may.next in
       omega (arith, more, time_is place)
 
-  rest : (place now : ℕ) → StandsAt events place (event.Tick now) → IsAtRest events place
+  pub rest : (place now : ℕ) → StandsAt events place (event.Tick now) → IsAtRest events place
   rest place now stands =
       let may = happens script well told events legal place (event.Tick now) stands in
       let shown = shown_at script well told events legal place in
@@ -201,6 +201,3 @@ module _ (script : ScriptModel) (well : IsWellFormed script) (told : Bool) (even
           (λ dropped.
           let over = (shown_at script well told events legal place).sound.dropped n dropped in
           absurd (let wrong : true ≡ false = sym over.1 ∙ may.idle.turn.round.alive in cc))
-
-  pub keep_time : TimersKeepTime script events
-  keep_time = record { expired = expired; rising = rising; rest = rest }
