@@ -111,6 +111,25 @@ fn run<R: Env + AllocGlobal + Print + Threads + Wait + Sync>(rt: &R) -> Result<S
     Ok(print_found(rt, sum.load(Ordering::SeqCst), history.events()))
 }
 
+/// Why the program ends with this status, for a reader.
+fn reason(status: Status) -> &'static str {
+    match status {
+        Status::Done => "done",
+        Status::Usage => "usage: prime_count WORKERS",
+        Status::Refused => "WORKERS is a number from 1 to 16",
+        Status::ReadFault => "the script couldn't be read",
+        Status::WriteFault => "the output couldn't be written",
+        Status::ReactorFault => "the reactor failed",
+        Status::NoMemory => "no memory",
+    }
+}
+
 fn main(rt: HostRuntime) -> ExitCode {
-    ExitCode::from(run(&rt).unwrap_or(Status::NoMemory).number())
+    let status = run(&rt).unwrap_or(Status::NoMemory);
+    if status != Status::Done {
+        let reason = reason(status);
+        // Where standard error can't be written, the exit status is all that is said.
+        let _unsaid = eprintln!(rt; "prime_count: {reason}");
+    }
+    ExitCode::from(status.number())
 }
