@@ -1,5 +1,5 @@
 -- The best of the listed histories, one by one, and what it answers.
-use Rattle.std.proofs.Common.{◌≡◌, ◌<◌, ◌≤◌, ◌+◌, ◌⊎◌, inl, inr, ℕ, suc, zero, Bool, true, false, List, [], ◌∷◌, Some, None, length, get_or, map, arith, ap, refl, sym, subst, ◌∙◌}
+use Rattle.std.proofs.Common.{◌≡◌, ◌<◌, ◌≤◌, ◌+◌, inl, inr, ℕ, suc, zero, Bool, true, List, [], ◌∷◌, Some, None, length, get_or, arith, ap, sym, subst, ◌∙◌}
 use Rattle.std.specs.Prelude.{Contains, Option}
 use Rattle.std.proofs.lemmas.Bool.{cases_lt}
 use Rattle.std.proofs.lemmas.List.{get_or_default}
@@ -7,7 +7,7 @@ use Rattle.std.proofs.lemmas.List.Elements.{All-get_or}
 use Rattle.asio_types.specs.declared.event.Event.{Event}
 use Rattle.history_book.specs.History.{Recorded}
 use Rattle.session_script.specs.Script.{ScriptModel}
-use Rattle.order_questions.specs.Answer.{AnswersListed, IsAnswer, IsBest, IsShortest, NoneMeets, order_at}
+use Rattle.order_questions.specs.Answer.{AnswersListed, IsAnswer, IsBest, order_at}
 use Rattle.order_questions.specs.Condition.{Meets}
 use Rattle.session_orders.specs.Listed.{Listed, events_in}
 use Rattle.session_orders.specs.Order.{AreOrders, HasAllOrders, IsOrder}
@@ -23,7 +23,7 @@ order_in (first ∷ histories) zero history below is = ap (λ h. h.events) (sym 
 order_in (first ∷ histories) (suc i) history below is = order_in histories i history (omega (arith, below)) is
 
 -- what holds below a number and at it holds below the next
-one_more_order : (P : ℕ → Type 0) (i : ℕ) → ((other : ℕ) → other < i → P other) → P i → (other : ℕ) → other < i + 1 →
+pub one_more_order : (P : ℕ → Type 0) (i : ℕ) → ((other : ℕ) → other < i → P other) → P i → (other : ℕ) → other < i + 1 →
     P other
 one_more_order P i all here other below =
     elim (cases_lt other i) [

@@ -1,3 +1,4 @@
 pub mod Answer
 pub mod Condition
+pub mod Handlers
 pub mod Sign
