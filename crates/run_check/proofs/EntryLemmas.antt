@@ -79,7 +79,15 @@ entry_after : (level : Level) (past : List Line) → IsLegalSoFar level past
     (option_or (done_in thread place does op) (done_of past op))
     ≡ entered_now (enters does op) thread place (entry_of past op)
 entry_after level past legal caller thread place op (doing.Call number how context strand thing) may =
-    let call : Calling = record { word = how; strand = strand; thing = thing; caller = caller; thread = thread; place = place } in
+    let call : Calling = record {
+      word = how;
+      context = context;
+      strand = strand;
+      thing = thing;
+      caller = caller;
+      thread = thread;
+      place = place;
+    } in
     entry_after_call (is_posting how) (number == op) op call (call_of past op) (done_of past op) refl
     (λ same. let e : number ≡ op = eqb-true number op same in
     let none : call_of past op ≡ None = uncalled_by (call_of past op) (λ called. let less : op < number =
@@ -101,7 +109,7 @@ entry_after level past legal caller thread place op _ may = refl
 pub entry_of-next : (level : Level) (past : List Line) (line : Line) → IsLegalSoFar level (line ∷ past) → (op : ℕ)
     → entry_of (line ∷ past) op ≡ entered_now (enters line.does op) line.thread (length past) (entry_of past op)
 entry_of-next level past line legal op = entry_after level past legal.0 (frame past line.thread) line.thread (length past) op
-    line.does legal.1
+    line.does legal.1.rules
 
 -- what a line submits had no entry
 enters_fresh : (level : Level) (past : List Line) → IsLegalSoFar level past → (thread op : ℕ) (does : Doing)
@@ -179,7 +187,7 @@ last_open level (line ∷ past) legal thread op is =
     cond_both (line.thread == thread) (entered_by line.does) (entered_last past thread) (λ (o : Option ℕ). o ≡ Some op
     → IsOpen (line ∷ past) thread op)
     (λ here entered. let enters_it : enters line.does op ≡ true = number_of (entered_by line.does) op entered in
-    let none : entry_of past op ≡ None = enters_fresh level past legal.0 line.thread op line.does legal.1 enters_it in
+    let none : entry_of past op ≡ None = enters_fresh level past legal.0 line.thread op line.does legal.1.rules enters_it in
     record {
       entry = record { thread = line.thread; place = length past };
       entered = entry_of-next level past line legal op ∙ rw enters_it refl;
@@ -189,7 +197,7 @@ last_open level (line ∷ past) legal thread op is =
     })
     (λ elsewhere before. let was : IsOpen past thread op = last_open level past legal.0 thread op before in
     let others : enters line.does op ≡ false = not_true (enters line.does op)
-    (λ now_enters. none_entry was.entry (sym (enters_fresh level past legal.0 line.thread op line.does legal.1 now_enters)
+    (λ now_enters. none_entry was.entry (sym (enters_fresh level past legal.0 line.thread op line.does legal.1.rules now_enters)
     ∙ was.entered)) in
     let apart : (was.entry.thread == line.thread) ≡ false =
     ne_eqb was.entry.thread line.thread (λ e. both_ways (line.thread == thread) elsewhere (eq-eqb line.thread thread (sym e

@@ -15,11 +15,11 @@ use Rattle.run_rules.specs.Stacks.{stack, stack_after, outer, frame, same_frame}
 use Rattle.run_rules.specs.Calls.{Calling, Completion, Waits, call_of, done_of, is_begun, is_dropped, is_posting, last_call_after, strand_of}
 use Rattle.run_rules.specs.Entries.{Entry, entry_by}
 use Rattle.run_rules.specs.Starting.{Holds, is_on}
-use Rattle.run_rules.specs.MayCome.{MayCome, MayDo, last_call}
+use Rattle.run_rules.specs.MayCome.{MayDo, last_call}
 use Rattle.run_rules.specs.Legal.{IsLegalSoFar}
 use Rattle.run_rules.proofs.CallsLemmas.{strand_of-next}
 use Rattle.run_rules.proofs.StrandLemmas.{AreCalled, holders_agree, on-next, stack_called, stack_called_before}
-use Rattle.run_check.specs.After.{AreChained, first_of, is_dead, is_spent, kind_of, let_in, plain, waiter_from, waiter_of}
+use Rattle.run_check.specs.After.{AreChained, first_of, is_dead, is_spent, kind_of, let_in, loose, waiter_from, waiter_of}
 use Rattle.run_check.specs.Following.{completed, execution_after, holder_after, innermost_after, waiter_after}
 use Rattle.run_check.specs.Judging.{is_number}
 use Rattle.run_check.specs.LastCalls.{ends_frame, followed}
@@ -47,7 +47,7 @@ calls_by false true false does last alive = refl
 calls_by false false true does last alive = refl
 calls_by false false false does last alive = refl
 
-pub last_calls-next : (past : List Line) (line : Line) → IsLegalSoFar plain past → (who : Frame) (kept : Option ℕ)
+pub last_calls-next : (past : List Line) (line : Line) → IsLegalSoFar loose past → (who : Frame) (kept : Option ℕ)
     → kept ≡ (if is_dead past who then None else last_call past who)
     → followed (frame past line.thread) line.does who kept
     ≡ (if is_dead (line ∷ past) who then None else last_call (line ∷ past) who)
@@ -56,7 +56,7 @@ last_calls-next past line legal who kept is =
     ∙ calls_by (ends_frame line.does who) (same_frame (frame past line.thread) who) (is_dead past who) line.does
     (last_call past who)
     (λ same. subst (λ (f : Frame). is_dead past f ≡ false) (same_frame-is (frame past line.thread) who same)
-    (frame_alive plain past legal line.thread))
+    (frame_alive loose past legal line.thread))
 
 -- what waits
 
@@ -71,18 +71,19 @@ pub record IsFresh (past : List Line) (op : ℕ) : Type 0 where
   pub undropped : is_dropped past op ≡ false
   pub undone : done_of past op ≡ None
 
-pub fresh : (past : List Line) → IsLegalSoFar plain past → (op : ℕ) → (IsSome (call_of past op) → ⊥) → IsFresh past op
+pub fresh : (past : List Line) → IsLegalSoFar loose past → (op : ℕ) → (IsSome (call_of past op) → ⊥) → IsFresh past op
 fresh past legal op not = record {
   uncalled = uncalled_none (call_of past op) not;
-  unbegun = false_from_ne_true (is_begun past op) (λ is. not (begun_called plain past legal op is));
-  undropped = false_from_ne_true (is_dropped past op) (λ is. not (dropped_called plain past legal op is));
-  undone = ⊎_elim (λ none. none) (λ called. absurd (not called)) (done_known plain past legal op);
+  unbegun = false_from_ne_true (is_begun past op) (λ is. not (begun_called loose past legal op is));
+  undropped = false_from_ne_true (is_dropped past op) (λ is. not (dropped_called loose past legal op is));
+  undone = ⊎_elim (λ none. none) (λ called. absurd (not called)) (done_known loose past legal op);
 }
 
 -- an operation that waits, with what differs
 abbrev pub with_entry : Calling → Option ℕ → Option Completion → Waiter
 with_entry call entry completion = record {
   kind = kind_of call.word;
+  context = call.context;
   strand = call.strand;
   thing = call.thing;
   caller = call.caller;
@@ -160,12 +161,13 @@ spent_drop true true y o = refl
 spent_drop true false y o = refl
 spent_drop false x y o = refl
 
-waiter_by_doing : (past : List Line) → IsLegalSoFar plain past → (thread other : ℕ) (does : Doing) → MayDo plain past thread does
+waiter_by_doing : (past : List Line) → IsLegalSoFar loose past → (thread other : ℕ) (does : Doing) → MayDo loose past thread does
     → waiter_of (record { thread = thread; does = does } ∷ past) other
     ≡ waiter_after (frame past thread) (length past) does other (waiter_of past other)
 waiter_by_doing past legal thread other (doing.Call op how context strand thing) may =
     waiter_called past other (length past) (op == other) (record {
       word = how;
+      context = context;
       strand = strand;
       thing = thing;
       caller =
@@ -191,7 +193,7 @@ waiter_by_doing past legal thread other (doing.Drop op) may =
     (option_map (waiter_from (done_of past other)) (call_of past other))
 waiter_by_doing past legal thread other _ may = refl
 
-pub waiter_of-next : (past : List Line) (line : Line) → IsLegalSoFar plain past → MayCome plain past line → (other : ℕ)
+pub waiter_of-next : (past : List Line) (line : Line) → IsLegalSoFar loose past → MayDo loose past line.thread line.does → (other : ℕ)
     → waiter_of (line ∷ past) other ≡ waiter_after (frame past line.thread) (length past) line.does other (waiter_of past other)
 waiter_of-next past line legal may other = waiter_by_doing past legal line.thread other line.does may
 
@@ -229,7 +231,7 @@ first_popped past kept thread other op chained top true test =
     ∙ ap (λ (t : ℕ). first_of (outer (stack past t))) same)
 
 innermost_by_doing : (past : List Line) (kept : Stacks) (thread other : ℕ) (does : Doing)
-    → AreChained past kept (stack past thread) → MayDo plain past thread does
+    → AreChained past kept (stack past thread) → MayDo loose past thread does
     → first_of (if thread == other then stack_after does (stack past other) else stack past other)
     ≡ innermost_after (execution_of kept) thread does other (first_of (stack past other))
 innermost_by_doing past kept thread other (doing.Begin op what size) chained may =
@@ -244,7 +246,7 @@ innermost_by_doing past kept thread other _ chained may = ap first_of (same_eith
     same_either true ops = refl
     same_either false ops = refl
 
-pub innermost-next : (past : List Line) (line : Line) (kept : Stacks) → MayCome plain past line
+pub innermost-next : (past : List Line) (line : Line) (kept : Stacks) → MayDo loose past line.thread line.does
     → AreChained past kept (stack past line.thread) → (other : ℕ)
     → innermost_after (execution_of kept) line.thread line.does other (first_of (stack past other))
     ≡ first_of (stack (line ∷ past) other)
@@ -260,18 +262,18 @@ chain_kept past kept new (op ∷ ops) same chained = (
   chain_kept past kept new ops (λ other there. same other (or_right (op == other) (is_among other ops) there)) chained.1,
 )
 
-let_in-next : (past : List Line) (line : Line) → MayCome plain past line → (op : ℕ) (ops : List ℕ) → IsSome (call_of past op)
+let_in-next : (past : List Line) (line : Line) → MayDo loose past line.thread line.does → (op : ℕ) (ops : List ℕ) → IsSome (call_of past op)
     → AreCalled past ops → let_in (line ∷ past) (strand_of (line ∷ past) op) ops ≡ let_in past (strand_of past op) ops
 let_in-next past line may op ops called all =
-    ap (λ (o : Option ℕ). let_in (line ∷ past) o ops) (strand_of-next plain past line op may called)
+    ap (λ (o : Option ℕ). let_in (line ∷ past) o ops) (strand_of-next loose past line op may called)
     ∙ by_strand (strand_of past op)
   where
     by_strand : (o : Option ℕ) → let_in (line ∷ past) o ops ≡ let_in past o ops
     by_strand None = refl
-    by_strand (Some strand) = ap (λ (b : Bool). if b then None else Some strand) (on-next plain past line strand ops may all)
+    by_strand (Some strand) = ap (λ (b : Bool). if b then None else Some strand) (on-next loose past line strand ops may all)
 
 -- a line changes nothing of the chain's own terms
-chain_next : (past : List Line) (line : Line) (kept : Stacks) (ops : List ℕ) → MayCome plain past line → AreCalled past ops
+chain_next : (past : List Line) (line : Line) (kept : Stacks) (ops : List ℕ) → MayDo loose past line.thread line.does → AreCalled past ops
     → AreChained past kept ops → AreChained (line ∷ past) kept ops
 chain_next past line kept [] may called chained = tt
 chain_next past line kept (op ∷ ops) may called chained = (
@@ -286,7 +288,7 @@ chain_next past line kept (op ∷ ops) may called chained = (
 not_among : (op other : ℕ) (ops : List ℕ) → is_among other ops ≡ true → (is_among op ops ≡ true → ⊥) → (op == other) ≡ false
 not_among op other ops there not = ne_eqb op other (λ e. not (subst (λ (n : ℕ). is_among n ops ≡ true) (sym e) there))
 
-pushed : (past : List Line) → IsLegalSoFar plain past → (kept new : Stacks) (thread other op : ℕ) (own : Option ℕ)
+pushed : (past : List Line) → IsLegalSoFar loose past → (kept new : Stacks) (thread other op : ℕ) (own : Option ℕ)
     → Waits past op → ((q : ℕ) → execution_of new q ≡ (if op == q then Some (record {
       outer =
           first_of (stack past thread);
@@ -338,7 +340,7 @@ top_among : (op : ℕ) (ops : List ℕ) → ops ≡ op ∷ outer ops → is_amon
 top_among op ops is = subst (λ (all : List ℕ). is_among op all
     ≡ true) (sym is) (or_left (op == op) (is_among op (outer ops)) (eq-eqb op op refl))
 
-popped : (past : List Line) → IsLegalSoFar plain past → (kept new : Stacks) (thread other op : ℕ)
+popped : (past : List Line) → IsLegalSoFar loose past → (kept new : Stacks) (thread other op : ℕ)
     → frame past thread ≡ Execution op → ((q : ℕ) → execution_of new q ≡ (if op == q then None else execution_of kept q))
     → AreChained past kept (stack past other) → (t : Bool) → (thread == other) ≡ t
     → AreChained past new (if t then outer (stack past other) else stack past other)
@@ -349,18 +351,18 @@ popped past legal kept new thread other op top changes chained true test =
     chain_kept past kept new (outer (stack past other)) (λ q there. changes q
     ∙ ap (λ (b : Bool). if b then None else execution_of kept q)
     (not_among op q (outer (stack past other)) there (both_ways (is_among op (outer (stack past other)))
-    (top_apart op (stack past other) (stack_apart plain past legal other) first))))
+    (top_apart op (stack past other) (stack_apart loose past legal other) first))))
     (chained_outer past kept (stack past other) chained)
 popped past legal kept new thread other op top changes chained false test =
     let first : stack past thread ≡ op ∷ outer (stack past thread) = frame_first (stack past thread) thread op top in
     chain_kept past kept new (stack past other) (λ q there. changes q
     ∙ ap (λ (b : Bool). if b then None else execution_of kept q)
     (not_among op q (stack past other) there (λ among. both_ways (thread == other) test
-    (eq-eqb thread other (one_thread plain past legal op thread other (top_among op (stack past thread) first) among)))))
+    (eq-eqb thread other (one_thread loose past legal op thread other (top_among op (stack past thread) first) among)))))
     chained
 
-executions_by_doing : (past : List Line) → IsLegalSoFar plain past
-    → (kept new : Stacks) (thread other : ℕ) (own : Option ℕ) (does : Doing) → MayDo plain past thread does
+executions_by_doing : (past : List Line) → IsLegalSoFar loose past
+    → (kept new : Stacks) (thread other : ℕ) (own : Option ℕ) (does : Doing) → MayDo loose past thread does
     → GoesWith past kept thread does own
     → ((q : ℕ) → execution_of new q ≡ execution_after (first_of (stack past thread)) own does q (execution_of kept q))
     → AreChained past kept (stack past other)
@@ -377,14 +379,14 @@ executions_by_doing past legal kept new thread other own _ may goes changes chai
     (λ here. chain_kept past kept new (stack past other) (λ q there. changes q) chained)
     (λ away. chain_kept past kept new (stack past other) (λ q there. changes q) chained)
 
-pub executions-next : (past : List Line) (line : Line) → IsLegalSoFar plain past → MayCome plain past line
+pub executions-next : (past : List Line) (line : Line) → IsLegalSoFar loose past → MayDo loose past line.thread line.does
     → (kept new : Stacks) (own : Option ℕ) → GoesWith past kept line.thread line.does own
     → ((q : ℕ) → execution_of new q ≡ execution_after (first_of (stack past line.thread)) own line.does q
     (execution_of kept q)) → (other : ℕ) → AreChained past kept (stack past other)
     → AreChained (line ∷ past) new (stack (line ∷ past) other)
 executions-next past line legal may kept new own goes changes other chained =
     chain_next past line new (stack (line ∷ past) other) may
-    (stack_called_before plain past line other may (stack_called plain past legal other))
+    (stack_called_before loose past line other may (stack_called loose past legal other))
     (executions_by_doing past legal kept new line.thread other own line.does may goes changes chained)
 
 -- who holds a strand
@@ -453,7 +455,7 @@ pushed_holds past thread other op strand holder held alone (Some s) mine_is t te
         (cases_Bool (s == strand))
 
 -- an end: what it let in is let go
-popped_holds : (past : List Line) → IsLegalSoFar plain past → (thread other op strand : ℕ) (holder : ℕ → Option ℕ)
+popped_holds : (past : List Line) → IsLegalSoFar loose past → (thread other op strand : ℕ) (holder : ℕ → Option ℕ)
     → ((t s : ℕ) → list_any (is_on past s) (stack past t) ≡ option_eq nat_eq (holder s) (Some t))
     → stack past thread ≡ op ∷ outer (stack past thread) → (mine : Option ℕ) → strand_of past op ≡ mine → (t : Bool)
     → (thread == other) ≡ t
@@ -517,7 +519,7 @@ popped_holds past legal thread other op strand holder held first (Some s) mine_i
         ∙ or_left (s == strand) (list_any (is_on past strand) (outer (stack past thread))) on in
         let nobody : list_any (is_on past strand) (stack past other) ≡ false =
         false_from_ne_true (list_any (is_on past strand) (stack past other)) (λ holds.
-        both_ways (thread == other) away (eq-eqb thread other (holders_agree plain past legal strand thread other here holds))) in
+        both_ways (thread == other) away (eq-eqb thread other (holders_agree loose past legal strand thread other here holds))) in
         nobody ∙ sym (ap (λ (b : Bool). option_eq nat_eq (if b then None else holder strand) (Some other)) on))
         (λ (off : (s == strand) ≡ false). held other strand
         ∙ sym (ap (λ (b : Bool). option_eq nat_eq (if b then None else holder strand) (Some other)) off))
@@ -529,9 +531,9 @@ let_go_is : (past : List Line) (kept : Stacks) (thread op : ℕ) (own : Option �
 let_go_is past kept thread op own chained top is = is
     ∙ ap strand_let_in (chained_top past kept (stack past thread) op chained (frame_first (stack past thread) thread op top))
 
-held_by_doing : (past : List Line) → IsLegalSoFar plain past
+held_by_doing : (past : List Line) → IsLegalSoFar loose past
     → (kept : Stacks) (thread other strand : ℕ) (own : Option ℕ) (holder : ℕ → Option ℕ) (does : Doing)
-    → MayDo plain past thread does → AreChained past kept (stack past thread)
+    → MayDo loose past thread does → AreChained past kept (stack past thread)
     → GoesWith past kept thread does own → ((t s : ℕ) → list_any (is_on past s) (stack past t)
     ≡ option_eq nat_eq (holder s) (Some t))
     → list_any (is_on past strand) (if thread == other then stack_after does (stack past other) else stack past other)
@@ -557,15 +559,15 @@ held_by_doing past legal kept thread other strand own holder _ may chained goes 
     same_either true ops = refl
     same_either false ops = refl
 
-pub held-next : (past : List Line) (line : Line) → IsLegalSoFar plain past → MayCome plain past line
+pub held-next : (past : List Line) (line : Line) → IsLegalSoFar loose past → MayDo loose past line.thread line.does
     → (kept : Stacks) (own : Option ℕ) (holder : ℕ → Option ℕ) → AreChained past kept (stack past line.thread)
     → GoesWith past kept line.thread line.does own
     → ((t s : ℕ) → list_any (is_on past s) (stack past t) ≡ option_eq nat_eq (holder s) (Some t)) → (other strand : ℕ)
     → list_any (is_on (line ∷ past) strand) (stack (line ∷ past) other)
     ≡ option_eq nat_eq (holder_after line.thread own line.does strand (holder strand)) (Some other)
 held-next past line legal may kept own holder chained goes held other strand =
-    on-next plain past line strand (stack (line ∷ past) other) may
-    (stack_called_before plain past line other may (stack_called plain past legal other))
+    on-next loose past line strand (stack (line ∷ past) other) may
+    (stack_called_before loose past line other may (stack_called loose past legal other))
     ∙ held_by_doing past legal kept line.thread other strand own holder line.does may chained goes held
 
 -- what is kept as an execution goes on

@@ -13,12 +13,12 @@ use Rattle.run_rules.specs.declared.rule.Rule.TheVariants as rule
 use Rattle.run_rules.specs.Stacks.{frame}
 use Rattle.run_rules.specs.Calls.{strand_of}
 use Rattle.run_rules.specs.Takings.{has_any}
-use Rattle.run_rules.specs.Starting.{GoesBefore, Holds}
+use Rattle.run_rules.specs.Starting.{GoesBefore, Holds, IsFirst}
 use Rattle.run_rules.specs.MayCome.{MayDo, is_marked, last_call}
 use Rattle.run_rules.specs.Breaks.{BreaksByDoing}
-use Rattle.run_check.specs.After.{IsAfter, JudgesDoing, called_last, plain, spot_of, waiter_of}
+use Rattle.run_check.specs.After.{IsAfter, JudgesDoing, called_last, loose, plain, spot_of, waiter_of}
 use Rattle.run_check.specs.Beginning.{BeginsInside, MayHaveOutcome, SomeGoesBefore}
-use Rattle.run_check.specs.Judging.{Judged, asked, completion_judged, end_judged, is_above, is_number, is_upto, start_judged}
+use Rattle.run_check.specs.Judging.{Judged, asked, completion_judged, end_judged, is_above, is_first_by, is_number, is_upto, start_judged}
 use Rattle.run_check.specs.Stacks.{frame_at, innermost_of}
 use Rattle.run_check.specs.Strands.{holder_of}
 use Rattle.run_check.specs.Waiting.{waiting_at}
@@ -61,7 +61,7 @@ use Rattle.run_check.proofs.RuleLemmas.{
 
 -- an answer to a test
 asked_judges : (past : List Line) (thread : ℕ) (does : Doing) (broken : Rule) (test : Bool)
-    → (test ≡ true → MayDo plain past thread does) → (test ≡ false → BreaksByDoing plain past thread does broken)
+    → (test ≡ true → MayDo loose past thread does) → (test ≡ false → BreaksByDoing loose past thread does broken)
     → JudgesDoing past thread does (asked test broken)
 asked_judges past thread does broken true holds fails = holds refl
 asked_judges past thread does broken false holds fails = fails refl
@@ -205,6 +205,11 @@ throw_judges past thread op (Err rule.DoneOnce) judged = judged
 throw_judges past thread op (Err rule.Outcome) judged = judged
 throw_judges past thread op (Err rule.Free) judged = judged
 throw_judges past thread op (Err rule.First) judged = judged
+throw_judges past thread op (Err rule.Ready) judged = judged
+throw_judges past thread op (Err rule.Order) judged = judged
+throw_judges past thread op (Err rule.Stopped) judged = judged
+throw_judges past thread op (Err rule.Nested) judged = judged
+throw_judges past thread op (Err rule.Finishing) judged = judged
 throw_judges past thread op (Err rule.Innermost) judged = judged
 throw_judges past thread op (Err rule.Clean) judged = judged
 throw_judges past thread op (Err rule.Untouched) judged = judged
@@ -234,36 +239,24 @@ upto_from past strand (Some first) (Some entry) least stands = (
       le-leb first.0 entry (omega arith),
 )
 
+-- where no order is asked
+not_asked : (past : List Line) (op : ℕ) → IsFirst loose past op
+not_asked past op strand first level = cc
+
 -- what a strand says of an operation that may begin otherwise
 start_at : (past : List Line) (checker : Checker) → IsAfter past checker
     → (thread op : ℕ) (what : Code) (size strand : ℕ) (waiter : Waiter) → Says past op waiter → MayHaveOutcome waiter what size
     → strand_of past op ≡ Some strand
-    → (inside later : Bool) → IsTrue inside ↔ BeginsInside checker.stacks thread waiter
-    → IsTrue later ↔ SomeGoesBefore past strand waiter.entry → (holder : Option ℕ) → holder_of checker.strands strand ≡ holder
-    → JudgesDoing past thread (doing.Begin op what size) (start_judged holder thread inside later)
-start_at past checker after thread op what size strand waiter says fits on inside later is_inside is_later None is =
-    by_later later refl
-  where
-    by_later : (b : Bool) → later ≡ b → JudgesDoing past thread (doing.Begin op what size) (if b then Err rule.First else Ok tt)
-    by_later true e = (
-      says_waits past op waiter says,
-      outcome_fits past op waiter what size after.legal says fits,
-      idle_free past checker after thread op strand on is,
-      λ first. let found = before_says past op strand waiter says (is_later.0 e) in
-          first strand found.0 on (λ other holds. (free_none other holds)) found.1,
-    )
-      where
-        free_none : (other : ℕ) → Holds past other strand → ⊥
-        free_none other holds = no_number other (sym is ∙ holder_is past checker after other strand holds)
-    by_later false e = record {
-      waiting = says_waits past op waiter says;
-      outcome = outcome_fits past op waiter what size after.legal says fits;
-      free = idle_free past checker after thread op strand on is;
-      first = λ other first here idle before. let same : strand ≡ other = some_number strand other (sym on ∙ here) in
-          both_ways later e (is_later.1 (says_before past op strand first waiter says
-          (subst (λ (s : ℕ). GoesBefore past first op s) (sym same) before)));
-    }
-start_at past checker after thread op what size strand waiter says fits on inside later is_inside is_later (Some holder) is =
+    → (inside : Bool) → IsTrue inside ↔ BeginsInside checker.stacks thread waiter
+    → (holder : Option ℕ) → holder_of checker.strands strand ≡ holder
+    → JudgesDoing past thread (doing.Begin op what size) (start_judged holder thread inside)
+start_at past checker after thread op what size strand waiter says fits on inside is_inside None is = record {
+  waiting = says_waits past op waiter says;
+  outcome = outcome_fits past op waiter what size after.legal says fits;
+  free = idle_free past checker after thread op strand on is;
+  first = not_asked past op;
+}
+start_at past checker after thread op what size strand waiter says fits on inside is_inside (Some holder) is =
     by_test (holder == thread && inside) refl
   where
     by_test : (b : Bool) → (holder == thread && inside) ≡ b
@@ -276,7 +269,7 @@ start_at past checker after thread op what size strand waiter says fits on insid
           outcome = outcome_fits past op waiter what size after.legal says fits;
           free = inside_free past checker after thread op strand on held
               (inside_says past checker after thread op waiter says (is_inside.0 parts.1));
-          first = held_first past checker after thread op strand on held;
+          first = not_asked past op;
         }
     by_test false e = (
       says_waits past op waiter says,
@@ -295,20 +288,19 @@ start_at past checker after thread op what size strand waiter says fits on insid
 pub start_judges : (past : List Line) (checker : Checker) → IsAfter past checker
     → (thread op : ℕ) (what : Code) (size strand : ℕ) (waiter : Waiter) → waiter_of past op ≡ Some waiter
     → MayHaveOutcome waiter what size → waiter.strand ≡ Some strand
-    → (inside later : Bool) → IsTrue inside ↔ BeginsInside checker.stacks thread waiter
-    → IsTrue later ↔ SomeGoesBefore past strand waiter.entry → (answer : Judged)
-    → answer ≡ start_judged (holder_of checker.strands strand) thread inside later
+    → (inside : Bool) → IsTrue inside ↔ BeginsInside checker.stacks thread waiter → (answer : Judged)
+    → answer ≡ start_judged (holder_of checker.strands strand) thread inside
     → JudgesDoing past thread (doing.Begin op what size) answer
-start_judges past checker after thread op what size strand waiter found fits on inside later is_inside is_later answer is =
+start_judges past checker after thread op what size strand waiter found fits on inside is_inside answer is =
     let says : Says past op waiter = waiter_says past op waiter found in
     subst (λ (a : Judged). JudgesDoing past thread (doing.Begin op what size) a) (sym is)
     (start_at past checker after thread op what size strand waiter says fits (says_strand past op waiter says
-    ∙ on) inside later is_inside is_later (holder_of checker.strands strand) refl)
+    ∙ on) inside is_inside (holder_of checker.strands strand) refl)
 
 pub free_judges : (past : List Line) (checker : Checker) → IsAfter past checker
     → (thread op : ℕ) (what : Code) (size : ℕ) (waiter : Waiter) → waiter_of past op ≡ Some waiter
     → MayHaveOutcome waiter what size → waiter.strand ≡ None
-    → MayDo plain past thread (doing.Begin op what size)
+    → MayDo loose past thread (doing.Begin op what size)
 free_judges past checker after thread op what size waiter found fits none =
     let says : Says past op waiter = waiter_says past op waiter found in
     let off : strand_of past op ≡ None = says_strand past op waiter says ∙ none in
@@ -317,16 +309,59 @@ free_judges past checker after thread op what size waiter found fits none =
       outcome =
           outcome_fits past op waiter what size after.legal says fits;
       free = no_strand_free past thread op off;
-      first =
-          no_strand_first past op off;
+      first = not_asked past op;
     }
 
 pub misfit_judges : (past : List Line) (thread op : ℕ) (what : Code) (size : ℕ) (waiter : Waiter)
     → waiter_of past op ≡ Some waiter → (MayHaveOutcome waiter what size → ⊥)
-    → BreaksByDoing plain past thread (doing.Begin op what size) rule.Outcome
+    → BreaksByDoing loose past thread (doing.Begin op what size) rule.Outcome
 misfit_judges past thread op what size waiter found misfits =
     let says : Says past op waiter = waiter_says past op waiter found in
     (says_waits past op waiter says, λ has. misfits (outcome_refits past op waiter what size says has))
+
+-- whether an operation is the first of its strand
+first_at : (past : List Line) (checker : Checker) → IsAfter past checker → (op strand : ℕ) (waiter : Waiter)
+    → Says past op waiter → strand_of past op ≡ Some strand → (later : Bool)
+    → IsTrue later ↔ SomeGoesBefore past strand waiter.entry → (holder : Option ℕ) → holder_of checker.strands strand ≡ holder
+    → IsTrue (is_first_by holder later) ↔ IsFirst plain past op
+first_at past checker after op strand waiter says on later is_later (Some holder) is =
+    (λ yes. held_first past checker after holder op strand on is, λ first. refl)
+first_at past checker after op strand waiter says on true is_later None is = (
+  λ yes. absurd (false_true yes),
+  λ first. let found = before_says past op strand waiter says (is_later.0 refl) in
+      absurd (first strand found.0 refl on (λ other holds. free_none other holds) found.1),
+)
+  where
+    false_true : false ≡ true → ⊥
+    false_true e = cc
+
+    free_none : (other : ℕ) → Holds past other strand → ⊥
+    free_none other holds = no_number other (sym is ∙ holder_is past checker after other strand holds)
+first_at past checker after op strand waiter says on false is_later None is = (
+  λ yes other first level here idle before. let same : strand ≡ other = some_number strand other (sym on ∙ here) in
+      false_true (is_later.1 (says_before past op strand first waiter says
+      (subst (λ (s : ℕ). GoesBefore past first op s) (sym same) before))),
+  λ first. refl,
+)
+  where
+    false_true : false ≡ true → ⊥
+    false_true e = cc
+
+pub first_judged : (past : List Line) (checker : Checker) → IsAfter past checker → (op strand : ℕ) (waiter : Waiter)
+    → waiter_of past op ≡ Some waiter → waiter.strand ≡ Some strand → (later answer : Bool)
+    → IsTrue later ↔ SomeGoesBefore past strand waiter.entry → answer ≡ is_first_by (holder_of checker.strands strand) later
+    → IsTrue answer ↔ IsFirst plain past op
+first_judged past checker after op strand waiter found on later answer is_later is =
+    let says : Says past op waiter = waiter_says past op waiter found in
+    subst (λ (b : Bool). IsTrue b ↔ IsFirst plain past op) (sym is)
+    (first_at past checker after op strand waiter says (says_strand past op waiter says ∙ on) later is_later
+    (holder_of checker.strands strand) refl)
+
+pub strandless_first : (past : List Line) (op : ℕ) (waiter : Waiter) → waiter_of past op ≡ Some waiter → waiter.strand ≡ None
+    → IsFirst plain past op
+strandless_first past op waiter found none =
+    let says : Says past op waiter = waiter_says past op waiter found in
+    no_strand_first past op (says_strand past op waiter says ∙ none)
 
 -- an answer to a test that is a fact
 pub fact_judges : {P : Type 0} (test : Bool) (broken : Rule) → IsTrue test ↔ P → (answer : Judged) → answer ≡ asked test broken

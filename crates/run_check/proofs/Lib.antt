@@ -10,3 +10,5 @@ pub mod FollowLemmas
 pub mod QueuedLemmas
 pub mod StepLemmas
 pub mod LongestLemmas
+pub mod ReadyLemmas
+pub mod StrictLemmas

@@ -5,7 +5,6 @@ use Rattle.std.specs.Prelude.{Bool, true, false, nat_le, if◌then◌else◌, Op
 use Rattle.run_lines.specs.declared.line.Line.{Line}
 use Rattle.run_rules.specs.Against.{StandsLongest}
 use Rattle.run_rules.specs.Calls.{strand_of}
-use Rattle.run_rules.specs.Entries.{placed_at}
 use Rattle.run_rules.specs.Starting.{GoesBefore}
 use Rattle.run_check.specs.After.{spot_of}
 use Rattle.run_check.specs.Judging.{place_upto}

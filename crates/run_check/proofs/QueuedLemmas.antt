@@ -8,10 +8,10 @@ use Rattle.run_lines.specs.declared.line.Doing.TheVariants as doing
 use Rattle.run_lines.specs.declared.line.Line.{Line}
 use Rattle.run_rules.specs.Calls.{Calling, begins, drops, call_of, done_of, is_begun, is_dropped, strand_of}
 use Rattle.run_rules.specs.Entries.{Entry, entry_from, entry_of, placed_at}
-use Rattle.run_rules.specs.MayCome.{MayCome}
+use Rattle.run_rules.specs.MayCome.{MayDo}
 use Rattle.run_rules.specs.Legal.{IsLegalSoFar}
 use Rattle.run_rules.proofs.CallsLemmas.{strand_of-next}
-use Rattle.run_check.specs.After.{is_spent, plain, spot_from, spot_of, waiter_from, waiter_of}
+use Rattle.run_check.specs.After.{is_spent, loose, spot_from, spot_of, waiter_from, waiter_of}
 use Rattle.run_check.specs.Entered.{entered_last}
 use Rattle.run_check.specs.Following.{place_after, spends, to_place, to_place_with}
 use Rattle.run_check.specs.declared.waiting.Waiter.{Waiter}
@@ -107,46 +107,46 @@ placed_here past line other false unspent (Some strand) strand_is entered open_s
     ∙ ap (λ (b : Bool). if b then Some (strand, length past) else spot_of past other) (eq-eqb other other refl))
 
 -- what isn't called has no entry, and so no place
-uncalled_no_entry : (past : List Line) (op : ℕ) → IsLegalSoFar plain past → call_of past op ≡ None → entry_of past op ≡ None
+uncalled_no_entry : (past : List Line) (op : ℕ) → IsLegalSoFar loose past → call_of past op ≡ None → entry_of past op ≡ None
 uncalled_no_entry past op legal none = ap (λ (o : Option Calling). entry_from o (done_of past op)) none
 
-unspent_spot : (past : List Line) (line : Line) → IsLegalSoFar plain past → MayCome plain past line → (other : ℕ)
+unspent_spot : (past : List Line) (line : Line) → IsLegalSoFar loose past → MayDo loose past line.thread line.does → (other : ℕ)
     → spot_from (is_spent past other) (strand_of (line ∷ past) other) (placed_at (line ∷ past) other)
     ≡ place_after (to_place (entered_last past line.thread) (waiter_of past)) (length past) other (spot_of past other)
 unspent_spot past line legal may other =
     ⊎_elim
     (λ (entered : option_eq nat_eq (entered_last past line.thread) (Some other) ≡ true).
     let last : entered_last past line.thread ≡ Some other = of_number (entered_last past line.thread) other entered in
-    let was : IsOpen past line.thread other = last_open plain past legal line.thread other last in
+    let was : IsOpen past line.thread other = last_open loose past legal line.thread other last in
     let called : IsSome (call_of past other) = ⊎_elim (λ none. absurd
     (none_entry was.entry (sym (uncalled_no_entry past other legal none) ∙ was.entered))) (λ is. is)
     (some_case (call_of past other)) in
     ap (λ (s : Option ℕ). spot_from (is_spent past other) s (placed_at (line ∷ past) other))
-    (strand_of-next plain past line other may called)
+    (strand_of-next loose past line other may called)
     ∙ ap (λ (p : Option ℕ). spot_from (is_spent past other) (strand_of past other) p)
-    (placed_at-next plain past line legal other ∙ ap (λ (b : Bool). if b then Some (length past) else placed_at past other)
+    (placed_at-next loose past line legal other ∙ ap (λ (b : Bool). if b then Some (length past) else placed_at past other)
     entered)
     ∙ placed_here past line other (is_spent past other) refl (strand_of past other) refl last was.open_still)
     (λ (not : option_eq nat_eq (entered_last past line.thread) (Some other) ≡ false).
-    let placed : placed_at (line ∷ past) other ≡ placed_at past other = placed_at-next plain past line legal other
+    let placed : placed_at (line ∷ past) other ≡ placed_at past other = placed_at-next loose past line legal other
     ∙ ap (λ (b : Bool). if b then Some (length past) else placed_at past other) not in
     let kept : spot_from (is_spent past other) (strand_of (line ∷ past) other) (placed_at (line ∷ past) other)
     ≡ spot_of past other =
     ap (λ (p : Option ℕ). spot_from (is_spent past other) (strand_of (line ∷ past) other) p) placed
     ∙ ⊎_elim
     (λ none. let nowhere : placed_at past other ≡ None =
-    unplaced plain past legal other (uncalled_no_entry past other legal none) in
+    unplaced loose past legal other (uncalled_no_entry past other legal none) in
     ap (λ (p : Option ℕ). spot_from (is_spent past other) (strand_of (line ∷ past) other) p) nowhere
     ∙ no_spot (is_spent past other) (strand_of (line ∷ past) other)
     ∙ sym (ap (λ (p : Option ℕ). spot_from (is_spent past other) (strand_of past other) p) nowhere
     ∙ no_spot (is_spent past other) (strand_of past other)))
     (λ called. ap (λ (s : Option ℕ). spot_from (is_spent past other) s (placed_at past other))
-    (strand_of-next plain past line other may called)) (some_case (call_of past other)) in
+    (strand_of-next loose past line other may called)) (some_case (call_of past other)) in
     kept ∙ sym (to_place_other (entered_last past line.thread) (waiter_of past) (length past) other (spot_of past other) not))
     (cases_Bool (option_eq nat_eq (entered_last past line.thread) (Some other)))
 
 -- where an operation stands behind a line
-pub spot_of-next : (past : List Line) (line : Line) → IsLegalSoFar plain past → MayCome plain past line → (other : ℕ)
+pub spot_of-next : (past : List Line) (line : Line) → IsLegalSoFar loose past → MayDo loose past line.thread line.does → (other : ℕ)
     → spot_of (line ∷ past) other ≡ (if spends line.does other then None else place_after
     (to_place (entered_last past line.thread) (waiter_of past)) (length past) other (spot_of past other))
 spot_of-next past line legal may other =
@@ -160,11 +160,11 @@ spot_of-next past line legal may other =
     by_test false = unspent_spot past line legal may other
 
 -- what is to be placed stands nowhere, and nothing stands at that place
-pub unplaced_yet : (past : List Line) → IsLegalSoFar plain past → (thread op : ℕ) → entered_last past thread ≡ Some op
+pub unplaced_yet : (past : List Line) → IsLegalSoFar loose past → (thread op : ℕ) → entered_last past thread ≡ Some op
     → spot_of past op ≡ None
 unplaced_yet past legal thread op is =
     ap (λ (p : Option ℕ). spot_from (is_spent past op) (strand_of past op) p)
-    (last_open plain past legal thread op is).open_still ∙ no_spot (is_spent past op) (strand_of past op)
+    (last_open loose past legal thread op is).open_still ∙ no_spot (is_spent past op) (strand_of past op)
 
 spot_place : (spent : Bool) (strand place : Option ℕ) (s p : ℕ) → spot_from spent strand place ≡ Some (s, p) → place ≡ Some p
 spot_place true strand place s p is = cc

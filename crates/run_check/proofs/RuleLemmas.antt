@@ -20,7 +20,7 @@ use Rattle.run_rules.specs.Starting.{GoesBefore, HasOutcome, Holds, IsFirst, IsF
 use Rattle.run_rules.specs.MayCome.{IsNew, MayCall, MayDo, last_call}
 use Rattle.run_rules.specs.Legal.{IsLegalSoFar}
 use Rattle.run_rules.proofs.CallsLemmas.{called-next}
-use Rattle.run_check.specs.After.{IsAfter, called_last, first_of, is_dead, is_spent, kind_of, plain, spot_from, spot_of, waiter_from, waiter_of}
+use Rattle.run_check.specs.After.{IsAfter, called_last, first_of, is_dead, is_spent, kind_of, loose, plain, spot_from, spot_of, waiter_from, waiter_of}
 use Rattle.run_check.specs.Called.{called_by}
 use Rattle.run_check.specs.Beginning.{BeginsInside, FitsOutcome, MayHaveOutcome, SomeGoesBefore}
 use Rattle.run_check.specs.LastCalls.{last_call_of}
@@ -45,6 +45,7 @@ most_after level past caller thread place op (doing.Call number how context stra
     (λ ne. let test : (number == op) ≡ false = ne_eqb number op ne in
     let before : IsSome (call_of past op) = dropped_none (number == op) (record {
       word = how;
+      context = context;
       strand = strand;
       thing =
           thing;
@@ -65,7 +66,7 @@ called_most : (level : Level) (past : List Line) → IsLegalSoFar level past →
     → IsSomeAnd (called_last past) (λ last. op ≤ last)
 called_most level [] legal op called = cc
 called_most level (line ∷ past) legal op called =
-    most_after level past (frame past line.thread) line.thread (length past) op line.does legal.1 called
+    most_after level past (frame past line.thread) line.thread (length past) op line.does legal.1.rules called
     (called_most level past legal.0 op)
 
 called_after : (past : List Line) (caller : Frame) (thread place op : ℕ) (does : Doing)
@@ -83,20 +84,20 @@ called_is [] op is = cc
 called_is (line ∷ past) op is = called_after past (frame past line.thread) line.thread (length past) op line.does is
     (called_is past op)
 
-pub new_above : (past : List Line) (op last : ℕ) → IsLegalSoFar plain past → called_last past ≡ Some last → last < op
+pub new_above : (past : List Line) (op last : ℕ) → IsLegalSoFar loose past → called_last past ≡ Some last → last < op
     → IsNew past op
 new_above past op last legal is less earlier called =
     let most : earlier ≤ last = subst (λ (o : Option ℕ). IsSomeAnd o (λ n. earlier ≤ n)) is
-    (called_most plain past legal earlier called) in omega arith
+    (called_most loose past legal earlier called) in omega arith
 
-pub new_first : (past : List Line) (op : ℕ) → IsLegalSoFar plain past → called_last past ≡ None → IsNew past op
+pub new_first : (past : List Line) (op : ℕ) → IsLegalSoFar loose past → called_last past ≡ None → IsNew past op
 new_first past op legal is earlier called = absurd
-    (subst (λ (o : Option ℕ). IsSomeAnd o (λ n. earlier ≤ n)) is (called_most plain past legal earlier called))
+    (subst (λ (o : Option ℕ). IsSomeAnd o (λ n. earlier ≤ n)) is (called_most loose past legal earlier called))
 
 pub new_not : (past : List Line) (op last : ℕ) → called_last past ≡ Some last → op ≤ last → IsNew past op → ⊥
 new_not past op last is le new = let less : last < op = new last (called_is past last is) in absurd (omega arith)
 
-pub may_call_new : (past : List Line) (op : ℕ) (how : Word) (thing : Option ℕ) → IsNew past op → MayCall plain past op how thing
+pub may_call_new : (past : List Line) (op : ℕ) (how : Word) (thing : Option ℕ) → IsNew past op → MayCall loose past op how thing
 may_call_new past op how thing new = record { is_new = new; single = λ stream other level. cc }
 
 -- who writes, and which call it made last
@@ -115,7 +116,7 @@ pub kept_last : (past : List Line) (checker : Checker) → IsAfter past checker 
     → last_call_of checker.last_calls who ≡ last_call past (frame past thread)
 kept_last past checker after thread who is =
     let same : who ≡ frame past thread = is ∙ kept_frame past checker after thread in
-    let alive : is_dead past (frame past thread) ≡ false = frame_alive plain past after.legal thread in
+    let alive : is_dead past (frame past thread) ≡ false = frame_alive loose past after.legal thread in
     ap (last_call_of checker.last_calls) same ∙ after.last_calls (frame past thread) ∙ rw alive refl
 
 -- what waits
@@ -247,6 +248,7 @@ undone_after level past caller thread place op (doing.Call number how context st
     (option_map (λ (call : Calling). call.word)
     (option_or (if b then Some (record {
       word = how;
+      context = context;
       strand = strand;
       thing = thing;
       caller = caller;
@@ -288,9 +290,9 @@ pub done_known : (level : Level) (past : List Line) → IsLegalSoFar level past 
 done_known level [] legal op = inl refl
 done_known level (line ∷ past) legal op =
     known_by (done_in line.thread (length past) line.does op) (done_of past op)
-    (λ is. called-next level past line op legal.1 (completed_waits level past line.thread (length past) op line.thread
-    line.does legal.1 is).called)
-    (⊎_elim (λ none. inl none) (λ called. inr (called-next level past line op legal.1 called)) (done_known level past legal.0 op))
+    (λ is. called-next level past line op legal.1.rules (completed_waits level past line.thread (length past) op line.thread
+    line.does legal.1.rules is).called)
+    (⊎_elim (λ none. inl none) (λ called. inr (called-next level past line op legal.1.rules called)) (done_known level past legal.0 op))
   where
     known_by : (now_done before : Option Completion) → (IsSome now_done → IsSome (call_of (line ∷ past) op))
         → (before ≡ None) ⊎ IsSome (call_of (line ∷ past) op)
@@ -302,7 +304,7 @@ pub posting_undone : (level : Level) (past : List Line) → IsLegalSoFar level p
     → done_of past op ≡ None
 posting_undone level [] legal op posting = refl
 posting_undone level (line ∷ past) legal op posting =
-    undone_after level past (frame past line.thread) line.thread (length past) op line.does legal.0 legal.1
+    undone_after level past (frame past line.thread) line.thread (length past) op line.does legal.0 legal.1.rules
     (posting_undone level past legal.0 op) (done_known level past legal.0 op) posting
 
 -- the outcome
@@ -321,14 +323,14 @@ fits_by past op kind.Asynchronous None what size not undone fits = (λ posting. 
 fits_by past op kind.Posting None what size not undone fits = (λ posting. fits, tt)
 fits_by past op kind.Dispatch None what size not undone fits = (λ posting. fits, tt)
 
-pub outcome_fits : (past : List Line) (op : ℕ) (waiter : Waiter) (what : Code) (size : ℕ) → IsLegalSoFar plain past
+pub outcome_fits : (past : List Line) (op : ℕ) (waiter : Waiter) (what : Code) (size : ℕ) → IsLegalSoFar loose past
     → Says past op waiter → MayHaveOutcome waiter what size → HasOutcome past op what size
 outcome_fits past op waiter what size legal says fits =
     let kinds : kind_of says.call.word ≡ waiter.kind = ap (λ (w : Waiter). w.kind) says.is in
     let own : MayHaveOutcome (waiter_from (done_of past op) says.call) what size =
     subst (λ (w : Waiter). MayHaveOutcome w what size) (sym says.is) fits in
     let parts = fits_by past op (kind_of says.call.word) (done_of past op) what size
-    (λ is. says_no_posting past op waiter says (sym kinds ∙ is)) (posting_undone plain past legal op) own in
+    (λ is. says_no_posting past op waiter says (sym kinds ∙ is)) (posting_undone loose past legal op) own in
     record { posted = parts.0; done = parts.1 }
 
 refits_by : (past : List Line) (op : ℕ) (how : CallKind) (found : Option Completion) (what : Code) (size : ℕ)
@@ -365,8 +367,8 @@ some_number a b e = cc
 pub no_strand_free : (past : List Line) (thread op : ℕ) → strand_of past op ≡ None → IsFree past thread op
 no_strand_free past thread op none strand holder on holds = absurd (no_number strand (sym none ∙ on))
 
-pub no_strand_first : (past : List Line) (op : ℕ) → strand_of past op ≡ None → IsFirst past op
-no_strand_first past op none strand first on idle before = no_number strand (sym none ∙ on)
+pub no_strand_first : (past : List Line) (op : ℕ) → strand_of past op ≡ None → IsFirst plain past op
+no_strand_first past op none strand first level on idle before = no_number strand (sym none ∙ on)
 
 held_by : (o : Option ℕ) (thread : ℕ) → option_eq nat_eq o (Some thread) ≡ true → o ≡ Some thread
 held_by None thread is = cc
@@ -401,8 +403,8 @@ inside_free past checker after thread op strand mine held inside other holder on
     )
 
 pub held_first : (past : List Line) (checker : Checker) → IsAfter past checker → (thread op strand : ℕ)
-    → strand_of past op ≡ Some strand → holder_of checker.strands strand ≡ Some thread → IsFirst past op
-held_first past checker after thread op strand mine held other first on idle before =
+    → strand_of past op ≡ Some strand → holder_of checker.strands strand ≡ Some thread → IsFirst plain past op
+held_first past checker after thread op strand mine held other first level on idle before =
     let same : strand ≡ other = some_number strand other (sym mine ∙ on) in
     idle thread (subst (λ (s : ℕ). Holds past thread s) same (holder_holds past checker after thread strand held))
 

@@ -70,10 +70,10 @@ one_thread level [] legal op one other first second = cc
 one_thread level (line ∷ past) legal op one other first second =
     ⊎_elim
     (λ before. ⊎_elim (λ too. one_thread level past legal.0 op one other before too)
-    (λ starts. absurd (both_ways (is_begun past op) (beginner_waits level past line.thread op line.does legal.1
+    (λ starts. absurd (both_ways (is_begun past op) (beginner_waits level past line.thread op line.does legal.1.rules
     starts.1).not_begun (executes_begun past one op before))) (among-next past line other op second))
     (λ began. ⊎_elim (λ before. absurd (both_ways (is_begun past op)
-    (beginner_waits level past line.thread op line.does legal.1 began.1).not_begun (executes_begun past other op before)))
+    (beginner_waits level past line.thread op line.does legal.1.rules began.1).not_begun (executes_begun past other op before)))
     (λ starts. sym began.0 ∙ starts.0) (among-next past line other op second))
     (among-next past line one op first)
 
@@ -102,7 +102,7 @@ stack_apart level [] legal thread = tt
 stack_apart level (line ∷ past) legal thread =
     cond_both (line.thread == thread) (stack_after line.does (stack past thread)) (stack past thread)
     (λ (ops : List ℕ). AreApart ops)
-    (λ here. apart-after level past line.thread line.does legal.1 thread (stack_apart level past legal.0 thread))
+    (λ here. apart-after level past line.thread line.does legal.1.rules thread (stack_apart level past legal.0 thread))
     (λ elsewhere. stack_apart level past legal.0 thread)
 
 execution_is : (a b : ℕ) → Execution a ≡ Execution b → a ≡ b
@@ -129,7 +129,7 @@ pub dead_begun : (level : Level) (past : List Line) → IsLegalSoFar level past 
 dead_begun level [] legal op is = cc
 dead_begun level (line ∷ past) legal op is =
     ⊎_elim
-    (λ ends. let at = ender level past line.thread op line.does legal.1 ends in
+    (λ ends. let at = ender level past line.thread op line.does legal.1.rules ends in
     let there : is_among op (stack past line.thread) ≡ true =
     subst (λ (ops : List ℕ). is_among op ops ≡ true) (sym (frame_first (stack past line.thread) line.thread op at.0))
     (or_left (op == op) (is_among op (outer (stack past line.thread))) (eq-eqb op op refl)) in
@@ -154,11 +154,11 @@ executes_alive level [] legal thread op is = refl
 executes_alive level (line ∷ past) legal thread op is =
     let quiet : is_dead past (Execution op) ≡ false = ⊎_elim (λ before. executes_alive level past legal.0 thread op before)
     (λ starts. false_from_ne_true (is_dead past (Execution op))
-    (λ dead. both_ways (is_begun past op) (beginner_waits level past line.thread op line.does legal.1 starts.1).not_begun
+    (λ dead. both_ways (is_begun past op) (beginner_waits level past line.thread op line.does legal.1.rules starts.1).not_begun
     (dead_begun level past legal.0 op dead)))
     (among-next past line thread op is) in
     let goes_on : ends_frame line.does (Execution op) ≡ false = false_from_ne_true (ends_frame line.does (Execution op)) (λ ends.
-    let at = ender level past line.thread op line.does legal.1 ends in
+    let at = ender level past line.thread op line.does legal.1.rules ends in
     let first : stack past line.thread ≡ op ∷ outer (stack past line.thread) =
     frame_first (stack past line.thread) line.thread op at.0 in
     let there : is_among op (stack past line.thread) ≡ true =
@@ -172,7 +172,7 @@ executes_alive level (line ∷ past) legal thread op is =
     among-ended op (stack past line.thread) (stack_apart level past legal.0 line.thread) first
     (subst (λ (ops : List ℕ). is_among op ops ≡ true) (ap (λ (t : ℕ). stack_after line.does (stack past t)) (sym same)
     ∙ at.1) now_there))
-    (λ starts. both_ways (is_begun past op) (beginner_waits level past line.thread op line.does legal.1 starts.1).not_begun
+    (λ starts. both_ways (is_begun past op) (beginner_waits level past line.thread op line.does legal.1.rules starts.1).not_begun
     (executes_begun past line.thread op there))
     (among-next past line thread op is)) in
     rw (goes_on, quiet) refl
@@ -206,14 +206,14 @@ pub begun_called : (level : Level) (past : List Line) → IsLegalSoFar level pas
     → IsSome (call_of past op)
 begun_called level [] legal op is = cc
 begun_called level (line ∷ past) legal op is =
-    called-next level past line op legal.1
-    (⊎_elim (λ here. (beginner_waits level past line.thread op line.does legal.1 here).called)
+    called-next level past line op legal.1.rules
+    (⊎_elim (λ here. (beginner_waits level past line.thread op line.does legal.1.rules here).called)
     (λ before. begun_called level past legal.0 op before) (or_cases (begins line.does op) (is_begun past op) is))
 
 pub dropped_called : (level : Level) (past : List Line) → IsLegalSoFar level past → (op : ℕ) → is_dropped past op ≡ true
     → IsSome (call_of past op)
 dropped_called level [] legal op is = cc
 dropped_called level (line ∷ past) legal op is =
-    called-next level past line op legal.1
-    (⊎_elim (λ here. (dropper_waits level past line.thread op line.does legal.1 here).called)
+    called-next level past line op legal.1.rules
+    (⊎_elim (λ here. (dropper_waits level past line.thread op line.does legal.1.rules here).called)
     (λ before. dropped_called level past legal.0 op before) (or_cases (drops line.does op) (is_dropped past op) is))

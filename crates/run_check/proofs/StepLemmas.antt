@@ -10,8 +10,8 @@ use Rattle.run_rules.specs.declared.taking.Taking.{Taking}
 use Rattle.run_rules.specs.Stacks.{frame, stack}
 use Rattle.run_rules.specs.Calls.{strand_of}
 use Rattle.run_rules.specs.Takings.{taken, taken_after}
-use Rattle.run_rules.specs.MayCome.{MayCome, MayDo, marks}
-use Rattle.run_check.specs.After.{IsAfter, is_spent, let_in, plain, waiter_of}
+use Rattle.run_rules.specs.MayCome.{MayDo, marks}
+use Rattle.run_check.specs.After.{IsAfter, is_spent, let_in, loose, waiter_of}
 use Rattle.run_check.specs.Called.{called_by}
 use Rattle.run_check.specs.Entered.{entered_by, entered_last, entered_of}
 use Rattle.run_check.specs.Following.{CanPlace, GivesWhatIsTaken, execution_after, holder_after, innermost_after, place_after, spends, to_place, to_place_with, waiter_after}
@@ -30,7 +30,7 @@ use Rattle.run_check.proofs.FollowLemmas.{executing-next, executions-next, held-
 use Rattle.run_check.proofs.QueuedLemmas.{spot_of-next, unplaced_yet, unused_yet, waiter_strand}
 
 -- what a line gives back was taken, if it may come
-gives_taken : (past : List Line) (thread : ℕ) (does : Doing) → MayDo plain past thread does
+gives_taken : (past : List Line) (thread : ℕ) (does : Doing) → MayDo loose past thread does
     → GivesWhatIsTaken thread (frame past thread) does (taken past)
 gives_taken past thread (doing.Release thing) may = may.claimed
 gives_taken past thread (doing.Unlock lock) may = may.locked
@@ -81,7 +81,7 @@ pub record Follows (line : Line) (who : Frame) (own : Option ℕ) (entered : Opt
       → AreCounted (taken_after line.thread who line.does all) new.takings
 
 pub followed_after : (past : List Line) (line : Line) (who : Frame) (own : Option ℕ) (entered : Option (ℕ × ℕ))
-    (old new : Checker) → IsAfter past old → MayCome plain past line → Follows line who own entered old new
+    (old new : Checker) → IsAfter past old → MayDo loose past line.thread line.does → Follows line who own entered old new
     → who ≡ frame past line.thread → GoesWith past old.stacks line.thread line.does own
     → entered ≡ to_place (entered_of old.entered line.thread) (waiting_at old.waiting) → IsAfter (line ∷ past) new
 followed_after past line who own entered old new after may follows who_is goes entered_is =
@@ -89,7 +89,7 @@ followed_after past line who own entered old new after may follows who_is goes e
     entered_is ∙ ap (λ (o : Option ℕ). to_place o (waiting_at old.waiting)) (after.entered line.thread)
     ∙ to_place_same (entered_last past line.thread) (waiting_at old.waiting) (waiter_of past) after.waiting in
     record {
-      legal = (after.legal, may);
+      legal = (after.legal, record { rules = may; strict = λ strict. cc });
       lines = follows.lines ∙ ap (λ (n : ℕ). n + 1) after.lines ∙ one_more (length past);
       called = follows.called ∙ ap (option_or (called_by line.does)) after.called;
       marked = λ mark. follows.marked mark ∙ ap (λ (b : Bool). marks line.does mark || b) (after.marked mark);

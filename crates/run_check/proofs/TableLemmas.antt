@@ -1,7 +1,7 @@
 -- Tables that hold nothing.
 use Rattle.std.proofs.Common.{◌≡◌, ℕ, List, [], ◌∷◌, length, refl, sym, ◌∙◌, arith}
 use Rattle.std.proofs.lemmas.Bool.{eq-eqb}
-use Rattle.std.specs.Prelude.{◌==◌, ◌↔◌, true, Option, Some, None, nat_eq}
+use Rattle.std.specs.Prelude.{◌==◌, ◌↔◌, true, Some, None, nat_eq}
 use Rattle.std.specs.Map.{lookup}
 
 empty_none : {X : Type 0} (entries : List (ℕ × X)) → length entries ≡ 0 → (key : ℕ) → lookup (nat_eq key) entries ≡ None

@@ -9,6 +9,8 @@ use Rattle.run_lines.specs.declared.word.Word.TheVariants as word
 use Rattle.run_rules.specs.declared.frame.Frame.{Frame}
 use Rattle.run_rules.specs.declared.level.Level.{Level}
 use Rattle.run_rules.specs.declared.rule.Rule.{Rule}
+use Rattle.run_rules.specs.declared.level.Strictness.TheVariants as strictness
+pub use Rattle.run_rules.specs.Stacks.{first_of}
 use Rattle.run_rules.specs.Stacks.{stack}
 use Rattle.run_rules.specs.Calls.{Calling, Completion, call_of, done_of, is_begun, is_dropped, is_posting, strand_of}
 use Rattle.run_rules.specs.Against.{is_executing}
@@ -38,10 +40,6 @@ abbrev pub called_last : List Line → Option ℕ
 called_last [] = None
 called_last (line ∷ past) = option_or (called_by line.does) (called_last past)
 
-abbrev pub first_of : List ℕ → Option ℕ
-first_of [] = None
-first_of (op ∷ others) = Some op
-
 -- a frame that has ended
 abbrev pub is_dead : List Line → Frame → Bool
 is_dead past who = list_any (λ (line : Line). ends_frame line.does who) past
@@ -67,6 +65,7 @@ kind_of (word.Other letters) = kind.Asynchronous
 abbrev pub waiter_from : Option Completion → Calling → Waiter
 waiter_from completion call = record {
   kind = kind_of call.word;
+  context = call.context;
   strand = call.strand;
   thing = call.thing;
   caller = call.caller;
@@ -94,12 +93,16 @@ abbrev pub spot_of : List Line → ℕ → Option (ℕ × ℕ)
 spot_of past op = spot_from (is_spent past op) (strand_of past op) (placed_at past op)
 
 -- no more is asked than of every run
+abbrev pub loose : Level
+loose = record { streams = false; strictness = strictness.Loose }
+
+-- and what strands of Boost.Asio keep
 abbrev pub plain : Level
-plain = record { streams = false }
+plain = record { streams = false; strictness = strictness.Plain }
 
 -- a checker has followed these lines, all of which could come
 pub record IsAfter (past : List Line) (checker : Checker) : Type 0 where
-  pub legal : IsLegalSoFar plain past
+  pub legal : IsLegalSoFar loose past
   pub lines : checker.lines ≡ length past
   pub called : checker.greatest ≡ called_last past
   pub marked : (mark : ℕ) → has_mark checker.marks mark ≡ is_marked past mark
@@ -118,4 +121,4 @@ pub record IsAfter (past : List Line) (checker : Checker) : Type 0 where
 -- an answer that says whether a thread may do this next, or which rule it would break
 abbrev pub JudgesDoing : List Line → ℕ → Doing → Result (Unit {0}) Rule → Type 0
 JudgesDoing past thread does answer =
-    MatchResult answer (λ _. MayDo plain past thread does) (λ rule. BreaksByDoing plain past thread does rule)
+    MatchResult answer (λ _. MayDo loose past thread does) (λ rule. BreaksByDoing loose past thread does rule)

@@ -19,9 +19,10 @@ use Rattle.run_check.specs.declared.stacks.Execution.{Execution}
 use Rattle.run_check.specs.declared.waiting.Waiter.{Waiter}
 
 -- an operation that is called by the line at this place
-abbrev pub called : Word → Option ℕ → Option ℕ → Frame → ℕ → Waiter
-called word strand thing caller place = record {
+abbrev pub called : Word → ℕ → Option ℕ → Option ℕ → Frame → ℕ → Waiter
+called word context strand thing caller place = record {
   kind = kind_of word;
+  context = context;
   strand = strand;
   thing = thing;
   caller = caller;
@@ -34,6 +35,7 @@ called word strand thing caller place = record {
 abbrev pub completed : ℕ → Code → ℕ → Waiter → Waiter
 completed place code size waiter = record {
   kind = waiter.kind;
+  context = waiter.context;
   strand = waiter.strand;
   thing = waiter.thing;
   caller = waiter.caller;
@@ -45,7 +47,7 @@ completed place code size waiter = record {
 -- what is kept of any operation behind a line by this frame at this place
 abbrev pub waiter_after : Frame → ℕ → Doing → ℕ → Option Waiter → Option Waiter
 waiter_after caller place (doing.Call op word context strand thing) other before =
-    if op == other then Some (called word strand thing caller place) else before
+    if op == other then Some (called word context strand thing caller place) else before
 waiter_after caller place (doing.Done op code size) other before =
     if op == other then option_map (completed place code size) before else before
 waiter_after caller place (doing.Begin op code size) other before = if op == other then None else before

@@ -1,5 +1,5 @@
 -- What the checker answers, by what it keeps.
-use Rattle.std.specs.Prelude.{ℕ, Bool, true, false, ◌==◌, ◌&&◌, nat_lt, nat_le, if◌then◌else◌, Option, Some, None, Result, Ok, Err}
+use Rattle.std.specs.Prelude.{ℕ, Bool, true, false, ◌==◌, ◌&&◌, nat_lt, nat_le, not, if◌then◌else◌, Option, Some, None, Result, Ok, Err}
 use Rattle.std.specs.Option.{option_map}
 use Rattle.run_rules.specs.declared.rule.Rule.{Rule}
 use Rattle.run_rules.specs.declared.rule.Rule.TheVariants as rule
@@ -35,9 +35,14 @@ completion_judged (Some waiter) = by_kind waiter.kind waiter.outcome
     by_kind kind.Asynchronous (Some outcome) = Err rule.DoneOnce
 
 -- whether a strand that this thread holds, or nobody, lets an operation in
-abbrev pub start_judged : Option ℕ → ℕ → Bool → Bool → Judged
-start_judged None thread inside later = if later then Err rule.First else Ok tt
-start_judged (Some holder) thread inside later = if holder == thread && inside then Ok tt else Err rule.Free
+abbrev pub start_judged : Option ℕ → ℕ → Bool → Judged
+start_judged None thread inside = Ok tt
+start_judged (Some holder) thread inside = if holder == thread && inside then Ok tt else Err rule.Free
+
+-- whether an operation is the first of a strand, unless somebody holds that
+abbrev pub is_first_by : Option ℕ → Bool → Bool
+is_first_by None later = not later
+is_first_by (Some holder) later = true
 
 abbrev pub end_judged : Option ℕ → ℕ → Bool → Judged
 end_judged None op taken = Err rule.Innermost

@@ -13,3 +13,5 @@ pub mod Beginning
 pub mod Following
 pub mod Called
 pub mod Steps
+pub mod Ready
+pub mod Strict

@@ -4,16 +4,16 @@ ghost use Rattle.run_lines.specs.declared.line.Doing.{Doing};
 ghost use Rattle.run_lines.specs.declared.word.Word.{Word};
 ghost use Rattle.run_lines.specs.declared.code.Code.{Code};
 ghost use Rattle.run_rules.specs.declared.taking.Resource.{Resource};
-ghost use Rattle.run_rules.specs.Breaks.{BreaksRule};
-ghost use Rattle.run_rules.specs.MayCome.{MayCome, MayDo, IsUntouched, IsTaken};
+ghost use Rattle.run_rules.specs.Breaks.{BreaksByDoing};
+ghost use Rattle.run_rules.specs.MayCome.{MayDo, IsUntouched, IsTaken};
 ghost use Rattle.std.specs.Option.{option_or};
 ghost use Rattle.run_check.specs.Called.{called_by};
 ghost use Rattle.run_rules.specs.declared.frame.Frame.{Frame};
 
 use crate::entered::Entered;
 use crate::judging::{
-    asked, is_above, is_number, is_upto, judge_completion, judge_end, judge_start, let_in_by,
-    may_have_outcome, place_upto,
+    asked, is_above, is_first_by, is_number, is_upto, judge_completion, judge_end, judge_start,
+    let_in_by, may_have_outcome, place_upto,
 };
 use crate::last_calls::LastCalls;
 use crate::marks::Marks;
@@ -65,17 +65,18 @@ fn is_execution(who: Frame, op: u64) -> bool
 }
 
 impl Checker {
-    ghost use Rattle.run_check.specs.After.{IsAfter, JudgesDoing, called_last, is_spent, let_in, plain, waiter_of};
+    ghost use Rattle.run_check.specs.After.{IsAfter, JudgesDoing, called_last, is_spent, let_in, loose, plain, waiter_of};
     ghost use Rattle.run_rules.specs.Against.{StandsLongest, is_executing};
     ghost use Rattle.run_check.specs.Steps.{GoesWith, Steps};
     ghost use Rattle.run_check.specs.Entered.{entered_last, entered_of};
     ghost use Rattle.run_check.specs.Following.{to_place};
     ghost use Rattle.run_check.specs.Waiting.{waiting_at};
-    ghost use Rattle.run_rules.specs.Stacks.{frame, stack};
-    ghost use Rattle.run_rules.specs.Starting.{Holds};
+    ghost use Rattle.std.specs.List.{list_any};
+    ghost use Rattle.run_rules.specs.Stacks.{first_of, frame, stack};
+    ghost use Rattle.run_rules.specs.Starting.{Holds, IsFirst, is_on};
     ghost use Rattle.run_rules.specs.Takings.{has_taken, is_taken_by, taken};
     ghost use Rattle.run_rules.specs.MayCome.{last_call};
-    ghost use Rattle.run_rules.specs.Calls.{Waits, strand_of};
+    ghost use Rattle.run_rules.specs.Calls.{Waits, context_of, strand_of};
     ghost use Rattle.run_check.specs.Beginning.{BeginsInside, MayHaveOutcome, SomeGoesBefore};
 
     /// A checker that has followed nothing.
@@ -146,6 +147,20 @@ impl Checker {
         self.strands.holder(strand)
     }
 
+    /// Whether a thread holds a strand.
+    pub(crate) fn holds(&self, thread: u64, strand: u64) -> bool
+        ensures { (past : List Line) → IsAfter past self.now → result ≡ list_any (is_on past strand) (stack past thread) }
+    {
+        is_number(self.strands.holder(strand), thread)
+    }
+
+    /// The innermost execution of a thread.
+    pub fn innermost(&self, thread: u64) -> Option<u64>
+        ensures { (past : List Line) → IsAfter past self.now → result ≡ first_of (stack past thread) }
+    {
+        self.stacks.innermost(thread)
+    }
+
     /// Since which place that operation is known to stand in the queue that has to begin before this
     /// one, which waits, and that stands there longest.
     pub fn longest(&self, op: u64) -> Option<u64>
@@ -173,6 +188,13 @@ impl Checker {
         ensures { (past : List Line) → IsAfter past self.now → Waits past op → result ≡ strand_of past op }
     {
         self.waiting.strand(op)
+    }
+
+    /// The context of an operation that waits.
+    pub fn context(&self, op: u64) -> Option<u64>
+        ensures { (past : List Line) → IsAfter past self.now → Waits past op → result ≡ context_of past op }
+    {
+        self.waiting.context(op)
     }
 
     /// Whether the handler of an operation has begun, and hasn't ended.
@@ -259,6 +281,28 @@ impl Checker {
         is_upto(self.queues.first(strand), entry)
     }
 
+    /// Whether an operation that is known to wait is the first of this strand, if nobody holds that.
+    fn is_first_on(&self, strand: u64, waiter: &Waiter) -> bool
+        ensures { (past : List Line) → IsAfter past self.now → (op : ℕ) → waiter_of past op ≡ Some waiter.now →
+            waiter.now.strand ≡ Some strand → IsTrue result ↔ IsFirst plain past op }
+    {
+        let later = self.comes_later(strand, waiter.entry);
+        is_first_by(self.strands.holder(strand), later)
+    }
+
+    /// Whether no other operation has to begin before this one, which waits, if nobody holds its strand.
+    pub fn is_first(&self, op: u64) -> bool
+        ensures { (past : List Line) → IsAfter past self.now → Waits past op → IsTrue result ↔ IsFirst plain past op }
+    {
+        match self.waiting.get(op) {
+            None => true,
+            Some(waiter) => match waiter.strand {
+                None => true,
+                Some(strand) => self.is_first_on(strand, &waiter),
+            },
+        }
+    }
+
     /// Whether an operation that waits and has this outcome may begin, as far as its strand has a say.
     fn may_start(&self, thread: u64, waiter: &Waiter) -> Result<(), Rule>
         ensures { (past : List Line) (op : ℕ) (code : Code) (size : ℕ) → IsAfter past self.now →
@@ -269,8 +313,7 @@ impl Checker {
             None => Ok(()),
             Some(strand) => {
                 let inside = self.is_inside(thread, waiter);
-                let later = self.comes_later(strand, waiter.entry);
-                judge_start(self.strands.holder(strand), thread, inside, later)
+                judge_start(self.strands.holder(strand), thread, inside)
             }
         }
     }
@@ -344,10 +387,10 @@ impl Checker {
         asked(self.marks.has(mark), Rule::Marked)
     }
 
-    /// Whether this line may come next.
+    /// Whether this line may come next, as far as no order is asked.
     pub fn may_come(&self, line: &Line) -> Result<(), Rule>
         ensures { (past : List Line) → IsAfter past self.now →
-            MatchResult result (λ _. MayCome plain past line.now) (λ rule. BreaksRule plain past line.now rule) }
+            MatchResult result (λ _. MayDo loose past line.now.thread line.now.does) (λ rule. BreaksByDoing loose past line.now.thread line.now.does rule) }
     {
         let thread = line.thread;
         match line.does {
@@ -391,7 +434,7 @@ impl Checker {
 
     /// The strand that goes with a line: what a begin lets in, and what an end lets go.
     fn strand_with(&self, thread: u64, does: &Doing) -> Option<u64>
-        ensures { (past : List Line) → IsAfter past self.now → MayDo plain past thread does.now →
+        ensures { (past : List Line) → IsAfter past self.now → MayDo loose past thread does.now →
             GoesWith past self.now.stacks thread does.now result }
     {
         match *does {
@@ -413,7 +456,7 @@ impl Checker {
     /// Follows a line that may come. Where there is no room, nothing is said of what was kept.
     pub fn follow(&mut self, line: &Line) -> Result<(), NoRoom>
         ensures { IfOk result
-            (λ _. (past : List Line) → IsAfter past self.old → MayCome plain past line.now → IsAfter (line.now ∷ past) self.new) }
+            (λ _. (past : List Line) → IsAfter past self.old → MayDo loose past line.now.thread line.now.does → IsAfter (line.now ∷ past) self.new) }
     {
         let thread = line.thread;
         let frame = self.stacks.frame(thread);

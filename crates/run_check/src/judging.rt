@@ -1,6 +1,6 @@
 ghost use Rattle.std.specs.Prelude.{◌≡◌, ◌↔◌, IsTrue};
 ghost use Rattle.run_check.specs.Beginning.{MayHaveOutcome};
-ghost use Rattle.run_check.specs.Judging.{asked, is_above, is_number, completion_judged, start_judged, end_judged, is_upto, let_in_by, place_upto};
+ghost use Rattle.run_check.specs.Judging.{asked, is_above, is_first_by, is_number, completion_judged, start_judged, end_judged, is_upto, let_in_by, place_upto};
 
 use crate::waiting::{CallKind, Waiter};
 use run_lines::Code;
@@ -61,15 +61,9 @@ pub(crate) fn judge_completion(waiter: Option<Waiter>) -> Result<(), Rule>
     }
 }
 
-/// Whether a strand lets an operation in: one that is held by this thread only inside, one that
-/// nobody holds only what doesn't come later than another.
-pub(crate) fn judge_start(
-    holder: Option<u64>,
-    thread: u64,
-    inside: bool,
-    later: bool,
-) -> Result<(), Rule>
-    ensures { result ≡ start_judged holder thread inside later }
+/// Whether a strand lets an operation in: one that is held by this thread only inside.
+pub(crate) fn judge_start(holder: Option<u64>, thread: u64, inside: bool) -> Result<(), Rule>
+    ensures { result ≡ start_judged holder thread inside }
 {
     match holder {
         Some(holder) => {
@@ -79,7 +73,17 @@ pub(crate) fn judge_start(
                 Err(Rule::Free)
             }
         }
-        None => { if later { Err(Rule::First) } else { Ok(()) } }
+        None => Ok(()),
+    }
+}
+
+/// Whether an operation is the first of a strand, unless somebody holds that.
+pub(crate) fn is_first_by(holder: Option<u64>, later: bool) -> bool
+    ensures { result ≡ is_first_by holder later }
+{
+    match holder {
+        Some(_) => true,
+        None => !later,
     }
 }
 

@@ -9,13 +9,16 @@ mod judging;
 mod last_calls;
 mod marks;
 mod queues;
+mod ready;
 mod refusal;
 mod stacks;
 mod strands;
+mod strict;
 mod tables;
 mod takings;
 mod waiting;
 
 pub use checker::Checker;
 pub use refusal::{NoRoom, Refusal};
+pub use strict::Strict;
 pub use waiting::{CallKind, Outcome, Waiter};

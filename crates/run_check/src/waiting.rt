@@ -1,6 +1,8 @@
 ghost use Rattle.std.specs.Prelude.{◌≡◌, ◌==◌, ◌↔◌, if◌then◌else◌, IfOk, ℕ, Some, None, is_some};
-ghost use Rattle.std.specs.Option.{option_and_then};
+ghost use Rattle.std.specs.Option.{option_and_then, option_map};
 ghost use Rattle.run_check.specs.declared.waiting.Waiter.{Waiter};
+ghost use Rattle.run_rules.specs.Calls.{is_posting};
+ghost use Rattle.run_check.specs.After.{kind_of};
 ghost use Rattle.run_check.specs.Following.{called, completed, waiter_after};
 ghost use Rattle.run_check.specs.Waiting.{waiting_at};
 
@@ -32,6 +34,7 @@ pub enum CallKind {
 #[derive(Clone, Copy)]
 pub struct Waiter {
     pub kind: CallKind,
+    pub context: u64,
     pub strand: Option<u64>,
     pub thing: Option<u64>,
     pub caller: Frame,
@@ -42,38 +45,47 @@ pub struct Waiter {
     pub outcome: Option<Outcome>,
 }
 
-/// An operation that is called by this line.
-fn called(word: Word, strand: Option<u64>, thing: Option<u64>, caller: Frame, place: u64) -> Waiter
-    ensures { result ≡ called word strand thing caller place }
+/// How a word calls.
+fn kind_of(word: &Word) -> CallKind
+    ensures { result ≡ kind_of word.now }
 {
-    match word {
-        Word::Post | Word::Defer => Waiter {
-            kind: CallKind::Posting,
-            strand,
-            thing,
-            caller,
-            place,
-            entry: Some(place),
-            outcome: None,
-        },
-        Word::Dispatch => Waiter {
-            kind: CallKind::Dispatch,
-            strand,
-            thing,
-            caller,
-            place,
-            entry: Some(place),
-            outcome: None,
-        },
-        Word::Other(_) => Waiter {
-            kind: CallKind::Asynchronous,
-            strand,
-            thing,
-            caller,
-            place,
-            entry: None,
-            outcome: None,
-        },
+    match *word {
+        Word::Post | Word::Defer => CallKind::Posting,
+        Word::Dispatch => CallKind::Dispatch,
+        Word::Other(_) => CallKind::Asynchronous,
+    }
+}
+
+/// The place of a call that submits its handler itself.
+fn entry_by(word: &Word, place: u64) -> Option<u64>
+    ensures { result ≡ (if is_posting word.now then Some place else None) }
+{
+    match *word {
+        Word::Post | Word::Defer | Word::Dispatch => Some(place),
+        Word::Other(_) => None,
+    }
+}
+
+/// An operation that is called by this line.
+fn called(
+    word: &Word,
+    context: u64,
+    strand: Option<u64>,
+    thing: Option<u64>,
+    caller: Frame,
+    place: u64,
+) -> Waiter
+    ensures { result ≡ called word.now context strand thing caller place }
+{
+    Waiter {
+        kind: kind_of(word),
+        context,
+        strand,
+        thing,
+        caller,
+        place,
+        entry: entry_by(word, place),
+        outcome: None,
     }
 }
 
@@ -141,6 +153,16 @@ impl Waiting {
         }
     }
 
+    /// The context of an operation that waits.
+    pub(crate) fn context(&self, op: u64) -> Option<u64>
+        ensures { result ≡ option_map (λ (w : Waiter). w.context) (waiting_at self.now op) }
+    {
+        match self.get(op) {
+            Some(waiter) => Some(waiter.context),
+            None => None,
+        }
+    }
+
     /// Follows a line by this frame at this place.
     pub(crate) fn follow(
         &mut self,
@@ -156,10 +178,10 @@ impl Waiting {
             Doing::Call {
                 op,
                 word,
+                context,
                 strand,
                 thing,
-                ..
-            } => self.put(op, called(word, strand, thing, caller, place)),
+            } => self.put(op, called(&word, context, strand, thing, caller, place)),
             Doing::Done { op, code, size } => match self.get(op) {
                 Some(waiter) => self.put(op, completed(waiter, place, code, size)),
                 None => Ok(()),

@@ -1,4 +1,5 @@
-use run_rules::Level;
+use run_picture::Window;
+use run_rules::{Level, Strictness};
 
 /// What is asked of a run.
 #[derive(Clone, Copy, Debug, PartialEq, Eq)]
@@ -7,10 +8,12 @@ pub enum Question {
     Check,
     /// The verdict, and which line stands against the one that breaks a rule.
     Why,
+    /// A picture of the lines of a window.
+    Picture { window: Window },
 }
 
 /// A command: what is asked, at which level, of which file. The file `-` is standard input, of which
-/// only the verdict can be asked.
+/// `why` can't be asked.
 #[derive(Clone, Copy)]
 pub struct Form<'a> {
     pub question: Question,
@@ -18,29 +21,68 @@ pub struct Form<'a> {
     pub file: &'a str,
 }
 
+/// What is asked where no option is given.
+const PLAIN: Level = Level {
+    streams: false,
+    strictness: Strictness::Plain,
+};
+
 /// The command that the words behind the program's name are.
 pub fn form_of(words: &[String]) -> Option<Form<'_>> {
+    let [first, ..] = words else {
+        return None;
+    };
+    if first.as_bytes() == b"picture".as_slice() {
+        picture_of(words)
+    } else {
+        verdict_of(words)
+    }
+}
+
+/// A command for a verdict.
+fn verdict_of(words: &[String]) -> Option<Form<'_>> {
     match words {
-        [question, file] => form_by(question.as_str(), false, file.as_str()),
+        [question, file] => form_by(question.as_str(), PLAIN, file.as_str()),
         [question, option, file] => {
-            if option.as_bytes() == b"--streams".as_slice() {
-                form_by(question.as_str(), true, file.as_str())
-            } else {
-                None
-            }
+            form_by(
+                question.as_str(),
+                with(PLAIN, option.as_str())?,
+                file.as_str(),
+            )
+        }
+        [question, one, other, file] => {
+            let level = with(with(PLAIN, one.as_str())?, other.as_str())?;
+            form_by(question.as_str(), level, file.as_str())
         }
         _ => None,
     }
 }
 
-fn form_by<'a>(word: &str, streams: bool, file: &'a str) -> Option<Form<'a>> {
+/// A level with what this option asks for, too.
+fn with(level: Level, option: &str) -> Option<Level> {
+    if option.as_bytes() == b"--streams".as_slice() {
+        Some(Level {
+            streams: true,
+            strictness: level.strictness,
+        })
+    } else if option.as_bytes() == b"--strict".as_slice() {
+        Some(Level {
+            streams: level.streams,
+            strictness: Strictness::Strict,
+        })
+    } else {
+        None
+    }
+}
+
+fn form_by<'a>(word: &str, level: Level, file: &'a str) -> Option<Form<'a>> {
     let question = question_of(word)?;
     if question == Question::Why && file.as_bytes() == b"-".as_slice() {
         return None;
     }
     Some(Form {
         question,
-        level: Level { streams },
+        level,
         file,
     })
 }
@@ -53,4 +95,63 @@ fn question_of(word: &str) -> Option<Question> {
     } else {
         None
     }
+}
+
+/// The ends of a window as they are asked for.
+#[derive(Clone, Copy)]
+struct Ends {
+    from: u64,
+    to: u64,
+}
+
+/// All lines, as far as they are drawn.
+const ALL: Ends = Ends {
+    from: 1,
+    to: u64::MAX,
+};
+
+/// A command for a picture.
+fn picture_of(words: &[String]) -> Option<Form<'_>> {
+    match words {
+        [_, file] => picture_by(ALL, file.as_str()),
+        [_, file, option, number] => {
+            let ends = with_end(ALL, option.as_str(), number.as_str())?;
+            picture_by(ends, file.as_str())
+        }
+        [_, file, one, first, other, second] => {
+            let ends = with_end(ALL, one.as_str(), first.as_str())?;
+            let ends = with_end(ends, other.as_str(), second.as_str())?;
+            picture_by(ends, file.as_str())
+        }
+        _ => None,
+    }
+}
+
+/// A window with the end that this option names.
+fn with_end(ends: Ends, option: &str, number: &str) -> Option<Ends> {
+    let Ok(line) = number.parse::<u64>() else {
+        return None;
+    };
+    if option.as_bytes() == b"--from".as_slice() {
+        Some(Ends {
+            from: line,
+            to: ends.to,
+        })
+    } else if option.as_bytes() == b"--to".as_slice() {
+        Some(Ends {
+            from: ends.from,
+            to: line,
+        })
+    } else {
+        None
+    }
+}
+
+fn picture_by(ends: Ends, file: &str) -> Option<Form<'_>> {
+    let window = Window::of(ends.from, ends.to);
+    Some(Form {
+        question: Question::Picture { window },
+        level: PLAIN,
+        file,
+    })
 }

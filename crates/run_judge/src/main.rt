@@ -2,49 +2,73 @@
 #![tactic(auto)]
 
 mod form;
+mod naming;
 mod session;
 mod status;
 
-use crate::form::{Form, form_of};
-use crate::session::{check, is_why, why};
+use crate::form::{Form, Question, form_of};
+use crate::session::{Sources, check, picture, why};
 use crate::status::Status;
-use asio_types::{Sink, StdSink, StdSource, write_all};
+use asio_types::{Sink, Source, StdSink, StdSource, write_all};
 use std::fs::File;
 use std::process::ExitCode;
 use text_io::{NoWords, words_of};
 
-/// Judges the run in the file that a command names.
-fn judge_file<K: Sink>(rt: &HostRuntime, form: &Form<'_>, out: &mut K) -> Status {
+/// The verdict on the run in the file that a command names, and what stands against it.
+fn explain<K: Sink>(rt: &HostRuntime, form: &Form<'_>, out: &mut K) -> Status {
+    let Ok(first) = File::open(rt, form.file) else {
+        return Status::ReadFault;
+    };
+    let (Ok(second), Ok(third)) = (File::open(rt, form.file), File::open(rt, form.file)) else {
+        return Status::ReadFault;
+    };
+    let mut sources = Sources {
+        first: StdSource::of(first),
+        second: StdSource::of(second),
+        third: StdSource::of(third),
+    };
+    why(rt.alloc(), form, &mut sources, out)
+}
+
+/// What is asked of the run that a source gives.
+fn answer<S: Source, K: Sink + Drop, N: Sink>(
+    rt: &HostRuntime,
+    form: &Form<'_>,
+    source: &mut S,
+    mut out: K,
+    notes: &mut N,
+) -> Status {
+    match form.question {
+        Question::Check => check(rt.alloc(), form, source, &mut out),
+        Question::Why => explain(rt, form, &mut out),
+        Question::Picture { window } => picture(rt.alloc(), window, source, out, notes),
+    }
+}
+
+/// What is asked of the run that a command names.
+fn judge<K: Sink + Drop, N: Sink>(
+    rt: &HostRuntime,
+    form: &Form<'_>,
+    out: K,
+    notes: &mut N,
+) -> Status {
+    if form.file.as_bytes() == b"-".as_slice() {
+        let mut source = StdSource::of(rt.stdin());
+        return answer(rt, form, &mut source, out, notes);
+    }
     let Ok(file) = File::open(rt, form.file) else {
         return Status::ReadFault;
     };
     let mut source = StdSource::of(file);
-    if !is_why(form) {
-        return check(rt.alloc(), form, &mut source, out);
-    }
-    let Ok(again) = File::open(rt, form.file) else {
-        return Status::ReadFault;
-    };
-    let mut second = StdSource::of(again);
-    why(rt.alloc(), form, &mut source, &mut second, out)
-}
-
-/// Judges the run that a command names.
-fn judge<K: Sink>(rt: &HostRuntime, form: &Form<'_>, out: &mut K) -> Status {
-    if form.file.as_bytes() == b"-".as_slice() {
-        let mut source = StdSource::of(rt.stdin());
-        check(rt.alloc(), form, &mut source, out)
-    } else {
-        judge_file(rt, form, out)
-    }
+    answer(rt, form, &mut source, out, notes)
 }
 
 fn main(rt: HostRuntime) -> ExitCode {
-    let mut out = StdSink::of(rt.stdout());
+    let out = StdSink::of(rt.stdout());
     let mut notes = StdSink::of(rt.stderr());
     let status = match words_of(&rt) {
         Ok(words) => match form_of(words.as_slice()) {
-            Some(form) => judge(&rt, &form, &mut out),
+            Some(form) => judge(&rt, &form, out, &mut notes),
             None => Status::Usage,
         },
         Err(NoWords::Unreadable) => Status::Usage,

@@ -1,12 +1,24 @@
-use crate::form::{Form, Question};
+use crate::form::Form;
+use crate::naming::names_of;
 use crate::status::Status;
-use asio_types::{Sink, Source};
+use asio_types::{Sink, Source, write_all};
+use run_names::Names;
+use run_picture::{Scene, Unread, Window, read_scene, write_picture};
 use run_reader::LineReader;
 use run_verdict::{
     Against, Ending, Judge, NotTold, find_against, judge_run, take_run, write_against,
     write_ending, write_owed_lines,
 };
 use std::alloc::Global;
+use text_io::{BufferedSink, write_field};
+
+/// The same run, to be read three times.
+#[derive(Drop)]
+pub struct Sources<S> {
+    pub first: S,
+    pub second: S,
+    pub third: S,
+}
 
 /// Writes what came of a run, and answers the status.
 fn say<K: Sink>(out: &mut K, ending: &Ending) -> Status {
@@ -30,9 +42,9 @@ pub fn check<S: Source, K: Sink>(
 }
 
 /// Writes which line stands against the one that breaks a rule, and answers the status.
-fn say_against<K: Sink>(out: &mut K, against: Option<Against>) -> Status {
+fn say_against<K: Sink>(out: &mut K, names: &Names, against: Option<Against>) -> Status {
     match against {
-        Some(against) => match write_against(out, &against) {
+        Some(against) => match write_against(out, names, &against) {
             Ok(()) => Status::NotLegal,
             Err(_) => Status::WriteFault,
         },
@@ -55,10 +67,11 @@ fn answer_against<S: Source, K: Sink>(
     again: &mut Judge,
     ending: &Ending,
     second: &mut S,
+    names: &Names,
     out: &mut K,
 ) -> Status {
     match find_against(reader, judge, again, ending, second) {
-        Ok(against) => say_against(out, against),
+        Ok(against) => say_against(out, names, against),
         Err(ending) => status_again(&ending),
     }
 }
@@ -70,12 +83,41 @@ fn answer_owed<S: Source, K: Sink>(
     again: &mut Judge,
     lines: u64,
     second: &mut S,
+    names: &Names,
     out: &mut K,
 ) -> Status {
-    match write_owed_lines(reader, judge, again, second, lines, out) {
+    match write_owed_lines(reader, judge, again, second, lines, names, out) {
         Ok(()) => Status::NotLegal,
         Err(NotTold::Unwritten) => Status::WriteFault,
         Err(NotTold::Unread { ending }) => status_again(&ending),
+    }
+}
+
+/// What stands against the verdict of a judge, or what is under way, in the names of the run.
+fn answer_why<S: Source, K: Sink>(
+    alloc: Global,
+    judge: &Judge,
+    form: &Form<'_>,
+    ending: &Ending,
+    second: &mut S,
+    names: &Names,
+    out: &mut K,
+) -> Status {
+    let Ok(mut reader) = LineReader::make(alloc) else {
+        return Status::NoMemory;
+    };
+    let mut again = Judge::new(alloc, form.level);
+    match ending {
+        Ending::SoFar { lines, .. } => answer_owed(
+            &mut reader,
+            judge,
+            &mut again,
+            *lines,
+            second,
+            names,
+            out,
+        ),
+        _ => answer_against(&mut reader, judge, &mut again, ending, second, names, out),
     }
 }
 
@@ -84,47 +126,77 @@ fn answer<S: Source, K: Sink>(
     alloc: Global,
     judge: &mut Judge,
     form: &Form<'_>,
-    first: &mut S,
-    second: &mut S,
+    sources: &mut Sources<S>,
     out: &mut K,
 ) -> Status {
-    let (Ok(mut reader), Ok(mut reader_again)) = (LineReader::make(alloc), LineReader::make(alloc))
-    else {
+    let Ok(mut reader) = LineReader::make(alloc) else {
         return Status::NoMemory;
     };
-    let ending = take_run(&mut reader, judge, first);
+    let ending = take_run(&mut reader, judge, &mut sources.first);
     let status = say(out, &ending);
     if status != Status::NotLegal {
         return status;
     }
-    let mut again = Judge::new(alloc, form.level);
-    match ending {
-        Ending::SoFar { lines, .. } => answer_owed(
-            &mut reader_again,
+    match names_of(alloc, &mut sources.third) {
+        Ok(names) => answer_why(
+            alloc,
             judge,
-            &mut again,
-            lines,
-            second,
+            form,
+            &ending,
+            &mut sources.second,
+            &names,
             out,
         ),
-        _ => answer_against(&mut reader_again, judge, &mut again, &ending, second, out),
+        Err(_) => Status::NoMemory,
     }
 }
 
 /// The verdict on a run, and which line stands against the one that breaks a rule, or which lines tell
-/// of what is under way at the end. The same run has to be read twice.
+/// of what is under way at the end. The same run is read once more for each of both, and for the names.
 pub fn why<S: Source, K: Sink>(
     alloc: Global,
     form: &Form<'_>,
-    first: &mut S,
-    second: &mut S,
+    sources: &mut Sources<S>,
     out: &mut K,
 ) -> Status {
     let mut judge = Judge::new(alloc, form.level);
-    answer(alloc, &mut judge, form, first, second, out)
+    answer(alloc, &mut judge, form, sources, out)
 }
 
-/// Whether a second reading is asked for.
-pub fn is_why(form: &Form<'_>) -> bool {
-    form.question == Question::Why
+/// Writes a picture behind a buffer.
+fn draw<K: Sink + Drop>(alloc: Global, out: K, scene: &Scene) -> Status {
+    let Ok(mut buffered) = BufferedSink::make(alloc, out, 32_768) else {
+        return Status::NoMemory;
+    };
+    let Ok(()) = write_picture(&mut buffered, scene) else {
+        return Status::WriteFault;
+    };
+    match buffered.flush() {
+        Ok(()) => Status::Legal,
+        Err(_) => Status::WriteFault,
+    }
+}
+
+/// Notes that a line is none of a run.
+fn note_bad<N: Sink>(notes: &mut N, at: u64) -> Status {
+    let number = at.min(u32::MAX as u64) as u32;
+    let _ = write_field(notes, b"run_judge: bad run at line ", number);
+    let _ = write_all(notes, b"\n");
+    Status::Bad
+}
+
+/// A picture of the lines of a window.
+pub fn picture<S: Source, K: Sink + Drop, N: Sink>(
+    alloc: Global,
+    window: Window,
+    source: &mut S,
+    out: K,
+    notes: &mut N,
+) -> Status {
+    match read_scene(alloc, source, window) {
+        Ok(scene) => draw(alloc, out, &scene),
+        Err(Unread::Bad { at }) => note_bad(notes, at),
+        Err(Unread::ReadFault) => Status::ReadFault,
+        Err(Unread::NoMemory) => Status::NoMemory,
+    }
 }

@@ -50,7 +50,8 @@ impl Status {
     pub fn note(self) -> &'static [u8] {
         match self {
             Status::Legal | Status::Bad | Status::NotLegal => b"",
-            Status::Usage => b"run_judge: usage: run_judge check|why [--streams] FILE\n",
+            Status::Usage => b"run_judge: usage: run_judge check|why [--streams] [--strict] FILE, \
+                or run_judge picture FILE [--from LINE] [--to LINE]\n",
             Status::ReadFault => b"run_judge: read fault\n",
             Status::WriteFault => b"run_judge: write fault\n",
             Status::NoMemory => b"run_judge: no memory\n",

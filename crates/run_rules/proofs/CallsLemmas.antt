@@ -10,7 +10,7 @@ use Rattle.run_rules.specs.declared.frame.Frame.{Frame}
 use Rattle.run_rules.specs.declared.level.Level.{Level}
 use Rattle.run_rules.specs.Stacks.{frame}
 use Rattle.run_rules.specs.Calls.{Calling, call_in, call_of, strand_of}
-use Rattle.run_rules.specs.MayCome.{MayDo, MayCome}
+use Rattle.run_rules.specs.MayCome.{MayDo}
 
 -- a line that may come calls no operation that was called before
 pub call_in-called : (level : Level) (past : List Line) (caller : Frame) (thread by place op : ℕ)
@@ -22,20 +22,20 @@ call_in-called level past caller thread by place op (doing.Call number word cont
 call_in-called level past caller thread by place op _ may called = refl
 
 -- the call of an operation stays its call
-pub call_of-next : (level : Level) (past : List Line) (line : Line) (op : ℕ) → MayCome level past line →
+pub call_of-next : (level : Level) (past : List Line) (line : Line) (op : ℕ) → MayDo level past line.thread line.does →
     IsSome (call_of past op) → call_of (line ∷ past) op ≡ call_of past op
 call_of-next level past line op may called =
     ap (λ (o : Option Calling). option_or o (call_of past op))
     (call_in-called level past (frame past line.thread) line.thread line.thread (length past) op line.does may called)
 
 -- so does its strand
-pub strand_of-next : (level : Level) (past : List Line) (line : Line) (op : ℕ) → MayCome level past line →
+pub strand_of-next : (level : Level) (past : List Line) (line : Line) (op : ℕ) → MayDo level past line.thread line.does →
     IsSome (call_of past op) → strand_of (line ∷ past) op ≡ strand_of past op
 strand_of-next level past line op may called =
     ap (λ (o : Option Calling). option_and_then (λ (call : Calling). call.strand) o) (call_of-next level past line op may called)
 
 -- what is called stays called
-pub called-next : (level : Level) (past : List Line) (line : Line) (op : ℕ) → MayCome level past line →
+pub called-next : (level : Level) (past : List Line) (line : Line) (op : ℕ) → MayDo level past line.thread line.does →
     IsSome (call_of past op) → IsSome (call_of (line ∷ past) op)
 called-next level past line op may called = let P : Option Calling → Type 0 =
     λ o. IsSome o in subst P (sym (call_of-next level past line op may called)) called

@@ -3,3 +3,4 @@ pub mod SpentLemmas
 pub mod StrandLemmas
 pub mod TakingLemmas
 pub mod VerdictLemmas
+pub mod NestingLemmas

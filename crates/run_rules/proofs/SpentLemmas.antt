@@ -54,7 +54,7 @@ pub spend_once : (level : Level) (past : List Line) → IsLegalSoFar level past 
 spend_once level [] legal op = omega arith
 spend_once level (line ∷ past) legal op =
     ⊎_elim
-    (λ spends. let waits : Waits past op = spender_waits level past line.thread op line.does legal.1 spends in
+    (λ spends. let waits : Waits past op = spender_waits level past line.thread op line.does legal.1.rules spends in
     let none : times_spent past op ≡ 0 = times_spent-none past op waits.not_begun waits.not_dropped in
     rw (spends, none) (omega arith))
     (λ spends. rw spends (let earlier : times_spent past op ≤ 1 = spend_once level past legal.0 op in omega arith))

@@ -9,10 +9,11 @@ use Rattle.run_lines.specs.declared.line.Doing.{Doing}
 use Rattle.run_lines.specs.declared.line.Doing.TheVariants as doing
 use Rattle.run_lines.specs.declared.line.Line.{Line}
 use Rattle.run_rules.specs.declared.level.Level.{Level}
+use Rattle.run_rules.specs.declared.level.Strictness.TheVariants.{Plain}
 use Rattle.run_rules.specs.Stacks.{stack, stack_after, outer}
 use Rattle.run_rules.specs.Calls.{Calling, call_of, strand_of, is_begun, is_dropped}
 use Rattle.run_rules.specs.Starting.{is_on, Holds, IsInside, IsPlacedBefore}
-use Rattle.run_rules.specs.MayCome.{MayDo, MayCome, MayBegin}
+use Rattle.run_rules.specs.MayCome.{MayDo, MayBegin}
 use Rattle.run_rules.specs.Legal.{IsLegalSoFar}
 use Rattle.run_rules.proofs.CallsLemmas.{strand_of-next, called-next}
 
@@ -21,7 +22,7 @@ abbrev pub AreCalled : List Line → List ℕ → Type 0
 AreCalled past [] = Unit {0}
 AreCalled past (op ∷ ops) = IsSome (call_of past op) × AreCalled past ops
 
-are_called-next : (level : Level) (past : List Line) (line : Line) (ops : List ℕ) → MayCome level past line →
+are_called-next : (level : Level) (past : List Line) (line : Line) (ops : List ℕ) → MayDo level past line.thread line.does →
     AreCalled past ops → AreCalled (line ∷ past) ops
 are_called-next level past line [] may called = tt
 are_called-next level past line (op ∷ ops) may called =
@@ -40,7 +41,7 @@ are_called-after level past thread _ ops may called = called
 
 -- what executes was called, also before the line that began it
 pub stack_called_before : (level : Level) (past : List Line) (line : Line) (thread : ℕ) →
-    MayCome level past line → AreCalled past (stack past thread) → AreCalled past (stack (line ∷ past) thread)
+    MayDo level past line.thread line.does → AreCalled past (stack past thread) → AreCalled past (stack (line ∷ past) thread)
 stack_called_before level past line thread may called =
     cond_both (line.thread == thread) (stack_after line.does (stack past thread)) (stack past thread)
     (λ (ops : List ℕ). AreCalled past ops)
@@ -50,12 +51,12 @@ pub stack_called : (level : Level) (past : List Line) → IsLegalSoFar level pas
     AreCalled past (stack past thread)
 stack_called level [] legal thread = tt
 stack_called level (line ∷ past) legal thread =
-    are_called-next level past line (stack (line ∷ past) thread) legal.1
-    (stack_called_before level past line thread legal.1 (stack_called level past legal.0 thread))
+    are_called-next level past line (stack (line ∷ past) thread) legal.1.rules
+    (stack_called_before level past line thread legal.1.rules (stack_called level past legal.0 thread))
 
 -- a line that may come changes no strand of what was called
 pub on-next : (level : Level) (past : List Line) (line : Line) (strand : ℕ) (ops : List ℕ) →
-    MayCome level past line → AreCalled past ops → list_any (is_on (line ∷ past) strand) ops ≡ list_any (is_on past strand) ops
+    MayDo level past line.thread line.does → AreCalled past ops → list_any (is_on (line ∷ past) strand) ops ≡ list_any (is_on past strand) ops
 on-next level past line strand [] may called = refl
 on-next level past line strand (op ∷ ops) may called =
     let first : is_on (line ∷ past) strand op ≡ is_on past strand op =
@@ -97,9 +98,9 @@ holds-next level past line legal thread strand holds =
     Holds past thread strand ⊎ ((line.thread ≡ thread) × StartsOn past line.does strand))
     (λ here called is. ⊎_elim (λ held. inl held) (λ starts. inr (eqb-true line.thread thread here, starts))
     (any-after past strand line.does (stack past thread)
-    (sym (on-next level past line strand (stack_after line.does (stack past thread)) legal.1 called) ∙ is)))
-    (λ elsewhere called is. inl (sym (on-next level past line strand (stack past thread) legal.1 called) ∙ is))
-    (stack_called_before level past line thread legal.1 (stack_called level past legal.0 thread)) holds
+    (sym (on-next level past line strand (stack_after line.does (stack past thread)) legal.1.rules called) ∙ is)))
+    (λ elsewhere called is. inl (sym (on-next level past line strand (stack past thread) legal.1.rules called) ∙ is))
+    (stack_called_before level past line thread legal.1.rules (stack_called level past legal.0 thread)) holds
 
 -- who begins on a strand shares it with nobody else
 starts_alone : (level : Level) (past : List Line) (thread strand other : ℕ) (does : Doing) →
@@ -114,10 +115,10 @@ holders_agree level [] legal strand one other first second = cc
 holders_agree level (line ∷ past) legal strand one other first second =
     ⊎_elim
     (λ held. ⊎_elim (λ holds. holders_agree level past legal.0 strand one other held holds)
-    (λ starts. starts_alone level past line.thread strand one line.does legal.1 starts.1 held ∙ starts.0)
+    (λ starts. starts_alone level past line.thread strand one line.does legal.1.rules starts.1 held ∙ starts.0)
     (holds-next level past line legal other strand second))
     (λ began. ⊎_elim
-    (λ holds. sym began.0 ∙ sym (starts_alone level past line.thread strand other line.does legal.1 began.1 holds))
+    (λ holds. sym began.0 ∙ sym (starts_alone level past line.thread strand other line.does legal.1.rules began.1 holds))
     (λ starts. sym began.0 ∙ starts.0) (holds-next level past line legal other strand second))
     (holds-next level past line legal one strand first)
 
@@ -129,14 +130,14 @@ called_by_strand (Some call) strand is = refl
 
 -- what was placed before is no longer there
 pub order_kept : (level : Level) (past : List Line) (thread op strand first : ℕ) (code : Code) (size : ℕ) →
-    MayBegin past thread op code size → (IsInside past thread op → ⊥)
+    level.strictness ≡ Plain → MayBegin level past thread op code size → (IsInside past thread op → ⊥)
     → strand_of past op ≡ Some strand → strand_of past first ≡ Some strand → IsPlacedBefore past first op →
     (is_begun past first || is_dropped past first) ≡ true
-order_kept level past thread op strand first code size may outside on same placed =
+order_kept level past thread op strand first code size plain may outside on same placed =
     true_from_ne_false (is_begun past first || is_dropped past first)
     (λ unspent. let parts : (is_begun past first ≡ false) × (is_dropped past first ≡ false) =
     or_parts (is_begun past first) (is_dropped past first) unspent in
-    may.first strand first on (λ other holds. outside (may.free strand other on holds).1)
+    may.first strand first plain on (λ other holds. outside (may.free strand other on holds).1)
     (record {
       waits =
           record {

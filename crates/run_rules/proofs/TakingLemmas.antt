@@ -95,8 +95,8 @@ takers_agree level [] legal resource one other first second = cc
 takers_agree level (line ∷ past) legal resource one other first second =
     ⊎_elim
     (λ held. ⊎_elim (λ has. takers_agree level past legal.0 resource one other held has)
-    (λ takes. takes_alone level past line.thread one resource line.does legal.1 takes.1 held ∙ takes.0)
+    (λ takes. takes_alone level past line.thread one resource line.does legal.1.rules takes.1 held ∙ takes.0)
     (has_taken-next past line other resource second))
-    (λ took. ⊎_elim (λ has. sym took.0 ∙ sym (takes_alone level past line.thread other resource line.does legal.1 took.1 has))
+    (λ took. ⊎_elim (λ has. sym took.0 ∙ sym (takes_alone level past line.thread other resource line.does legal.1.rules took.1 has))
     (λ takes. sym took.0 ∙ takes.0) (has_taken-next past line other resource second))
     (has_taken-next past line one resource first)

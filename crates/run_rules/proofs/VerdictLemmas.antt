@@ -10,8 +10,9 @@ use Rattle.run_rules.specs.declared.rule.Rule.{Rule}
 use Rattle.run_rules.specs.declared.rule.Rule.TheVariants as rule
 use Rattle.run_rules.specs.declared.verdict.Verdict.{Verdict}
 use Rattle.run_rules.specs.declared.verdict.Verdict.TheVariants as verdict
-use Rattle.run_rules.specs.Breaks.{BreaksByDoing}
-use Rattle.run_rules.specs.MayCome.{MayDo}
+use Rattle.run_rules.specs.Breaks.{BreaksByDoing, BreaksRule, BreaksStrictly}
+use Rattle.run_rules.specs.MayCome.{MayCome, MayDo}
+use Rattle.run_rules.specs.Strict.{MayDoStrictly}
 use Rattle.run_rules.specs.Legal.{IsLegalSoFar}
 use Rattle.run_rules.specs.Verdicts.{IsIllegalAt, IsVerdict}
 
@@ -40,13 +41,30 @@ broken_not level past thread (doing.Unlock lock) rule.Locked broken may = broken
 broken_not level past thread (doing.After mark) rule.Marked broken may = broken may.marked
 broken_not level past thread _ _ broken may = absurd broken
 
+pub strictly_not : (past : List Line) (thread : ℕ) (does : Doing) (rule : Rule) →
+    BreaksStrictly past thread does rule → MayDoStrictly past thread does → ⊥
+strictly_not past thread (doing.Begin op code size) rule.Ready broken may = broken may.ready
+strictly_not past thread (doing.Begin op code size) rule.Order broken may = broken.1 may.next
+strictly_not past thread (doing.Begin op code size) rule.Stopped broken may = broken.2 may.allowed
+strictly_not past thread (doing.Begin op code size) rule.Nested broken may = broken.3 may.alone
+strictly_not past thread (doing.Begin op code size) rule.Finishing broken may = broken.4 may.going
+strictly_not past thread (doing.Begin op code size) _ broken may = absurd broken
+strictly_not past thread _ rule.Finishing broken may = broken may
+strictly_not past thread _ _ broken may = absurd broken
+
+breaks_not : (level : Level) (past : List Line) (line : Line) (rule : Rule) → BreaksRule level past line rule →
+    MayCome level past line → ⊥
+breaks_not level past line rule breaks may =
+    ⊎_elim (λ broken. broken_not level past line.thread line.does rule broken may.rules)
+    (λ broken. strictly_not past line.thread line.does rule broken.breaks (may.strict broken.strict)) breaks
+
 -- lines of which one may not come are no legal ones
 pub illegal_not : (level : Level) (past : List Line) (place : ℕ) (rule : Rule) →
     IsIllegalAt level past place rule → IsLegalSoFar level past → ⊥
 illegal_not level [] place rule illegal legal = absurd illegal
 illegal_not level (line ∷ past) place rule illegal legal =
     ⊎_elim (λ earlier. illegal_not level past place rule earlier legal.0)
-    (λ here. broken_not level past line.thread line.does rule here.1 legal.1) illegal
+    (λ here. breaks_not level past line rule here.1 legal.1) illegal
 
 -- of the rules of one line the first that it doesn't keep is one
 
@@ -185,6 +203,57 @@ one_rule level past thread (doing.After mark) one other a b =
     one_of_after level past thread mark one a ∙ sym (one_of_after level past thread mark other b)
 one_rule level past thread _ one other a b = absurd a
 
+one_of_strict : (past : List Line) (thread op : ℕ) (code : Code) (size : ℕ) (one other : Rule)
+    → BreaksStrictly past thread (doing.Begin op code size) one → BreaksStrictly past thread (doing.Begin op code size) other
+    → one ≡ other
+one_of_strict past thread op code size rule.Ready rule.Ready a b = refl
+one_of_strict past thread op code size rule.Ready rule.Order a b = absurd (a b.0)
+one_of_strict past thread op code size rule.Ready rule.Stopped a b = absurd (a b.0)
+one_of_strict past thread op code size rule.Ready rule.Nested a b = absurd (a b.0)
+one_of_strict past thread op code size rule.Ready rule.Finishing a b = absurd (a b.0)
+one_of_strict past thread op code size rule.Order rule.Ready a b = absurd (b a.0)
+one_of_strict past thread op code size rule.Order rule.Order a b = refl
+one_of_strict past thread op code size rule.Order rule.Stopped a b = absurd (a.1 b.1)
+one_of_strict past thread op code size rule.Order rule.Nested a b = absurd (a.1 b.1)
+one_of_strict past thread op code size rule.Order rule.Finishing a b = absurd (a.1 b.1)
+one_of_strict past thread op code size rule.Stopped rule.Ready a b = absurd (b a.0)
+one_of_strict past thread op code size rule.Stopped rule.Order a b = absurd (b.1 a.1)
+one_of_strict past thread op code size rule.Stopped rule.Stopped a b = refl
+one_of_strict past thread op code size rule.Stopped rule.Nested a b = absurd (a.2 b.2)
+one_of_strict past thread op code size rule.Stopped rule.Finishing a b = absurd (a.2 b.2)
+one_of_strict past thread op code size rule.Nested rule.Ready a b = absurd (b a.0)
+one_of_strict past thread op code size rule.Nested rule.Order a b = absurd (b.1 a.1)
+one_of_strict past thread op code size rule.Nested rule.Stopped a b = absurd (b.2 a.2)
+one_of_strict past thread op code size rule.Nested rule.Nested a b = refl
+one_of_strict past thread op code size rule.Nested rule.Finishing a b = absurd (a.3 b.3)
+one_of_strict past thread op code size rule.Finishing rule.Ready a b = absurd (b a.0)
+one_of_strict past thread op code size rule.Finishing rule.Order a b = absurd (b.1 a.1)
+one_of_strict past thread op code size rule.Finishing rule.Stopped a b = absurd (b.2 a.2)
+one_of_strict past thread op code size rule.Finishing rule.Nested a b = absurd (b.3 a.3)
+one_of_strict past thread op code size rule.Finishing rule.Finishing a b = refl
+one_of_strict past thread op code size rule.Ready _ a b = absurd b
+one_of_strict past thread op code size rule.Order _ a b = absurd b
+one_of_strict past thread op code size rule.Stopped _ a b = absurd b
+one_of_strict past thread op code size rule.Nested _ a b = absurd b
+one_of_strict past thread op code size rule.Finishing _ a b = absurd b
+one_of_strict past thread op code size _ _ a b = absurd a
+
+one_strict_rule : (past : List Line) (thread : ℕ) (does : Doing) (one other : Rule)
+    → BreaksStrictly past thread does one → BreaksStrictly past thread does other → one ≡ other
+one_strict_rule past thread (doing.Begin op code size) one other a b = one_of_strict past thread op code size one other a b
+one_strict_rule past thread _ rule.Finishing rule.Finishing a b = refl
+one_strict_rule past thread _ rule.Finishing _ a b = absurd b
+one_strict_rule past thread _ _ _ a b = absurd a
+
+one_broken : (level : Level) (past : List Line) (line : Line) (one other : Rule) → BreaksRule level past line one
+    → BreaksRule level past line other → one ≡ other
+one_broken level past line one other first second =
+    ⊎_elim
+    (λ a. ⊎_elim (λ b. one_rule level past line.thread line.does one other a b)
+    (λ b. absurd (broken_not level past line.thread line.does one a b.may)) second)
+    (λ a. ⊎_elim (λ b. absurd (broken_not level past line.thread line.does other b a.may))
+    (λ b. one_strict_rule past line.thread line.does one other a.breaks b.breaks) second) first
+
 -- the first line that may not come is one, and so is the rule
 pub one_place : (level : Level) (past : List Line) (one other : ℕ) (broken named : Rule) → IsIllegalAt level past one broken
     → IsIllegalAt level past other named → (one ≡ other) × (broken ≡ named)
@@ -194,7 +263,7 @@ one_place level (line ∷ past) one other broken named first second =
     (λ earlier. ⊎_elim (λ too. one_place level past one other broken named earlier too)
     (λ here. absurd (illegal_not level past one broken earlier here.0)) second)
     (λ here. ⊎_elim (λ earlier. absurd (illegal_not level past other named earlier here.0))
-    (λ too. (here.2 ∙ sym too.2, one_rule level past line.thread line.does broken named here.1 too.1)) second) first
+    (λ too. (here.2 ∙ sym too.2, one_broken level past line broken named here.1 too.1)) second) first
 
 pub one_verdict : (level : Level) (past : List Line) (one other : Verdict) → IsVerdict level past one →
     IsVerdict level past other → one ≡ other

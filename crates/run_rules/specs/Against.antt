@@ -1,5 +1,5 @@
 -- Which line stands against one that breaks a rule: what the rule looks at, and finds.
-use Rattle.std.specs.Prelude.{◌≡◌, ◌≢◌, ◌≤◌, ℕ, List, [], ◌∷◌, Bool, true, false, ◌==◌, ◌&&◌, ◌||◌, if◌then◌else◌, length, nat_le, Option, Some, None, IsSome, IsSomeAnd, IsTrue}
+use Rattle.std.specs.Prelude.{◌≡◌, ◌≢◌, ◌≤◌, ◌⊎◌, ℕ, List, [], ◌∷◌, Bool, true, false, ◌==◌, ◌&&◌, ◌||◌, if◌then◌else◌, length, nat_le, Option, Some, None, IsSome, IsSomeAnd, IsTrue}
 use Rattle.run_lines.specs.declared.line.Doing.{Doing}
 use Rattle.run_lines.specs.declared.line.Doing.TheVariants as doing
 use Rattle.run_lines.specs.declared.line.Line.{Line}
@@ -10,8 +10,10 @@ use Rattle.run_rules.specs.declared.rule.Rule.{Rule}
 use Rattle.run_rules.specs.declared.rule.Rule.TheVariants as rule
 use Rattle.run_rules.specs.declared.taking.Resource.{Resource}
 use Rattle.run_rules.specs.declared.taking.Resource.TheVariants.{Thing, Lock}
-use Rattle.run_rules.specs.Stacks.{frame}
-use Rattle.run_rules.specs.Calls.{Waits, begins, drops, is_posting, strand_of, thing_of, word_of}
+use Rattle.std.specs.Option.{option_and_then}
+use Rattle.run_rules.specs.Stacks.{first_of, frame, stack}
+use Rattle.run_rules.specs.Strict.{dropped_last, ready_on, stopped_since}
+use Rattle.run_rules.specs.Calls.{Waits, begins, context_of, drops, is_posting, strand_of, thing_of, word_of}
 use Rattle.run_rules.specs.Entries.{placed_at}
 use Rattle.run_rules.specs.MayCome.{IsOfStream, last_call}
 use Rattle.run_rules.specs.Starting.{GoesBefore}
@@ -123,6 +125,15 @@ pub record TakesIt (past : List Line) (thread : ℕ) (resource : Resource) (foun
 abbrev pub TakesElsewhere : List Line → ℕ → Doing → Line → Type 0
 TakesElsewhere past thread does found = IsSomeAnd (taken_by does) (λ resource. TakesIt past thread resource found)
 
+-- the operation that is the next one of this one's strand
+abbrev pub next_of : List Line → ℕ → Option ℕ
+next_of past op = option_and_then (λ strand. first_of (ready_on past strand).queue) (strand_of past op)
+
+-- the line by which the context of this operation was stopped stands here
+abbrev pub StopsContext : List Line → ℕ → ℕ → Type 0
+StopsContext past op place =
+    IsSomeAnd (context_of past op) (λ context. IsSomeAnd (stopped_since past context) (λ since. since ≡ place))
+
 -- the same of the rules that speak of one operation
 abbrev pub StandsAgainstOp : List Line → ℕ → ℕ → Rule → List Line → Line → Type 0
 StandsAgainstOp past thread op rule.New before found = IsTrue (calls_from found.does op)
@@ -134,14 +145,31 @@ StandsAgainstOp past thread op rule.DoneOnce before found = IsTrue (completes fo
 StandsAgainstOp past thread op rule.Outcome before found = IsTrue (settles found.does op)
 StandsAgainstOp past thread op rule.Free before found = BeginsOnStrand past op before found.does
 StandsAgainstOp past thread op rule.First before found = StandsLongest past op (length before)
+StandsAgainstOp past thread op rule.Ready before found = IsTrue (calls found.does op)
+StandsAgainstOp past thread op rule.Order before found =
+    IsSomeAnd (next_of past op) (λ next. IsTrue (settles found.does next))
+StandsAgainstOp past thread op rule.Stopped before found = StopsContext past op (length before)
+StandsAgainstOp past thread op rule.Nested before found =
+    IsSomeAnd (first_of (stack past thread)) (λ innermost. IsTrue (begins found.does innermost))
 StandsAgainstOp past thread op rule.Innermost before found = TellsOfExecution (frame past thread) op found.does
 StandsAgainstOp past thread op rule.Clean before found = TakesInside past op before found
 StandsAgainstOp past thread op _ before found = ⊥
+
+-- a line begins an execution that goes on where something would be dropped
+abbrev pub IsUnderWay : List Line → Doing → Doing → Type 0
+IsUnderWay past (doing.Drop op) found = (other : ℕ) × IsTrue (begins found other) × IsTrue (is_executing past other)
+IsUnderWay past _ found = ⊥
+
+-- or it dropped what was dropped last
+abbrev pub StandsAtFinish : List Line → Doing → Doing → Type 0
+StandsAtFinish past does found =
+    IsUnderWay past does found ⊎ IsSomeAnd (dropped_last past) (λ last. IsTrue (drops found last))
 
 -- `line`, behind the lines `past`, breaks a rule; of the lines before it, `found`, behind the lines `before`, stands against it
 abbrev pub StandsAgainst : List Line → Line → Rule → List Line → Line → Type 0
 StandsAgainst past line rule.Single before found = CallsPending past line.does found.does
 StandsAgainst past line rule.Untouched before found = TakesElsewhere past line.thread line.does found
 StandsAgainst past line rule.Unlocked before found = TakesElsewhere past line.thread line.does found
+StandsAgainst past line rule.Finishing before found = StandsAtFinish past line.does found.does
 StandsAgainst past line broken before found =
     IsSomeAnd (op_of line.does) (λ op. StandsAgainstOp past line.thread op broken before found)

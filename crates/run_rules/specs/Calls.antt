@@ -15,6 +15,7 @@ use Rattle.run_rules.specs.Stacks.{frame}
 -- how an operation was called: by whom, and as which line, counted from the oldest
 pub record Calling : Type 0 where
   pub word : Word
+  pub context : ℕ
   pub strand : Option ℕ
   pub thing : Option ℕ
   pub caller : Frame
@@ -33,7 +34,15 @@ abbrev pub call_in : Frame → ℕ → ℕ → Doing → ℕ → Option Calling
 call_in caller thread place (doing.Call number word context strand thing) op =
     if number == op
     then Some
-    (record { word = word; strand = strand; thing = thing; caller = caller; thread = thread; place = place }) else None
+    (record {
+      word = word;
+      context = context;
+      strand = strand;
+      thing = thing;
+      caller = caller;
+      thread = thread;
+      place = place;
+    }) else None
 call_in caller thread place _ op = None
 
 -- the call of an operation
@@ -83,6 +92,9 @@ is_posting (Other letters) = false
 
 abbrev pub word_of : List Line → ℕ → Option Word
 word_of past op = option_map (λ (call : Calling). call.word) (call_of past op)
+
+abbrev pub context_of : List Line → ℕ → Option ℕ
+context_of past op = option_map (λ (call : Calling). call.context) (call_of past op)
 
 abbrev pub strand_of : List Line → ℕ → Option ℕ
 strand_of past op = option_and_then (λ (call : Calling). call.strand) (call_of past op)

@@ -1,11 +1,14 @@
 -- What follows from the rules of runs.
-use Rattle.std.specs.Prelude.{◌≡◌, ◌≤◌, ◌+◌, ℕ, List, [], ◌∷◌, true, ◌||◌, if◌then◌else◌, Some, IsSome}
+use Rattle.std.specs.Prelude.{◌≡◌, ◌≤◌, ◌+◌, ℕ, List, [], ◌∷◌, true, ◌||◌, if◌then◌else◌, length, Some, IsSome}
 use Rattle.run_lines.specs.declared.code.Code.{Code}
 use Rattle.run_lines.specs.declared.line.Line.{Line}
 use Rattle.run_rules.specs.declared.level.Level.{Level}
+use Rattle.run_rules.specs.declared.level.Strictness.TheVariants.{Plain}
 use Rattle.run_rules.specs.declared.taking.Resource.{Resource}
 use Rattle.run_rules.specs.Calls.{begins, drops, call_of, strand_of, is_begun, is_dropped}
 use Rattle.run_rules.specs.Takings.{has_taken}
+use Rattle.run_rules.specs.Stacks.{stack}
+use Rattle.run_rules.specs.Strict.{IsStrict}
 use Rattle.run_rules.specs.Starting.{Holds, IsInside, IsPlacedBefore}
 use Rattle.run_rules.specs.MayCome.{MayBegin}
 use Rattle.run_rules.specs.Legal.{IsLegalSoFar, IsWhole}
@@ -25,6 +28,10 @@ abbrev pub RunOneAtATime : Level → List Line → Type 0
 RunOneAtATime level past = IsLegalSoFar level past → (strand one other : ℕ) → Holds past one strand →
     Holds past other strand → one ≡ other
 
+-- in a strict run a thread executes one handler at a time
+abbrev pub NestNothing : Level → List Line → Type 0
+NestNothing level past = IsStrict level → IsLegalSoFar level past → (thread : ℕ) → length (stack past thread) ≤ 1
+
 abbrev pub HoldAlone : Level → List Line → Type 0
 HoldAlone level past = IsLegalSoFar level past → (resource : Resource) (one other : ℕ) →
     has_taken past one resource ≡ true → has_taken past other resource ≡ true → one ≡ other
@@ -32,7 +39,7 @@ HoldAlone level past = IsLegalSoFar level past → (resource : Resource) (one ot
 -- an operation that may begin here, and not inside, finds all begun or dropped that was placed before its entry on its strand
 abbrev pub KeepTheOrderOfCalls : Level → List Line → Type 0
 KeepTheOrderOfCalls level past =
-    IsLegalSoFar level past → (thread op strand first : ℕ) (code : Code) (size : ℕ) →
-    MayBegin past thread op code size → ¬ (IsInside past thread op)
+    level.strictness ≡ Plain → IsLegalSoFar level past → (thread op strand first : ℕ) (code : Code) (size : ℕ) →
+    MayBegin level past thread op code size → ¬ (IsInside past thread op)
     → strand_of past op ≡ Some strand → strand_of past first ≡ Some strand → IsPlacedBefore past first op →
     (is_begun past first || is_dropped past first) ≡ true

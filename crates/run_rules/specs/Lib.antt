@@ -3,6 +3,7 @@ pub mod Calls
 pub mod Entries
 pub mod Takings
 pub mod Starting
+pub mod Strict
 pub mod MayCome
 pub mod Breaks
 pub mod Legal

@@ -16,6 +16,7 @@ use Rattle.run_rules.specs.Stacks.{frame, same_frame}
 use Rattle.run_rules.specs.Calls.{Waits, IsPosting, call_of, done_of, word_of, thing_of, last_call_after}
 use Rattle.run_rules.specs.Takings.{has_taken, has_any, is_taken_by}
 use Rattle.run_rules.specs.Starting.{IsFree, IsFirst, HasOutcome}
+use Rattle.run_rules.specs.Strict.{IsStrict, MayDoStrictly}
 
 -- the last call of a frame that isn't known to be back
 abbrev pub last_call : List Line → Frame → Option ℕ
@@ -69,7 +70,7 @@ pub record MayComplete (past : List Line) (op : ℕ) : Type 0 where
   -- Overview, "Asynchronous Operations": an operation completes once
   pub done_once : done_of past op ≡ None
 
-pub record MayBegin (past : List Line) (thread op : ℕ) (code : Code) (size : ℕ) : Type 0 where
+pub record MayBegin (level : Level) (past : List Line) (thread op : ℕ) (code : Code) (size : ℕ) : Type 0 where
   -- Overview, "Asynchronous Operations": a handler is called at most once, and only after its initiating function was called
   pub waiting : Waits past op
   -- reference, post: the handler has no arguments; others are called with what their operation completed with
@@ -78,7 +79,7 @@ pub record MayBegin (past : List Line) (thread op : ℕ) (code : Code) (size : �
   -- may execute inside the call where the caller is inside the strand
   pub free : IsFree past thread op
   -- reference, io_context::strand, "Order of handler invocation": what was submitted before, begins before
-  pub first : IsFirst past op
+  pub first : IsFirst level past op
 
 pub record MayEnd (past : List Line) (thread op : ℕ) : Type 0 where
   -- reference, io_context::run: it calls handlers as functions, one inside the other where it is called by one
@@ -110,12 +111,12 @@ pub record MayFollow (past : List Line) (mark : ℕ) : Type 0 where
   -- C++, std::future, std::thread::join: a wait is over after what it waits for
   pub marked : IsTrue (is_marked past mark)
 
--- whether a thread may do this next; what has no rule may always come
+-- whether a thread may do this next, as far as the rules of all runs have a say; what has no rule may always come
 abbrev pub MayDo : Level → List Line → ℕ → Doing → Type 0
 MayDo level past thread (doing.Call op word context strand thing) = MayCall level past op word thing
 MayDo level past thread (doing.Back op) = MayReturn past thread op
 MayDo level past thread (doing.Done op code size) = MayComplete past op
-MayDo level past thread (doing.Begin op code size) = MayBegin past thread op code size
+MayDo level past thread (doing.Begin op code size) = MayBegin level past thread op code size
 MayDo level past thread (doing.End op) = MayEnd past thread op
 MayDo level past thread (doing.Throw op) = MayEnd past thread op
 MayDo level past thread (doing.Drop op) = MayDrop past op
@@ -131,5 +132,6 @@ MayDo level past thread (doing.Stop context) = Unit {0}
 MayDo level past thread (doing.Restart context) = Unit {0}
 
 -- whether this line may come next
-abbrev pub MayCome : Level → List Line → Line → Type 0
-MayCome level past line = MayDo level past line.thread line.does
+pub record MayCome (level : Level) (past : List Line) (line : Line) : Type 0 where
+  pub rules : MayDo level past line.thread line.does
+  pub strict : IsStrict level → MayDoStrictly past line.thread line.does

@@ -1,6 +1,6 @@
 -- Which handlers execute on a thread, and who writes its lines (Overview, "Threads and Boost.Asio": handlers are
 -- called by threads that call run(), and by no others). The newest line stands first in all lists of lines.
-use Rattle.std.specs.Prelude.{ℕ, List, [], ◌∷◌, Bool, false, ◌==◌, if◌then◌else◌}
+use Rattle.std.specs.Prelude.{ℕ, List, [], ◌∷◌, Bool, false, ◌==◌, if◌then◌else◌, Option, Some, None}
 use Rattle.run_lines.specs.declared.line.Doing.{Doing}
 use Rattle.run_lines.specs.declared.line.Doing.TheVariants as doing
 use Rattle.run_lines.specs.declared.line.Line.{Line}
@@ -11,6 +11,10 @@ use Rattle.run_rules.specs.declared.frame.Frame.TheVariants.{Execution, Outside}
 abbrev pub outer : List ℕ → List ℕ
 outer [] = []
 outer (op ∷ within) = within
+
+abbrev pub first_of : List ℕ → Option ℕ
+first_of [] = None
+first_of (op ∷ others) = Some op
 
 -- what a line of a thread makes of the executions on it: a begin adds one inside, an end takes the innermost away
 abbrev pub stack_after : Doing → List ℕ → List ℕ

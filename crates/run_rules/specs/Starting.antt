@@ -7,6 +7,8 @@ use Rattle.run_lines.specs.declared.code.Code.{Code}
 use Rattle.run_lines.specs.declared.code.Code.TheVariants as code
 use Rattle.run_lines.specs.declared.line.Line.{Line}
 use Rattle.run_lines.specs.declared.word.Word.TheVariants.{Dispatch}
+use Rattle.run_rules.specs.declared.level.Level.{Level}
+use Rattle.run_rules.specs.declared.level.Strictness.TheVariants.{Plain}
 use Rattle.run_rules.specs.Stacks.{stack, frame}
 use Rattle.run_rules.specs.Calls.{Completion, Waits, IsPosting, word_of, strand_of, caller_of, done_of}
 use Rattle.run_rules.specs.Entries.{Entry, entry_of, placed_at}
@@ -42,8 +44,8 @@ pub record GoesBefore (past : List Line) (first op strand : ℕ) : Type 0 where
   pub placed : IsPlacedBefore past first op
 
 -- where nobody holds its strand, no other operation has to begin before this one
-abbrev pub IsFirst : List Line → ℕ → Type 0
-IsFirst past op = (strand first : ℕ) → strand_of past op ≡ Some strand →
+abbrev pub IsFirst : Level → List Line → ℕ → Type 0
+IsFirst level past op = (strand first : ℕ) → level.strictness ≡ Plain → strand_of past op ≡ Some strand →
     ((thread : ℕ) → Holds past thread strand → ⊥) → GoesBefore past first op strand → ⊥
 
 -- the code and size with which an operation begins are its own

@@ -1,7 +1,7 @@
 ghost use Rattle.std.specs.Prelude.{List};
 ghost use Rattle.run_lines.specs.declared.line.Line.{Line};
 ghost use Rattle.run_rules.specs.declared.level.Level.{Level};
-ghost use Rattle.run_rules.specs.Laws.{SpendOnce, SpendEach, RunOneAtATime, HoldAlone, KeepTheOrderOfCalls};
+ghost use Rattle.run_rules.specs.Laws.{SpendOnce, SpendEach, RunOneAtATime, HoldAlone, KeepTheOrderOfCalls, NestNothing};
 ghost use Rattle.run_rules.specs.Verdicts.{HasOneVerdict};
 
 /// A handler is called or destroyed at most once (Boost.Asio reference, Overview, "Asynchronous
@@ -31,6 +31,11 @@ pub fn claims_are_held_by_one_thread()
 /// "Order of handler invocation").
 pub fn strands_keep_the_order_of_calls()
     ensures { (level : Level) (past : List Line) → KeepTheOrderOfCalls level past }
+{}
+
+/// In a strict run no handler is executed inside another.
+pub fn strict_runs_nest_nothing()
+    ensures { (level : Level) (past : List Line) → NestNothing level past }
 {}
 
 /// A run has one verdict: its first illegal line is one, and so is the rule that is named.

@@ -19,6 +19,14 @@ pub enum Rule {
     Free,
     /// No other operation of its strand was placed before it.
     First,
+    /// Strict: an asynchronous operation begins behind its completion.
+    Ready,
+    /// Strict: it is the next one of its strand.
+    Order,
+    /// Strict: its context isn't stopped.
+    Stopped,
+    /// Strict: nothing executes on its thread.
+    Nested,
     /// It is the innermost execution of this thread.
     Innermost,
     /// It has given back all that it took.
@@ -33,4 +41,7 @@ pub enum Rule {
     Locked,
     /// A mark of this number stands before.
     Marked,
+    /// Strict: drops come when nothing executes, by rising number, and behind a drop comes nothing
+    /// else.
+    Finishing,
 }

@@ -3,14 +3,23 @@
 use asio_types::{SureSink, SureSource};
 use run_lines::{BadLine, Code, Doing, Line, Word};
 use run_reader::LineReader;
-use run_rules::{Level, Rule};
+use run_rules::{Level, Rule, Strictness};
 use run_verdict::{Against, Ending, Judge, find_against, judge_run, take_run, write_ending};
 use std::alloc::Global;
 use std::process::Abort;
 use std::test::Fail;
 
 /// The level at which streams are looked at.
-const STREAMS: Level = Level { streams: true };
+const STREAMS: Level = Level {
+    streams: true,
+    strictness: Strictness::Plain,
+};
+
+/// The level of runs whose calls take effect in one order.
+const STRICT: Level = Level {
+    streams: false,
+    strictness: Strictness::Strict,
+};
 
 /// Lines behind the header that may come, the next line, the rule that it breaks, and the number of
 /// the line that stands against it: 0 where none does.
@@ -149,6 +158,70 @@ const BROKEN: [(&str, &str, Rule, u64); 27] = [
     ),
 ];
 
+/// The same at the strict level.
+const STRICTLY_BROKEN: [(&str, &str, Rule, u64); 10] = [
+    ("0 call 0 wait 0 - -", "1 begin 0 ok 0", Rule::Ready, 2),
+    (
+        "0 call 0 post 0 5 - / 1 call 1 post 0 5 -",
+        "2 begin 1 ok 0",
+        Rule::Order,
+        2,
+    ),
+    (
+        "0 call 0 post 0 5 - / 1 begin 0 ok 0 / 0 call 1 post 0 5 - / 1 call 2 dispatch 0 5 - / 1 end 0",
+        "1 begin 1 ok 0",
+        Rule::Order,
+        5,
+    ),
+    (
+        "0 call 0 post 0 5 - / 1 begin 0 ok 0 / 0 call 1 post 0 5 - / 1 call 2 dispatch 0 5 - / 1 call 3 dispatch 0 5 - / 1 end 0 / 1 begin 2 ok 0 / 1 end 2",
+        "1 begin 1 ok 0",
+        Rule::Order,
+        6,
+    ),
+    (
+        "0 call 0 post 0 - - / 0 stop 0 / 0 restart 0 / 0 stop 0",
+        "1 begin 0 ok 0",
+        Rule::Stopped,
+        5,
+    ),
+    (
+        "0 call 0 post 0 - - / 0 call 1 post 0 - - / 1 begin 0 ok 0",
+        "1 begin 1 ok 0",
+        Rule::Nested,
+        4,
+    ),
+    (
+        "0 call 0 post 0 - - / 0 call 1 post 0 - - / 1 begin 0 ok 0",
+        "0 drop 1",
+        Rule::Finishing,
+        4,
+    ),
+    (
+        "0 call 0 post 0 - - / 0 call 1 post 0 - - / 0 drop 1",
+        "0 drop 0",
+        Rule::Finishing,
+        4,
+    ),
+    (
+        "0 call 0 post 0 - - / 0 call 1 post 0 - - / 0 drop 0",
+        "1 begin 1 ok 0",
+        Rule::Finishing,
+        4,
+    ),
+    (
+        "0 call 0 post 0 - - / 0 drop 0",
+        "0 mark 1",
+        Rule::Finishing,
+        3,
+    ),
+];
+
+/// A run that is legal at the strict level alone: what a handler dispatches to its own strand goes
+/// before what was posted there.
+const DISPATCHED: &str =
+    "0 call 0 post 0 5 -\n1 begin 0 ok 0\n0 call 1 post 0 5 -\n0 mark 1\n1 call 2 dispatch 0 5 -\n1 end 0\n2 begin 2 ok 0\n2 end 2\n1 begin 1 ok 0\n1 end 1\n";
+
 /// Runs behind the header, and what is said of them.
 const SAID: [(&str, &str); 12] = [
     ("", "legal\n"),
@@ -230,6 +303,7 @@ fn number_of(against: &Option<Against>) -> u64 {
 /// followed nothing.
 fn found_by(
     alloc: Global,
+    level: Level,
     judge: &mut Judge,
     source: &mut SureSource,
     again: &mut SureSource,
@@ -242,7 +316,7 @@ fn found_by(
     let mut reader_again = LineReader::make(alloc)?;
     let ending = take_run(&mut reader, judge, source);
     let rule = rule_of(&ending);
-    let mut judge_again = Judge::new(alloc, STREAMS);
+    let mut judge_again = Judge::new(alloc, level);
     match find_against(&mut reader_again, judge, &mut judge_again, &ending, again) {
         Ok(against) => Ok((rule, number_of(&against))),
         Err(_) => Ok((None, 0)),
@@ -250,27 +324,39 @@ fn found_by(
 }
 
 /// The rule that a run breaks, and the number of the line that stands against it.
-fn broken_by(alloc: Global, run: &[u8]) -> Result<(Option<Rule>, u64), Fail> {
+fn broken_by(alloc: Global, level: Level, run: &[u8]) -> Result<(Option<Rule>, u64), Fail> {
     let mut source = SureSource::make(alloc, run)?;
     let mut again = SureSource::make(alloc, run)?;
-    let mut judge = Judge::new(alloc, STREAMS);
-    found_by(alloc, &mut judge, &mut source, &mut again)
+    let mut judge = Judge::new(alloc, level);
+    found_by(alloc, level, &mut judge, &mut source, &mut again)
+}
+
+/// Whether each of these lines breaks its rule, and that line stands against it.
+fn are_broken(
+    alloc: Global,
+    level: Level,
+    table: &[(&str, &str, Rule, u64)],
+) -> Result<bool, Fail> {
+    for (front, broken, rule, at) in table {
+        let run = run_of(alloc, front, broken)?;
+        if broken_by(alloc, level, run.as_slice())? != (Some(*rule), *at) {
+            return Ok(false);
+        }
+    }
+    Ok(true)
 }
 
 #[test]
 fn each_rule_is_broken_by_a_line_and_another_stands_against_it(
     rt: HostRuntime,
 ) -> Result<(), Fail> {
-    for (front, broken, rule, at) in &BROKEN {
-        let run = run_of(rt.alloc(), front, broken)?;
-        let found = broken_by(rt.alloc(), run.as_slice())?;
-        assert!(&rt; found == (Some(*rule), *at), "{front} / {broken}");
-    }
+    assert!(&rt; are_broken(rt.alloc(), STREAMS, &BROKEN)?);
+    assert!(&rt; are_broken(rt.alloc(), STRICT, &STRICTLY_BROKEN)?);
     Ok(())
 }
 
 /// Whether this is said of a run with this text behind its header.
-fn is_said(alloc: Global, text: &str, wanted: &str) -> Result<bool, Fail> {
+fn is_said(alloc: Global, level: Level, text: &str, wanted: &str) -> Result<bool, Fail> {
     // the borrow checker's plan has to be told of the types within
     let _word: Option<Word> = None;
     let _code: Option<Code> = None;
@@ -281,7 +367,7 @@ fn is_said(alloc: Global, text: &str, wanted: &str) -> Result<bool, Fail> {
     run.extend_from_slice(text.as_bytes())?;
     let mut source = SureSource::make(alloc, run.as_slice())?;
     let mut said = SureSink::make(alloc, 512)?;
-    let ending = judge_run(alloc, STREAMS, &mut source)?;
+    let ending = judge_run(alloc, level, &mut source)?;
     write_ending(&mut said, &ending)?;
     Ok(said.bytes() == wanted.as_bytes())
 }
@@ -289,7 +375,8 @@ fn is_said(alloc: Global, text: &str, wanted: &str) -> Result<bool, Fail> {
 #[test]
 fn what_is_said_of_runs(rt: HostRuntime) -> Result<(), Fail> {
     for (text, wanted) in &SAID {
-        assert!(&rt; is_said(rt.alloc(), text, wanted)?, "{text}");
+        assert!(&rt; is_said(rt.alloc(), STREAMS, text, wanted)?, "{text}");
     }
+    assert!(&rt; is_said(rt.alloc(), STRICT, DISPATCHED, "legal\n")?);
     Ok(())
 }

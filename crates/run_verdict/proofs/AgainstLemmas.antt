@@ -1,7 +1,8 @@
 -- What is asked of two judges says which line stands against one that breaks a rule.
-use Rattle.std.proofs.Common.{◌≡◌, ℕ, List, length, refl, ap, subst, sym, ◌∙◌}
+use Rattle.std.proofs.Common.{◌≡◌, ℕ, List, length, refl, ap, subst, sym, ◌∙◌, inl, inr, ⊎_elim}
 use Rattle.std.proofs.lemmas.Bool.{and_parts, eqb-true, eq-eqb}
-use Rattle.std.specs.Prelude.{◌↔◌, Bool, true, false, ◌==◌, ◌&&◌, not, Option, Some, None, IsSomeAnd, IsTrue}
+use Rattle.std.specs.Prelude.{◌↔◌, ◌⊎◌, Bool, true, false, ◌==◌, ◌&&◌, ◌||◌, not, Option, Some, None, IsSomeAnd, IsTrue}
+use Rattle.std.specs.Option.{option_and_then}
 use Rattle.run_lines.specs.declared.line.Doing.{Doing}
 use Rattle.run_lines.specs.declared.line.Doing.TheVariants as doing
 use Rattle.run_lines.specs.declared.line.Line.{Line}
@@ -12,14 +13,15 @@ use Rattle.run_rules.specs.declared.level.Level.{Level}
 use Rattle.run_rules.specs.declared.rule.Rule.{Rule}
 use Rattle.run_rules.specs.declared.rule.Rule.TheVariants as rule
 use Rattle.run_rules.specs.declared.taking.Resource.{Resource}
-use Rattle.run_rules.specs.Against.{BeginsOnStrand, CallsPending, IsPending, StandsAgainst, StandsAgainstOp, StandsLongest, TakesElsewhere, TakesInside, TakesIt, calls, is_executing, op_of, taken_by}
-use Rattle.run_rules.specs.Breaks.{BreaksByDoing}
-use Rattle.run_rules.specs.Calls.{Waits, begins, strand_of}
+use Rattle.run_rules.specs.Against.{BeginsOnStrand, CallsPending, IsPending, IsUnderWay, StandsAgainst, StandsAgainstOp, StandsLongest, StopsContext, TakesElsewhere, TakesInside, TakesIt, calls, is_executing, op_of, taken_by}
+use Rattle.run_rules.specs.Breaks.{BreaksByDoing, BreaksRule, BreaksStrictly, BreaksStrictRule}
+use Rattle.run_rules.specs.Calls.{Waits, begins, context_of, strand_of}
 use Rattle.run_rules.specs.MayCome.{IsSingle, MayDo}
 use Rattle.run_rules.specs.Stacks.{frame}
+use Rattle.run_rules.specs.Strict.{IsStrict, stopped_since}
 use Rattle.run_rules.specs.Takings.{has_taken, is_taken_by, same_resource}
 use Rattle.run_check.specs.Judging.{is_number}
-use Rattle.run_verdict.specs.Doings.{begun_by, both_same, calls_some}
+use Rattle.run_verdict.specs.Doings.{begun_by, both_same, calls_some, is_drop, of_some}
 use Rattle.run_verdict.specs.Search.{IsOfWaiting}
 
 false_true : {X : Type 0} → false ≡ true → X
@@ -65,14 +67,34 @@ pending_not past (doing.Call op word context strand thing) found not = absurd (n
 pending_not past _ found not = (λ h. false_true h, λ h. absurd h)
 
 -- where a second use of a stream is found, streams are looked at
-pub streams_on : (level : Level) (past : List Line) (thread : ℕ) (does : Doing) → BreaksByDoing level past thread does rule.Single
+single_on : (level : Level) (past : List Line) (thread : ℕ) (does : Doing) → BreaksByDoing level past thread does rule.Single
     → IsTrue level.streams
-streams_on level past thread (doing.Call op word context strand thing) breaks = by_level level.streams refl
+single_on level past thread (doing.Call op word context strand thing) breaks = by_level level.streams refl
   where
     by_level : (b : Bool) → level.streams ≡ b → IsTrue level.streams
     by_level true e = e
     by_level false e = absurd (breaks.1 (λ stream other on. false_true (sym e ∙ on)))
-streams_on level past thread _ breaks = absurd breaks
+single_on level past thread _ breaks = absurd breaks
+
+not_strictly : (past : List Line) (thread : ℕ) (does : Doing) → BreaksStrictly past thread does rule.Single → ⊥
+not_strictly past thread (doing.Begin op code size) breaks = breaks
+not_strictly past thread (doing.Drop op) breaks = breaks
+not_strictly past thread _ breaks = breaks
+
+pub streams_on : (level : Level) (past : List Line) (line : Line) → BreaksRule level past line rule.Single → IsTrue level.streams
+streams_on level past line breaks =
+    ⊎_elim (λ broken. single_on level past line.thread line.does broken)
+    (λ broken. absurd (not_strictly past line.thread line.does broken.breaks)) breaks
+
+-- the last rule is one of strict runs
+not_finishing : (level : Level) (past : List Line) (thread : ℕ) (does : Doing)
+    → BreaksByDoing level past thread does rule.Finishing → ⊥
+not_finishing level past thread (doing.Call op word context strand thing) breaks = breaks
+not_finishing level past thread _ breaks = breaks
+
+pub strict_on : (level : Level) (past : List Line) (line : Line) → BreaksRule level past line rule.Finishing → IsStrict level
+strict_on level past line breaks =
+    ⊎_elim (λ broken. absurd (not_finishing level past line.thread line.does broken)) (λ broken. broken.strict) breaks
 
 -- an execution on a strand
 
@@ -220,24 +242,100 @@ takes_none past thread does found none = (
 
 -- rules that speak of one operation
 
-pub waits_of : (level : Level) (past : List Line) (thread : ℕ) (does : Doing) (broken : Rule) (op : ℕ) → op_of does ≡ Some op
-    → BreaksByDoing level past thread does broken → IsOfWaiting past op broken
-waits_of level past thread (doing.Begin number code size) rule.Free op is breaks =
+plainly_waits : (level : Level) (past : List Line) (thread : ℕ) (does : Doing) (broken : Rule) (op : ℕ) → op_of does ≡ Some op
+    → BreaksByDoing level past thread does broken → IsOfWaiting level past op broken
+plainly_waits level past thread (doing.Begin number code size) rule.Free op is breaks =
     subst (λ (n : ℕ). Waits past n) (some_same number op is) breaks.0
-waits_of level past thread (doing.Begin number code size) rule.First op is breaks =
+plainly_waits level past thread (doing.Begin number code size) rule.First op is breaks =
     subst (λ (n : ℕ). Waits past n) (some_same number op is) breaks.0
-waits_of level past thread _ rule.Free op is breaks = absurd breaks
-waits_of level past thread _ rule.First op is breaks = absurd breaks
-waits_of level past thread does _ op is breaks = tt
+plainly_waits level past thread _ rule.Free op is breaks = absurd breaks
+plainly_waits level past thread _ rule.First op is breaks = absurd breaks
+plainly_waits level past thread _ rule.Order op is breaks = absurd breaks
+plainly_waits level past thread _ rule.Stopped op is breaks = absurd breaks
+plainly_waits level past thread does _ op is breaks = tt
+
+strictly_waits : (level : Level) (past : List Line) (thread : ℕ) (does : Doing) (broken : Rule) (op : ℕ) → op_of does ≡ Some op
+    → BreaksStrictRule level past thread does broken → IsOfWaiting level past op broken
+strictly_waits level past thread (doing.Begin number code size) rule.Order op is breaks =
+    (subst (λ (n : ℕ). Waits past n) (some_same number op is) breaks.may.waiting, breaks.strict)
+strictly_waits level past thread (doing.Begin number code size) rule.Stopped op is breaks =
+    (subst (λ (n : ℕ). Waits past n) (some_same number op is) breaks.may.waiting, breaks.strict)
+strictly_waits level past thread (doing.Begin number code size) rule.Free op is breaks = absurd breaks.breaks
+strictly_waits level past thread (doing.Begin number code size) rule.First op is breaks = absurd breaks.breaks
+strictly_waits level past thread (doing.Drop number) rule.Free op is breaks = absurd breaks.breaks
+strictly_waits level past thread (doing.Drop number) rule.First op is breaks = absurd breaks.breaks
+strictly_waits level past thread (doing.Drop number) rule.Order op is breaks = absurd breaks.breaks
+strictly_waits level past thread (doing.Drop number) rule.Stopped op is breaks = absurd breaks.breaks
+strictly_waits level past thread _ rule.Free op is breaks = absurd breaks.breaks
+strictly_waits level past thread _ rule.First op is breaks = absurd breaks.breaks
+strictly_waits level past thread _ rule.Order op is breaks = absurd breaks.breaks
+strictly_waits level past thread _ rule.Stopped op is breaks = absurd breaks.breaks
+strictly_waits level past thread does _ op is breaks = tt
+
+pub waits_of : (level : Level) (past : List Line) (line : Line) (broken : Rule) (op : ℕ) → op_of line.does ≡ Some op
+    → BreaksRule level past line broken → IsOfWaiting level past op broken
+waits_of level past line broken op is breaks =
+    ⊎_elim (λ plainly. plainly_waits level past line.thread line.does broken op is plainly)
+    (λ strictly. strictly_waits level past line.thread line.does broken op is strictly) breaks
+
+-- an operation that there may be, and the place of a line that stops a context
+
+pub of_some_is : (test : ℕ → Bool) (o other : Option ℕ) → o ≡ other
+    → IsTrue (of_some test o) ↔ IsSomeAnd other (λ n. IsTrue (test n))
+of_some_is test o other same =
+    subst (λ (p : Option ℕ). IsTrue (of_some test o) ↔ IsSomeAnd p (λ n. IsTrue (test n))) same (at o)
+  where
+    at : (p : Option ℕ) → IsTrue (of_some test p) ↔ IsSomeAnd p (λ n. IsTrue (test n))
+    at None = (λ h. false_true h, λ h. absurd h)
+    at (Some op) = (λ h. h, λ h. h)
+
+stops_by : (past : List Line) (context : Option ℕ) (n place : ℕ) → n ≡ place
+    → IsTrue (is_number (option_and_then (stopped_since past) context) n)
+    ↔ IsSomeAnd context (λ c. IsSomeAnd (stopped_since past c) (λ since. since ≡ place))
+stops_by past None n place same = (λ h. false_true h, λ h. absurd h)
+stops_by past (Some context) n place same = by_place (stopped_since past context)
+  where
+    by_place : (o : Option ℕ) → IsTrue (is_number o n) ↔ IsSomeAnd o (λ since. since ≡ place)
+    by_place None = (λ h. false_true h, λ h. absurd h)
+    by_place (Some since) = (λ h. eqb-true since n h ∙ same, λ h. eq-eqb since n (h ∙ sym same))
+
+pub stops_is : (past : List Line) (op : ℕ) (found : Option ℕ) (n place : ℕ)
+    → found ≡ option_and_then (stopped_since past) (context_of past op) → n ≡ place
+    → IsTrue (is_number found n) ↔ StopsContext past op place
+stops_is past op found n place is same =
+    subst (λ (o : Option ℕ). IsTrue (is_number o n) ↔ StopsContext past op place) (sym is)
+    (stops_by past (context_of past op) n place same)
+
+pub under_way : (past : List Line) (does found : Doing) (other : ℕ) (executing : Bool) → begun_by found ≡ Some other
+    → executing ≡ is_executing past other → IsTrue (is_drop does && executing) ↔ IsUnderWay past does found
+under_way past (doing.Drop op) found other executing begun is = (
+  λ h. (other, begun_begins found other begun, sym is ∙ h),
+  λ h. let here : other ≡ h.0 = some_same other h.0 (sym begun ∙ begins_begun found h.0 h.1) in
+      is ∙ ap (is_executing past) here ∙ h.2,
+)
+under_way past _ found other executing begun is = (λ h. false_true h, λ h. absurd h)
+
+pub not_under_way : (past : List Line) (does found : Doing) → begun_by found ≡ None → IsTrue false ↔ IsUnderWay past does found
+not_under_way past (doing.Drop op) found none = (
+  λ h. false_true h,
+  λ h. none_some h.0 (sym none ∙ begins_begun found h.0 h.1),
+)
+not_under_way past _ found none = (λ h. false_true h, λ h. absurd h)
+
+pub either_is : {P Q : Type 0} (one other : Bool) → IsTrue one ↔ P → IsTrue other ↔ Q → IsTrue (one || other) ↔ (P ⊎ Q)
+either_is true other p q = (λ h. inl (p.0 refl), λ h. refl)
+either_is false other p q = (λ h. inr (q.0 h), λ h. ⊎_elim (λ is. false_true (p.1 is)) (λ is. q.1 is) h)
 
 pub by_op : (past : List Line) (line : Line) (broken : Rule) (before : List Line) (found : Line) (test : Bool)
     → (broken ≡ rule.Single → ⊥) → (broken ≡ rule.Untouched → ⊥) → (broken ≡ rule.Unlocked → ⊥)
+    → (broken ≡ rule.Finishing → ⊥)
     → IsTrue test ↔ IsSomeAnd (op_of line.does) (λ op. StandsAgainstOp past line.thread op broken before found)
     → IsTrue test ↔ StandsAgainst past line broken before found
-by_op past line rule.Single before found test a b c is = absurd (a refl)
-by_op past line rule.Untouched before found test a b c is = absurd (b refl)
-by_op past line rule.Unlocked before found test a b c is = absurd (c refl)
-by_op past line _ before found test a b c is = is
+by_op past line rule.Single before found test a b c d is = absurd (a refl)
+by_op past line rule.Untouched before found test a b c d is = absurd (b refl)
+by_op past line rule.Unlocked before found test a b c d is = absurd (c refl)
+by_op past line rule.Finishing before found test a b c d is = absurd (d refl)
+by_op past line _ before found test a b c d is = is
 
 pub by_some : (past : List Line) (line : Line) (broken : Rule) (before : List Line) (found : Line) (test : Bool) (op : ℕ)
     → op_of line.does ≡ Some op → IsTrue test ↔ StandsAgainstOp past line.thread op broken before found

@@ -9,7 +9,7 @@ use Rattle.run_lines.specs.declared.line.Line.{Line}
 use Rattle.run_rules.specs.declared.level.Level.{Level}
 use Rattle.run_rules.specs.Stacks.{frame}
 use Rattle.run_rules.specs.Calls.{Calling, call_of, is_begun, is_dropped}
-use Rattle.run_rules.specs.MayCome.{MayCome, MayDo}
+use Rattle.run_rules.specs.MayCome.{MayDo}
 use Rattle.run_rules.specs.Legal.{IsLegalSoFar}
 use Rattle.run_check.specs.After.{is_spent}
 use Rattle.run_check.proofs.StackLemmas.{begun_called, dropped_called}
@@ -51,6 +51,7 @@ use_by_doing : (how : Way) (level : Level) (past : List Line) → IsLegalSoFar l
 use_by_doing how level past legal thread op (doing.Call number word context strand thing) may =
     use_called how (number == op) (is_spent past op) (record {
       word = word;
+      context = context;
       strand = strand;
       thing = thing;
       caller =
@@ -69,6 +70,6 @@ use_by_doing how level past legal thread op (doing.Drop number) may =
 use_by_doing how level past legal thread op _ may = refl
 
 pub use_of-next : (how : Way) (level : Level) (past : List Line) (line : Line) → IsLegalSoFar level past
-    → MayCome level past line → (op : ℕ)
+    → MayDo level past line.thread line.does → (op : ℕ)
     → use_of how (line ∷ past) op ≡ use_after how line.does op (use_of how past op)
 use_of-next how level past line legal may op = use_by_doing how level past legal line.thread op line.does may

@@ -2,13 +2,16 @@
 use Rattle.std.proofs.Common.{◌≡◌, ℕ, suc, ◌+◌, ◌<◌, ◌≤◌, List, [], ◌∷◌, ◌++◌, length, take, drop, get_or, reverse, ap, subst, sym, ◌∙◌, inl, inr, arith}
 use Rattle.std.proofs.lemmas.List.{reverse-append, take-append-drop, take_all}
 use Rattle.std.proofs.Math.Seq.{take-suc}
+use Rattle.std.specs.Prelude.{IfOk, Result, Ok, Err}
 use Rattle.run_lines.specs.declared.line.Line.{Line}
 use Rattle.run_rules.specs.declared.level.Level.{Level}
 use Rattle.run_rules.specs.declared.rule.Rule.{Rule}
 use Rattle.run_rules.specs.Breaks.{BreaksRule}
 use Rattle.run_rules.specs.Legal.{IsLegalSoFar}
 use Rattle.run_rules.specs.MayCome.{MayCome}
-use Rattle.run_rules.specs.Verdicts.{IsIllegalAt}
+use Rattle.run_rules.specs.Verdicts.{IsIllegalAt, IsVerdict}
+use Rattle.run_rules.specs.declared.verdict.Verdict.{Verdict}
+use Rattle.run_check.specs.declared.refusal.NoRoom.{NoRoom}
 use Rattle.run_verdict.specs.declared.judge.Judge.{Judge}
 use Rattle.run_verdict.specs.Judges.{HasJudged}
 
@@ -57,3 +60,10 @@ pub judged_all : (level : Level) (lines : List Line) (at : ℕ) (judge : Judge) 
     → HasJudged level (reverse lines) judge
 judged_all level lines at judge past judged = subst (λ (xs : List Line). HasJudged level (reverse xs) judge)
     (take_all at lines past) judged
+
+-- the verdict at the level of a judge that has followed nothing
+pub at_level : (level : Level) (lines : List Line) (judge : Judge) (answer : Result Verdict NoRoom) → HasJudged level [] judge
+    → IfOk answer (λ verdict. (other : Level) → HasJudged other [] judge → IsVerdict other (reverse lines) verdict)
+    → IfOk answer (λ verdict. IsVerdict level (reverse lines) verdict)
+at_level level lines judge (Ok verdict) judged is = is level judged
+at_level level lines judge (Err refused) judged is = tt

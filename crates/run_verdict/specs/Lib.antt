@@ -4,5 +4,7 @@ pub mod Doings
 pub mod Judges
 pub mod Endings
 pub mod Search
+pub mod Numbered
+pub mod Naming
 pub mod Text
 pub mod Owing

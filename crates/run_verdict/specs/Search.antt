@@ -10,6 +10,7 @@ use Rattle.run_rules.specs.Calls.{Waits}
 use Rattle.run_rules.specs.Against.{StandsAgainst}
 use Rattle.run_rules.specs.Breaks.{BreaksRule}
 use Rattle.run_rules.specs.MayCome.{MayCome}
+use Rattle.run_rules.specs.Strict.{IsStrict}
 use Rattle.run_verdict.specs.declared.against.Against.{Against}
 use Rattle.run_verdict.specs.declared.ending.Ending.{Ending}
 use Rattle.run_verdict.specs.declared.ending.Ending.TheVariants as ending
@@ -43,11 +44,13 @@ pub record Confronts (level : Level) (past : List Line) (broken : Line) (rule : 
   pub judged_again : HasJudged level before again
   pub may : MayCome level before found
 
--- a rule that asks for the strand of an operation asks of one that waits
-abbrev pub IsOfWaiting : List Line → ℕ → Rule → Type 0
-IsOfWaiting past op rule.Free = Waits past op
-IsOfWaiting past op rule.First = Waits past op
-IsOfWaiting past op _ = Unit {0}
+-- a rule that asks for the strand or the context of an operation asks of one that waits, and a strict rule of strict runs
+abbrev pub IsOfWaiting : Level → List Line → ℕ → Rule → Type 0
+IsOfWaiting level past op rule.Free = Waits past op
+IsOfWaiting level past op rule.First = Waits past op
+IsOfWaiting level past op rule.Order = Waits past op × IsStrict level
+IsOfWaiting level past op rule.Stopped = Waits past op × IsStrict level
+IsOfWaiting level past op _ = Unit {0}
 
 -- a line is taken exactly where it stands against the other one
 abbrev pub Chooses : Type 0 → Line → ℕ → Option Against → Option Against → Type 0

@@ -1,6 +1,5 @@
 -- What is written of a run.
 use Rattle.std.specs.Prelude.{◌==◌, ℕ, List, [], ◌∷◌, ◌++◌, Option, codes, if◌then◌else◌}
-use Rattle.std.specs.Fmt.{decimal}
 use Rattle.asio_types.specs.Sink.{Extends}
 use Rattle.run_lines.specs.BadLine.{wants_text}
 use Rattle.run_lines.specs.declared.bad_line.BadLine.{BadLine}
@@ -8,14 +7,12 @@ use Rattle.run_lines.specs.declared.line.Line.{Line}
 use Rattle.run_lines.specs.Line.{line_text}
 use Rattle.run_rules.specs.declared.rule.Rule.{Rule}
 use Rattle.run_rules.specs.declared.rule.Rule.TheVariants as rule
+use Rattle.run_verdict.specs.Naming.{Naming, line_names}
+use Rattle.run_verdict.specs.Numbered.{numbered}
 use Rattle.run_verdict.specs.declared.against.Against.{Against}
 use Rattle.run_verdict.specs.declared.ending.Ending.{Ending}
 use Rattle.run_verdict.specs.declared.ending.Ending.TheVariants as ending
 use Rattle.run_verdict.specs.declared.ending.Owed.{Owed}
-
--- a number between two texts
-abbrev pub numbered : List ℕ → ℕ → List ℕ → List ℕ
-numbered front number back = (front ++ decimal number) ++ back
 
 abbrev pub name_of : Rule → List ℕ
 name_of rule.New = codes "New"
@@ -27,6 +24,10 @@ name_of rule.DoneOnce = codes "DoneOnce"
 name_of rule.Outcome = codes "Outcome"
 name_of rule.Free = codes "Free"
 name_of rule.First = codes "First"
+name_of rule.Ready = codes "Ready"
+name_of rule.Order = codes "Order"
+name_of rule.Stopped = codes "Stopped"
+name_of rule.Nested = codes "Nested"
 name_of rule.Innermost = codes "Innermost"
 name_of rule.Clean = codes "Clean"
 name_of rule.Untouched = codes "Untouched"
@@ -34,6 +35,7 @@ name_of rule.Unlocked = codes "Unlocked"
 name_of rule.Claimed = codes "Claimed"
 name_of rule.Locked = codes "Locked"
 name_of rule.Marked = codes "Marked"
+name_of rule.Finishing = codes "Finishing"
 
 -- the number of a line that is judged, the line, and the rule that it breaks; then words on what that rule wants
 abbrev pub illegal_text : ℕ → Rule → Line → List ℕ → List ℕ
@@ -48,8 +50,11 @@ bad_text at bad =
     (codes ": expected ")) ++ wants_text bad.wants)
     ++ (10 ∷ [])
 
-abbrev pub against_text : Against → List ℕ
-against_text against = (numbered (codes "against: line ") against.at (codes ": ") ++ line_text against.line) ++ (10 ∷ [])
+-- with the names of what the line speaks of
+abbrev pub against_text : Naming → Against → List ℕ
+against_text names against =
+    ((numbered (codes "against: line ") against.at (codes ": ") ++ line_text against.line) ++ line_names names against.line)
+    ++ (10 ∷ [])
 
 -- a line on one kind of what is under way, if there is any
 abbrev pub owed_part : ℕ → List ℕ → List ℕ

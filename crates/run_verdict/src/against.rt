@@ -1,8 +1,10 @@
-ghost use Rattle.std.specs.Prelude.{◌≡◌, ◌↔◌, ◌&&◌, ◌==◌, List, IsTrue, not};
+ghost use Rattle.std.specs.Prelude.{◌≡◌, ◌↔◌, ◌&&◌, ◌||◌, ◌==◌, List, IsTrue, not};
+ghost use Rattle.std.specs.Option.{option_and_then};
 ghost use Rattle.run_lines.specs.declared.line.Line.{Line};
 ghost use Rattle.run_rules.specs.declared.level.Level.{Level};
-ghost use Rattle.run_rules.specs.Against.{BeginsOnStrand, CallsPending, StandsAgainst, StandsAgainstOp, TakesElsewhere, TakesInside, TakesIt, TellsOfExecution};
-ghost use Rattle.run_rules.specs.Calls.{Waits};
+ghost use Rattle.run_rules.specs.Against.{BeginsOnStrand, CallsPending, IsUnderWay, StandsAgainst, StandsAgainstOp, StandsAtFinish, TakesElsewhere, TakesInside, TakesIt, TellsOfExecution, next_of};
+ghost use Rattle.run_rules.specs.Calls.{Waits, context_of};
+ghost use Rattle.run_rules.specs.Strict.{IsStrict, stopped_since};
 ghost use Rattle.run_rules.specs.MayCome.{MayCome};
 ghost use Rattle.run_rules.specs.Takings.{same_resource};
 ghost use Rattle.run_check.specs.Judging.{is_number};
@@ -11,8 +13,8 @@ ghost use Rattle.run_verdict.specs.Judges.{HasJudged};
 ghost use Rattle.run_verdict.specs.Search.{Confronts, IsOfWaiting};
 
 use crate::doings::{
-    begins, begun_by, calls, calls_from, calls_some, completes, op_of, settles, spends, taken_by,
-    tells_of,
+    begins, begins_some, begun_by, calls, calls_from, calls_some, completes, drops_some, is_drop,
+    op_of, settles, settles_some, spends, taken_by, tells_of,
 };
 use crate::judge::Judge;
 use run_lines::{Doing, Line};
@@ -50,6 +52,12 @@ fn both(one: bool, other: bool) -> bool
     ensures { result ≡ (one && other) }
 {
     one && other
+}
+
+fn either(one: bool, other: bool) -> bool
+    ensures { result ≡ (one || other) }
+{
+    one || other
 }
 
 fn differs(one: u64, other: u64) -> bool
@@ -160,6 +168,50 @@ fn takes_elsewhere(judge: &Judge, line: &Line, found: &Line) -> bool
     }
 }
 
+/// The operation that is the next one of the strand of this one, which waits.
+fn next_of(judge: &Judge, op: u64) -> Option<u64>
+    ensures { (level : Level) (past : List Line) → HasJudged level past judge.now → Waits past op × IsStrict level
+        → result ≡ next_of past op }
+{
+    match judge.checker().strand(op) {
+        Some(strand) => judge.strict().next(strand),
+        None => None,
+    }
+}
+
+/// The place of the line by which the context of this operation, which waits, was stopped.
+fn stopped_of(judge: &Judge, op: u64) -> Option<u64>
+    ensures { (level : Level) (past : List Line) → HasJudged level past judge.now → Waits past op × IsStrict level
+        → result ≡ option_and_then (stopped_since past) (context_of past op) }
+{
+    match judge.checker().context(op) {
+        Some(context) => judge.strict().stopped_since(context),
+        None => None,
+    }
+}
+
+/// Whether a line begins an execution that goes on where something would be dropped.
+fn is_under_way(judge: &Judge, does: &Doing, found: &Doing) -> bool
+    ensures { (level : Level) (past : List Line) → HasJudged level past judge.now
+        → IsTrue result ↔ IsUnderWay past does.now found.now }
+{
+    match begun_by(found) {
+        Some(other) => both(is_drop(does), judge.checker().is_executing(other)),
+        None => false,
+    }
+}
+
+/// Whether a line stands against one that comes too early or too late at the end of a context.
+fn stands_at_finish(judge: &Judge, does: &Doing, found: &Doing) -> bool
+    ensures { (level : Level) (past : List Line) → HasJudged level past judge.now → IsStrict level
+        → IsTrue result ↔ StandsAtFinish past does.now found.now }
+{
+    either(
+        is_under_way(judge, does, found),
+        drops_some(found, judge.strict().dropped()),
+    )
+}
+
 /// Whether a line stands against one of this operation, by a rule that speaks of one operation.
 fn stands_against_op(
     judge: &Judge,
@@ -169,7 +221,7 @@ fn stands_against_op(
     rule: Rule,
     found: &Line,
 ) -> bool
-    ensures { (level : Level) (past before : List Line) → HasJudged level past judge.now → IsOfWaiting past op rule
+    ensures { (level : Level) (past before : List Line) → HasJudged level past judge.now → IsOfWaiting level past op rule
         → HasJudged level before again.now → MayCome level before found.now
         → IsTrue result ↔ StandsAgainstOp past thread op rule before found.now }
 {
@@ -182,6 +234,10 @@ fn stands_against_op(
         Rule::Outcome => settles(&found.does, op),
         Rule::Free => begins_on_strand(judge, again, op, found),
         Rule::First => is_number(judge.checker().longest(op), again.lines()),
+        Rule::Ready => calls(&found.does, op),
+        Rule::Order => settles_some(&found.does, next_of(judge, op)),
+        Rule::Stopped => is_number(stopped_of(judge, op), again.lines()),
+        Rule::Nested => begins_some(&found.does, judge.checker().innermost(thread)),
         Rule::Innermost => tells_of_execution(judge.checker().frame(thread), op, &found.does),
         Rule::Clean => takes_inside(judge, again, op, found),
         Rule::Single
@@ -189,7 +245,8 @@ fn stands_against_op(
         | Rule::Unlocked
         | Rule::Claimed
         | Rule::Locked
-        | Rule::Marked => false,
+        | Rule::Marked
+        | Rule::Finishing => false,
     }
 }
 
@@ -209,6 +266,7 @@ pub(crate) fn stands_against(
         Rule::Single => calls_pending(judge, &line.does, &found.does),
         Rule::Untouched => takes_elsewhere(judge, line, found),
         Rule::Unlocked => takes_elsewhere(judge, line, found),
+        Rule::Finishing => stands_at_finish(judge, &line.does, &found.does),
         _ => match op_of(&line.does) {
             Some(op) => stands_against_op(judge, again, line.thread, op, rule, found),
             None => false,

@@ -1,7 +1,7 @@
 ghost use Rattle.std.specs.Prelude.{◌≡◌, ◌||◌};
 ghost use Rattle.run_rules.specs.Against.{calls, calls_from, completes, op_of, settles, taken_by, tells_of};
 ghost use Rattle.run_rules.specs.Calls.{begins, drops};
-ghost use Rattle.run_verdict.specs.Doings.{begun_by, calls_some};
+ghost use Rattle.run_verdict.specs.Doings.{begun_by, calls_some, is_drop, of_some};
 
 use run_lines::{Doing, Word};
 use run_rules::Resource;
@@ -62,6 +62,53 @@ pub(crate) fn settles(does: &Doing, op: u64) -> bool
         Doing::Done { op: number, .. } => number == op,
         _ => false,
     }
+}
+
+/// Whether a line calls this operation as a posting, or completes it, if there is one.
+pub(crate) fn settles_some(does: &Doing, op: Option<u64>) -> bool
+    ensures { result ≡ of_some (settles does.now) op }
+{
+    match op {
+        Some(op) => settles(does, op),
+        None => false,
+    }
+}
+
+/// Whether a line begins the handler of this operation, if there is one.
+pub(crate) fn begins_some(does: &Doing, op: Option<u64>) -> bool
+    ensures { result ≡ of_some (begins does.now) op }
+{
+    match op {
+        Some(op) => begins(does, op),
+        None => false,
+    }
+}
+
+/// Whether a line drops the handler of this operation, if there is one.
+pub(crate) fn drops_some(does: &Doing, op: Option<u64>) -> bool
+    ensures { result ≡ of_some (drops does.now) op }
+{
+    match op {
+        Some(op) => drops(does, op),
+        None => false,
+    }
+}
+
+/// Whether a line drops the handler of this operation.
+fn drops(does: &Doing, op: u64) -> bool
+    ensures { result ≡ drops does.now op }
+{
+    match *does {
+        Doing::Drop { op: number } => number == op,
+        _ => false,
+    }
+}
+
+/// Whether a line drops any handler.
+pub(crate) fn is_drop(does: &Doing) -> bool
+    ensures { result ≡ is_drop does.now }
+{
+    matches!(does, Doing::Drop { .. })
 }
 
 /// Whether a line begins or drops the handler of this operation.

@@ -4,15 +4,19 @@ ghost use Rattle.run_rules.specs.declared.level.Level.{Level};
 ghost use Rattle.run_rules.specs.Against.{IsPending};
 ghost use Rattle.run_rules.specs.Breaks.{BreaksRule};
 ghost use Rattle.run_rules.specs.Legal.{IsWhole};
-ghost use Rattle.run_rules.specs.MayCome.{MayCome};
-ghost use Rattle.run_check.specs.After.{IsAfter};
-ghost use Rattle.run_verdict.specs.Judges.{HasJudged, IsOwed, StepsAt, is_single};
+ghost use Rattle.run_rules.specs.declared.rule.Rule.TheVariants as rule;
+ghost use Rattle.run_rules.specs.MayCome.{MayCome, MayDo};
+ghost use Rattle.run_rules.specs.Strict.{IsStrict};
+ghost use Rattle.run_check.specs.After.{IsAfter, loose};
+ghost use Rattle.run_check.specs.Judging.{asked};
+ghost use Rattle.run_check.specs.Strict.{IsStrictAfter};
+ghost use Rattle.run_verdict.specs.Judges.{HasJudged, IsFirstIn, IsOwed, JudgesOrder, StepsAt, is_single};
 
 use crate::ending::Owed;
 use crate::streams::Streams;
-use run_check::{Checker, NoRoom, Refusal};
+use run_check::{Checker, NoRoom, Refusal, Strict};
 use run_lines::{Doing, Line, Word};
-use run_rules::{Level, Rule};
+use run_rules::{Level, Rule, Strictness};
 use std::alloc::Global;
 
 /// Judges a run line by line, with memory for what is under way.
@@ -21,6 +25,14 @@ pub struct Judge {
     level: Level,
     checker: Checker,
     streams: Streams,
+    strict: Strict,
+}
+
+/// The rule First, where the test fails.
+fn judge_first(first: bool) -> Result<(), Rule>
+    ensures { result ≡ asked first rule.First }
+{
+    if first { Ok(()) } else { Err(Rule::First) }
 }
 
 impl Judge {
@@ -32,6 +44,7 @@ impl Judge {
             level,
             checker: Checker::new(alloc),
             streams: Streams::new(alloc),
+            strict: Strict::new(alloc),
         }
     }
 
@@ -63,6 +76,30 @@ impl Judge {
         self.streams.pending(word, thing)
     }
 
+    /// Whether what this line begins is the first of its strand, as far as strands of Boost.Asio have a say.
+    fn is_first(&self, does: &Doing) -> bool
+        ensures { (level : Level) (past : List Line) (thread : ℕ) → HasJudged level past self.now
+            → MayDo loose past thread does.now → IsTrue result ↔ IsFirstIn past does.now }
+    {
+        match *does {
+            Doing::Begin { op, .. } => self.checker.is_first(op),
+            _ => true,
+        }
+    }
+
+    /// Whether a line, which may come where no order is asked, may come in the order that is asked.
+    fn is_in_order(&self, line: &Line) -> Result<(), Rule>
+        ensures { (level : Level) (past : List Line) → HasJudged level past self.now
+            → MayDo loose past line.now.thread line.now.does
+            → JudgesOrder level past line.now.thread line.now.does result }
+    {
+        match self.level.strictness {
+            Strictness::Loose => Ok(()),
+            Strictness::Plain => judge_first(self.is_first(&line.does)),
+            Strictness::Strict => self.strict.may_come(&self.checker, line),
+        }
+    }
+
     /// Whether this line may come next, or the first rule that it would break.
     pub fn may_come(&self, line: &Line) -> Result<(), Rule>
         ensures { (level : Level) (past : List Line) → HasJudged level past self.now →
@@ -71,12 +108,27 @@ impl Judge {
         match self.checker.may_come(line) {
             Ok(()) => {
                 if self.is_single(&line.does) {
-                    Ok(())
+                    self.is_in_order(line)
                 } else {
                     Err(Rule::Single)
                 }
             }
             Err(rule) => Err(rule),
+        }
+    }
+
+    /// Follows a line as far as the strict rules have a say, where they are asked.
+    fn follow_strict(&mut self, line: &Line) -> Result<(), NoRoom>
+        ensures followed { IfOk result
+            (λ _. (level : Level) (past : List Line) → HasJudged level past self.old → MayCome level past line.now
+            → IsStrict level → IsStrictAfter (line.now ∷ past) self.new.strict) }
+        ensures level { self.new.level ≡ self.old.level }
+        ensures checker { self.new.checker ≡ self.old.checker }
+        ensures streams { self.new.streams ≡ self.old.streams }
+    {
+        match self.level.strictness {
+            Strictness::Strict => self.strict.follow(&self.checker, line),
+            Strictness::Loose | Strictness::Plain => Ok(()),
         }
     }
 
@@ -86,6 +138,7 @@ impl Judge {
             (λ _. (level : Level) (past : List Line) → HasJudged level past self.old → MayCome level past line.now
             → HasJudged level (line.now ∷ past) self.new) }
     {
+        self.follow_strict(line)?;
         self.checker.follow(line)?;
         if !self.level.streams {
             return Ok(());
@@ -132,5 +185,12 @@ impl Judge {
         ensures { (level : Level) (past : List Line) → HasJudged level past self.now → IsAfter past result.now }
     {
         &self.checker
+    }
+
+    /// What is kept of a run that is asked for the strict rules.
+    pub fn strict(&self) -> &Strict
+        ensures { (level : Level) (past : List Line) → HasJudged level past self.now → IsStrict level → IsStrictAfter past result.now }
+    {
+        &self.strict
     }
 }

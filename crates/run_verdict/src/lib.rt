@@ -7,6 +7,7 @@ mod against;
 mod doings;
 mod ending;
 mod judge;
+mod naming;
 mod owing;
 mod run;
 mod search;

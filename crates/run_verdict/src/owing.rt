@@ -8,15 +8,18 @@ ghost use Rattle.run_rules.specs.Stacks.{frame};
 ghost use Rattle.run_rules.specs.Takings.{is_taken_by};
 ghost use Rattle.run_verdict.specs.Endings.{BeginsWith, past_of};
 ghost use Rattle.run_verdict.specs.Judges.{HasJudged};
+ghost use Rattle.run_names.specs.Names.{name_at};
 ghost use Rattle.run_verdict.specs.Owing.{IsTelling, Tells, is_owed, owed_line, owed_lines};
 
 use crate::ending::Ending;
 use crate::judge::Judge;
+use crate::naming::write_line_names;
 use crate::run::{Next, follow_next, next_line, read_header};
 use crate::text::write_number;
 use asio_types::{Failed, Sink, Source, write_all};
 use run_check::Outcome;
 use run_lines::{Code, Doing, Line, LineText};
+use run_names::Names;
 use run_reader::LineReader;
 use run_rules::Resource;
 
@@ -70,21 +73,29 @@ fn is_owed(judge: &Judge, again: &Judge, line: &Line) -> bool
     }
 }
 
-/// Writes a line that tells of something that is under way, and its number.
-fn write_owed_line<K: Sink>(out: &mut K, at: u64, line: &Line) -> Result<(), Failed>
-    ensures { OnOk result (Extends (K.written out.old) (owed_line at line.now) (K.written out.new)) }
+/// Writes a line that tells of something that is under way, its number and its names.
+fn write_owed_line<K: Sink>(out: &mut K, names: &Names, at: u64, line: &Line) -> Result<(), Failed>
+    ensures { OnOk result (Extends (K.written out.old) (owed_line (name_at names.now) at line.now) (K.written out.new)) }
 {
     write_number(out, b"owed: line ", at, b": ")?;
     write_all(out, LineText::of(line).as_slice())?;
+    write_line_names(out, names, line)?;
     write_all(out, b"\n")
 }
 
 /// Writes a line, if this is asked for.
-fn write_if<K: Sink>(out: &mut K, asked: bool, at: u64, line: &Line) -> Result<(), Failed>
-    ensures { OnOk result (Extends (K.written out.old) (if asked then owed_line at line.now else []) (K.written out.new)) }
+fn write_if<K: Sink>(
+    out: &mut K,
+    names: &Names,
+    asked: bool,
+    at: u64,
+    line: &Line,
+) -> Result<(), Failed>
+    ensures { OnOk result
+        (Extends (K.written out.old) (if asked then owed_line (name_at names.now) at line.now else []) (K.written out.new)) }
 {
     if asked {
-        write_owed_line(out, at, line)
+        write_owed_line(out, names, at, line)
     } else {
         Ok(())
     }
@@ -96,12 +107,13 @@ fn tell<K: Sink>(
     again: &Judge,
     next: &Next,
     at: u64,
+    names: &Names,
     out: &mut K,
 ) -> Result<(), Failed>
-    ensures { OnOk result (Tells judge.now again.now next.now at (K.written out.old) (K.written out.new)) }
+    ensures { OnOk result (Tells (name_at names.now) judge.now again.now next.now at (K.written out.old) (K.written out.new)) }
 {
     match next {
-        Next::Line(line) => write_if(out, is_owed(judge, again, line), at, line),
+        Next::Line(line) => write_if(out, names, is_owed(judge, again, line), at, line),
         _ => Ok(()),
     }
 }
@@ -113,16 +125,17 @@ fn tell_lines<S: Source, K: Sink>(
     again: &mut Judge,
     source: &mut S,
     end: u64,
+    names: &Names,
     out: &mut K,
 ) -> Result<(), NotTold>
     ensures { IfOk result (λ _. (level : Level) (text : List ℕ) (past : List Line) → HasJudged level past judge.now
-        → IsTelling level text past reader.old.held (S.left source.old) again.old 2 (K.written out.old) (K.written out.old)
+        → IsTelling (name_at names.now) level text past reader.old.held (S.left source.old) again.old 2 (K.written out.old) (K.written out.old)
         → 2 ≤ end
-        → IsTelling level text past reader.new.held (S.left source.new) again.new end (K.written out.old) (K.written out.new)) }
+        → IsTelling (name_at names.now) level text past reader.new.held (S.left source.new) again.new end (K.written out.old) (K.written out.new)) }
 {
     for at in 2..end {
         let next = next_line(reader, source);
-        tell(judge, again, &next, at, out)?;
+        tell(judge, again, &next, at, names, out)?;
         if let Some(ending) = follow_next(next, again, at) {
             return Err(NotTold::Unread { ending });
         }
@@ -130,7 +143,8 @@ fn tell_lines<S: Source, K: Sink>(
     Ok(())
 }
 
-/// Writes the lines of a run that tell of what is under way at its end, each with its number: the calls of
+/// Writes the lines of a run that tell of what is under way at its end, each with its number and the names of what
+/// it speaks of: the calls of
 /// operations that wait, the begins of handlers that execute, and what was claimed or locked and isn't given back. The first judge
 /// has followed so many lines of the run, which is read again by a new reader and a new judge.
 pub fn write_owed_lines<S: Source, K: Sink>(
@@ -139,12 +153,13 @@ pub fn write_owed_lines<S: Source, K: Sink>(
     again: &mut Judge,
     source: &mut S,
     lines: u64,
+    names: &Names,
     out: &mut K,
 ) -> Result<(), NotTold>
     ensures { IfOk result (λ _. (level : Level) (text : List ℕ) (entries : List PlainEntry) → S.left source.old ≡ Some text
         → reader.old.held ≡ [] → HasJudged level [] again.old → BeginsWith level text entries [] (lines + 1)
         → HasJudged level (past_of entries) judge.now
-        → Extends (K.written out.old) (owed_lines (past_of entries) entries) (K.written out.new)) }
+        → Extends (K.written out.old) (owed_lines (name_at names.now) (past_of entries) entries) (K.written out.new)) }
 {
     let Some(end) = lines.checked_add(1) else {
         let ending = Ending::NoRoom { at: lines };
@@ -153,5 +168,5 @@ pub fn write_owed_lines<S: Source, K: Sink>(
     if let Some(ending) = read_header(reader, source) {
         return Err(NotTold::Unread { ending });
     }
-    tell_lines(reader, judge, again, source, end, out)
+    tell_lines(reader, judge, again, source, end, names, out)
 }

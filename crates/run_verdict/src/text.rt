@@ -1,12 +1,16 @@
 ghost use Rattle.std.specs.Prelude.{◌≡◌, OnOk};
 ghost use Rattle.asio_types.specs.Sink.{Extends};
-ghost use Rattle.run_verdict.specs.Text.{IsWritten, against_text, bad_text, illegal_text, name_of, numbered, owed_part, owed_text};
+ghost use Rattle.run_names.specs.Names.{name_at};
+ghost use Rattle.run_verdict.specs.Text.{IsWritten, against_text, bad_text, illegal_text, name_of, owed_part, owed_text};
+ghost use Rattle.run_verdict.specs.Numbered.{numbered};
 
 use crate::against::Against;
 use crate::ending::{Ending, Owed};
+use crate::naming::write_line_names;
 use asio_types::{Failed, Sink, write_all};
 use itoa::Buffer;
 use run_lines::{BadLine, Line, LineText};
+use run_names::Names;
 use run_rules::Rule;
 
 /// A number between two texts.
@@ -37,6 +41,10 @@ fn name_of(rule: Rule) -> &'static str
         Rule::Outcome => "Outcome",
         Rule::Free => "Free",
         Rule::First => "First",
+        Rule::Ready => "Ready",
+        Rule::Order => "Order",
+        Rule::Stopped => "Stopped",
+        Rule::Nested => "Nested",
         Rule::Innermost => "Innermost",
         Rule::Clean => "Clean",
         Rule::Untouched => "Untouched",
@@ -44,6 +52,7 @@ fn name_of(rule: Rule) -> &'static str
         Rule::Claimed => "Claimed",
         Rule::Locked => "Locked",
         Rule::Marked => "Marked",
+        Rule::Finishing => "Finishing",
     }
 }
 
@@ -63,6 +72,10 @@ fn sense_of(rule: Rule) -> &'static str {
             "the strand runs no handler, or this thread runs the one that dispatched this operation",
         Rule::First =>
             "no operation stands in the strand's queue since before this one was submitted",
+        Rule::Ready => "an asynchronous operation is done before its handler begins",
+        Rule::Order => "this operation is the next one of its strand",
+        Rule::Stopped => "the context isn't stopped",
+        Rule::Nested => "this thread runs no handler",
         Rule::Innermost => "this is the innermost handler that runs on this thread",
         Rule::Clean => "a handler ends without claims and locks",
         Rule::Untouched => "no other thread has claimed this",
@@ -70,6 +83,8 @@ fn sense_of(rule: Rule) -> &'static str {
         Rule::Claimed => "the handler that runs here has claimed this",
         Rule::Locked => "the handler that runs here holds this lock",
         Rule::Marked => "this mark was made before",
+        Rule::Finishing =>
+            "drops come when no handler runs, by rising number, and nothing else comes behind them",
     }
 }
 
@@ -157,11 +172,14 @@ pub fn write_ending<K: Sink>(out: &mut K, ending: &Ending) -> Result<(), Failed>
     }
 }
 
-/// Writes which line stands against one that breaks a rule. Takes no memory.
-pub fn write_against<K: Sink>(out: &mut K, against: &Against) -> Result<(), Failed>
-    ensures { OnOk result (Extends (K.written out.old) (against_text against.now) (K.written out.new)) }
+/// Writes which line stands against one that breaks a rule, with the names of what it speaks of.
+/// Takes no memory.
+pub fn write_against<K: Sink>(out: &mut K, names: &Names, against: &Against) -> Result<(), Failed>
+    ensures { OnOk result
+        (Extends (K.written out.old) (against_text (name_at names.now) against.now) (K.written out.new)) }
 {
     write_number(out, b"against: line ", against.at, b": ")?;
     write_all(out, LineText::of(&against.line).as_slice())?;
+    write_line_names(out, names, &against.line)?;
     write_all(out, b"\n")
 }

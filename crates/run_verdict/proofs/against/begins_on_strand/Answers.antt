@@ -13,7 +13,7 @@ returns-in-Some c = λ level past before judged waits again may.
     c.strand-strand.result c.is_executing.result
     begun
     (c.strand-there.ensures before (c.checker.ensures level before again)
-    (begun_waits level before c.args.found.now.thread c.args.found.now.does c.in-Some.other begun may))
+    (begun_waits level before c.args.found.now.thread c.args.found.now.does c.in-Some.other begun may.rules))
     (c.strand-strand.ensures past (c.checker-in-Some.ensures level past judged) waits)
     (c.is_executing.ensures past (c.checker-in-Some-2.ensures level past judged)))
 

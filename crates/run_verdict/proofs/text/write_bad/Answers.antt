@@ -3,7 +3,7 @@ use Rattle.std.specs.Prelude.{codes}
 use Rattle.asio_types.specs.Sink.{Extends}
 use Rattle.asio_types.proofs.SinkLemmas.{extends_more}
 use Rattle.run_lines.specs.BadLine.{wants_text}
-use Rattle.run_verdict.specs.Text.{numbered}
+use Rattle.run_verdict.specs.Numbered.{numbered}
 use Rattle.run_verdict.proofs.TextLemmas.{more_if}
 use Rattle.run_verdict.proofs.text.write_bad.Goals as goal
 

@@ -4,7 +4,8 @@ use Rattle.asio_types.specs.Sink.{Extends}
 use Rattle.asio_types.proofs.SinkLemmas.{extends_more}
 use Rattle.std.specs.Prelude.{OnOk}
 use Rattle.run_verdict.specs.declared.ending.Ending.{Ending}
-use Rattle.run_verdict.specs.Text.{IsWritten, illegal_text, numbered, owed_text}
+use Rattle.run_verdict.specs.Text.{IsWritten, illegal_text, owed_text}
+use Rattle.run_verdict.specs.Numbered.{numbered}
 use Rattle.run_verdict.proofs.TextLemmas.{more_on, some_words}
 use Rattle.run_verdict.proofs.text.write_ending.Goals as goal
 

@@ -3,7 +3,8 @@ use Rattle.std.specs.Prelude.{codes}
 use Rattle.asio_types.specs.Sink.{Extends}
 use Rattle.asio_types.proofs.SinkLemmas.{extends_more}
 use Rattle.run_lines.specs.Line.{line_text}
-use Rattle.run_verdict.specs.Text.{name_of, numbered}
+use Rattle.run_verdict.specs.Text.{name_of}
+use Rattle.run_verdict.specs.Numbered.{numbered}
 use Rattle.run_verdict.proofs.TextLemmas.{more_if}
 use Rattle.run_verdict.proofs.text.write_illegal.Goals as goal
 

@@ -11,6 +11,6 @@ returns-in-None c = λ past op what size after found fits. free_judges past c.ar
 pub returns-in-Some : goal.returns-in-Some
 returns-in-Some c = λ past op what size after found fits.
     start_judges past c.args.self.now after c.args.thread op what size c.in-Some.strand c.args.waiter.now found fits c.in-Some.is
-    c.is_inside-inside.result c.comes_later-later.result c.is_inside-inside.ensures (c.comes_later-later.ensures past after)
-    c.judge_start.result (c.judge_start.ensures ∙ ap (λ (h : Option ℕ). start_judged h c.args.thread c.is_inside-inside.result
-    c.comes_later-later.result) c.holder.ensures)
+    c.is_inside-inside.result c.is_inside-inside.ensures
+    c.judge_start.result (c.judge_start.ensures ∙ ap (λ (h : Option ℕ). start_judged h c.args.thread c.is_inside-inside.result)
+    c.holder.ensures)

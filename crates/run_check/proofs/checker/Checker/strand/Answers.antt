@@ -1,5 +1,5 @@
 use Rattle.std.proofs.Common.{◌≡◌, ap, refl, ◌∙◌}
-use Rattle.std.specs.Prelude.{Option, false}
+use Rattle.std.specs.Prelude.{false}
 use Rattle.std.specs.Option.{option_and_then}
 use Rattle.run_check.specs.After.{is_spent}
 use Rattle.run_check.specs.declared.waiting.Waiter.{Waiter}
