@@ -1,3 +1,4 @@
+pub mod Counted
 pub mod Invoked
 pub mod Laws
 pub mod Naming

@@ -1,4 +1,9 @@
-ghost use Rattle.std.specs.Prelude.{◌≡◌};
+ghost use Rattle.std.specs.Prelude.{◌≡◌, ◌<◌, ◌+◌, ◌∷◌, if◌then◌else◌, IfOk, None, OnErr};
+ghost use Rattle.io_rules.specs.declared.control.Control.TheVariants as control;
+ghost use Rattle.io_rules.specs.declared.event.Event.TheVariants as event;
+ghost use Rattle.io_rules.specs.Legal.{state_of};
+ghost use Rattle.io_context.specs.Naming.{most_parts};
+ghost use Rattle.io_scheduler.specs.Tallied.{is_idle};
 
 use crate::new_context::NewContext;
 use crate::shared::Shared;
@@ -7,8 +12,9 @@ use asio_types::NoMemory;
 use io_handlers::Handler;
 use io_history::{HistoryTable, Keeper, Named};
 use io_rules::Limits;
-use io_scheduler::Scheduler;
+use io_scheduler::{Scheduler, Section};
 use std::alloc::Global;
+use std::sync::ledger::Share;
 use std::sync::{Condvar, Mutex, Wait};
 
 /// An `io_context`. It must be finished.
@@ -22,43 +28,67 @@ pub struct Context<H: Handler, C: Named> {
 }
 
 impl<H: Handler, C: Named> Context<H, C> {
-    /// A new context. Takes memory for all that it may ever keep; `NoMemory` where it is refused.
-    pub fn make(alloc: Global, new: NewContext) -> Result<Context<H, C>, NoMemory>
+    /// A new context, and the share of which those of its workers are cut. Takes memory for all that the
+    /// context may ever keep; `NoMemory` where it is refused.
+    pub fn make(alloc: Global, new: NewContext) -> Result<(Context<H, C>, Share<C>), NoMemory>
         requires table { new.table ≡ C.table }
         requires limits { new.limits ≡ C.limits }
+        requires name { new.name ≡ C.name }
+        requires parts { new.parts ≡ C.parts }
+        ensures none { IfOk result (λ made. made.1.amount ≡ 0) }
+        ensures all { IfOk result (λ made. made.1.parts ≡ C.parts) }
+        ensures many { C.parts ≡ most_parts }
     {
         let NewContext {
             table,
             seat,
             limits,
+            ledger,
         } = new;
-        match Scheduler::make(alloc, limits, Keeper::of(seat)) {
-            Ok(scheduler) => Ok(Context {
-                table,
-                limits,
-                shared: Mutex::new(Shared::new(scheduler)),
-                more: Condvar::new(),
-            }),
+        let (ended, share) = ledger.open::<C>();
+        match Scheduler::make(alloc, limits, Keeper::of(seat, ended)) {
+            Ok(scheduler) => Ok((
+                Context {
+                    table,
+                    limits,
+                    shared: Mutex::new(Shared::new(scheduler)),
+                    more: Condvar::new(),
+                },
+                share,
+            )),
             Err(_) => Err(NoMemory),
         }
     }
 
-    /// What one more thread calls `run` with. Takes memory for the calls of one handler.
-    pub fn worker(&self, alloc: Global) -> Result<Worker<H>, NoMemory> {
-        Worker::with_room(alloc, self.limits.staged)
+    /// What one more thread calls `run` with; its share is cut off this one. Takes memory for the calls of
+    /// one handler; `NoMemory` where it is refused, and then nothing is cut off.
+    pub fn worker(&self, alloc: Global, share: &mut Share<C>) -> Result<Worker<H, C>, NoMemory>
+        requires { 1 < share.old.parts }
+        ensures none { IfOk result (λ worker. worker.executed ≡ 0) }
+        ensures cut { IfOk result (λ worker. share.new.parts + 1 ≡ share.old.parts) }
+        ensures refused { OnErr result (share.new.parts ≡ share.old.parts) }
+        ensures amount { share.new.amount ≡ share.old.amount }
+    {
+        Worker::with_room(alloc, self.limits.staged, share)
     }
 
     /// No handler begins any more, and calls of `run` return as soon as they can (`io_context::stop`).
-    pub fn stop<R: Wait>(&self, rt: &R) {
+    pub fn stop<R: Wait>(&self, rt: &R) -> Section<C>
+        ensures { result.after ≡ event.Changed None control.Stop ∷ result.before }
+    {
         let mut shared = self.shared.lock(rt);
-        let wake = shared.stop(&self.table);
+        let (section, wake) = shared.stop(&self.table);
         drop(shared);
         wake.send(&self.more);
+        section
     }
 
     /// Handlers may begin again (`io_context::restart`). Answers whether it has: none executes meanwhile,
     /// since whoever runs the context borrows it.
-    pub fn restart(&mut self) -> bool {
+    pub fn restart(&mut self) -> (bool, Section<C>)
+        ensures restarted { result.0 ≡ is_idle (state_of C.limits result.1.before) }
+        ensures noted { result.1.after ≡ (if result.0 then event.Restarted ∷ result.1.before else result.1.before) }
+    {
         let (restarted, wake) = self.shared.get_mut().restart(&self.table);
         wake.send(&self.more);
         restarted

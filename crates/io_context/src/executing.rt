@@ -1,7 +1,7 @@
-ghost use Rattle.std.specs.Prelude.{◌≡◌};
+ghost use Rattle.std.specs.Prelude.{◌≡◌, ◌+◌};
 
 use crate::context::Context;
-use crate::invocation::{Invocation, Next, invoke};
+use crate::invocation::{Invocation, Next, Pause, invoke};
 use crate::shared::Shared;
 use crate::worker::Worker;
 use io_handlers::Handler;
@@ -21,9 +21,11 @@ impl<H: Handler, C: Named> Context<H, C> {
         &self,
         rt: &R,
         invocation: Invocation<H, C>,
-        worker: &mut Worker<H>,
+        worker: &mut Worker<H, C>,
         waits: bool,
-    ) -> Option<Invocation<H, C>> {
+    ) -> Option<Invocation<H, C>>
+        ensures { worker.new.executed ≡ worker.old.executed + 1 }
+    {
         let Invocation {
             running,
             handler,
@@ -38,7 +40,8 @@ impl<H: Handler, C: Named> Context<H, C> {
         let (mark, state) = invoke(handler, done, state, &mut io);
         staging = io.returned();
         let mut shared = self.shared.lock(rt);
-        let next = shared.end(&self.table, running, state, mark, &mut staging, waits);
+        let by = &mut worker.share;
+        let next = shared.end(&self.table, running, state, mark, &mut staging, by, waits);
         match worker.staging.replace(staging) {
             None => {}
             Some(_) => unreachable!(),
@@ -46,7 +49,7 @@ impl<H: Handler, C: Named> Context<H, C> {
         self.go_on(rt, shared, next, waits)
     }
 
-    /// Waits until a handler begins, if the worker waits; `None` where its call of `run` is to return.
+    /// Invokes what begins, with the lock free.
     fn go_on<'a, R: Wait>(
         &'a self,
         rt: &R,
@@ -54,34 +57,55 @@ impl<H: Handler, C: Named> Context<H, C> {
         next: Next<H, C>,
         waits: bool,
     ) -> Option<Invocation<H, C>> {
+        match next {
+            Next::Invoke(invocation, wake) => {
+                drop(shared);
+                wake.send(&self.more);
+                Some(invocation)
+            }
+            Next::Pause(pause) => self.pause(rt, shared, pause, waits),
+        }
+    }
+
+    /// Waits until a handler begins, if the worker waits; `None` where its call of `run` is to return.
+    fn pause<'a, R: Wait>(
+        &'a self,
+        rt: &R,
+        shared: MutexGuard<'a, Shared<H, C>>,
+        pause: Pause<H::State>,
+        waits: bool,
+    ) -> Option<Invocation<H, C>> {
         let mut shared = shared;
-        let mut next = next;
+        let mut pause = pause;
         for _ in rt.forever() {
+            let next = match pause {
+                Pause::Over(wake) => {
+                    drop(shared);
+                    wake.send(&self.more);
+                    return None;
+                }
+                Pause::Retire(state, wake) => {
+                    drop(shared);
+                    wake.send(&self.more);
+                    H::retire(state);
+                    shared = self.shared.lock(rt);
+                    shared.begin(&self.table, waits)
+                }
+                Pause::Nothing => {
+                    if !waits {
+                        return None;
+                    }
+                    shared = self.more.wait(rt, shared);
+                    shared.begin_awake(&self.table)
+                }
+            };
             match next {
                 Next::Invoke(invocation, wake) => {
                     drop(shared);
                     wake.send(&self.more);
                     return Some(invocation);
                 }
-                Next::Over(wake) => {
-                    drop(shared);
-                    wake.send(&self.more);
-                    return None;
-                }
-                Next::Retire(state, wake) => {
-                    drop(shared);
-                    wake.send(&self.more);
-                    H::retire(state);
-                    shared = self.shared.lock(rt);
-                    next = shared.begin(&self.table, waits);
-                }
-                Next::Nothing => {
-                    if !waits {
-                        return None;
-                    }
-                    shared = self.more.wait(rt, shared);
-                    next = shared.begin_awake(&self.table);
-                }
+                Next::Pause(rest) => pause = rest,
             }
         }
         unreachable!()

@@ -1,5 +1,7 @@
 ghost use Rattle.std.specs.Prelude.{◌≡◌, [], None};
+ghost use Rattle.io_rules.specs.History.{times};
 ghost use Rattle.io_rules.specs.Legal.{IsLegal, IsWhole, state_of};
+ghost use Rattle.io_history.specs.Seats.{is_end};
 ghost use Rattle.io_context.specs.Laws.{KeepsLaws};
 
 use crate::context::Context;
@@ -13,6 +15,7 @@ use io_rules::{
 };
 use io_scheduler::{Remains, Scheduler, States};
 use std::sync::Wait;
+use std::sync::ledger::Share;
 
 /// Waits until no handler executes.
 fn at_rest<H: Handler, C: Named, R: Wait>(
@@ -52,15 +55,18 @@ fn retire_all<H: Handler>(states: States<H, H::State>) {
 }
 
 /// The history of a keeper that knows a whole one.
-fn history<C: Named>(table: HistoryTable, keeper: Keeper<C>) -> History<C>
+fn history<C: Named>(table: HistoryTable, keeper: Keeper<C>, executed: Share<C>) -> History<C>
     requires table { table ≡ C.table }
     requires whole { IsWhole (state_of C.limits keeper.past) }
     requires none { keeper.held ≡ None }
     ensures legal { IsLegal C.limits result }
     ensures whole { IsWhole (state_of C.limits result) }
     ensures laws { KeepsLaws C.limits result }
+    ensures executed { executed.parts ≡ C.parts → times is_end result ≡ executed.amount }
 {
     let mut keeper = keeper;
+    let mut executed = executed;
+    keeper.audit(&mut executed);
     keeper.learn(&table);
     each_handler_is_called_once();
     handlers_of_a_strand_are_alone();
@@ -72,11 +78,13 @@ fn history<C: Named>(table: HistoryTable, keeper: Keeper<C>) -> History<C>
 impl<H: Handler, C: Named> Context<H, C> {
     /// Destroys the context (`io_context::~io_context`), and answers its whole history. Each handler that is
     /// left is discarded, in the order of the calls, and each strand's state is retired. Waits while a
-    /// handler executes; none does, since whoever runs the context borrows it.
-    pub fn finish<R: Wait>(self, rt: &R) -> History<C>
+    /// handler executes; none does, since whoever runs the context borrows it. Where the shares of all
+    /// workers have come back, just as many handlers were executed as they say.
+    pub fn finish<R: Wait>(self, rt: &R, executed: Share<C>) -> History<C>
         ensures legal { IsLegal C.limits result }
         ensures whole { IsWhole (state_of C.limits result) }
         ensures laws { KeepsLaws C.limits result }
+        ensures executed { executed.parts ≡ C.parts → times is_end result ≡ executed.amount }
     {
         let Context {
             table,
@@ -92,6 +100,6 @@ impl<H: Handler, C: Named> Context<H, C> {
         discard_all(&mut left, &table);
         let (keeper, states) = left.into_parts();
         retire_all::<H>(states);
-        history(table, keeper)
+        history(table, keeper, executed)
     }
 }

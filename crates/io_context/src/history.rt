@@ -4,7 +4,7 @@ ghost use Rattle.io_history.specs.Rule.{EndsWith};
 
 use io_history::{HistoryTable, Keeper, Named};
 use io_rules::each_handler_is_called_once;
-use io_scheduler::Receipt;
+use io_scheduler::{Receipt, Section};
 use std::marker::Model;
 
 /// The whole history of a context that was finished; it exists in proofs alone. Contracts see its events,
@@ -33,11 +33,21 @@ impl<C: Named> History<C> {
     /// once.
     pub fn shows(&mut self, receipt: Receipt<C>)
         ensures same { self.new ≡ self.old }
-        ensures called { EndsWith self.new receipt.told }
+        ensures called { EndsWith self.new receipt.section.after }
         ensures over { times (is_over receipt.op) self.new ≡ 1 }
     {
-        let Receipt { op: _, told } = receipt;
+        let Receipt { op: _, section } = receipt;
+        let Section { before: _, after } = section;
         each_handler_is_called_once();
-        self.keeper.meet(&self.table, told);
+        self.keeper.meet(&self.table, after);
+    }
+
+    /// What a critical section noted stands in the history.
+    pub fn meets(&mut self, section: Section<C>)
+        ensures same { self.new ≡ self.old }
+        ensures met { EndsWith self.new section.after }
+    {
+        let Section { before: _, after } = section;
+        self.keeper.meet(&self.table, after);
     }
 }

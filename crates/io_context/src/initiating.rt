@@ -1,11 +1,10 @@
-ghost use Rattle.std.specs.Prelude.{◌≡◌, IfErr, IfOk, None, true};
+ghost use Rattle.std.specs.Prelude.{◌≡◌, ◌∷◌, IfErr, IfOk, None, true};
 ghost use Rattle.io_rules.specs.declared.event.Event.TheVariants as event;
 ghost use Rattle.io_rules.specs.declared.operation.Operation.TheVariants as operation;
 ghost use Rattle.io_rules.specs.declared.request.Gone.TheVariants as gone;
 ghost use Rattle.io_rules.specs.Operations.{is_posting};
 ghost use Rattle.io_context.specs.Refused.{WasRefused};
 ghost use Rattle.io_scheduler.specs.Posted.{posting};
-ghost use Rattle.io_scheduler.specs.Told.{IsNewest};
 
 use crate::context::Context;
 use crate::refused::Refused;
@@ -25,9 +24,10 @@ impl<H: Handler, C: Named> Context<H, C> {
         handler: H,
     ) -> Result<Receipt<C>, Refused<H, C>>
         requires posting { is_posting kind ≡ true }
-        ensures called { IfOk result (λ receipt. IsNewest
-            (event.Called receipt.op None (posting lane kind (H.marks handler)) gone.Nothing) receipt.told) }
-        ensures refused { IfErr result (λ refused. WasRefused C.limits lane refused.why refused.told) }
+        ensures called { IfOk result (λ receipt. receipt.section.after
+            ≡ event.Called receipt.op None (posting lane kind (H.marks handler)) gone.Nothing ∷ receipt.section.before) }
+        ensures refused { IfErr result (λ refused. WasRefused C.limits lane refused.why refused.section.after) }
+        ensures nothing { IfErr result (λ refused. refused.section.after ≡ refused.section.before) }
         ensures back { IfErr result (λ refused. refused.back ≡ handler) }
     {
         let mut shared = self.shared.lock(rt);
@@ -40,9 +40,10 @@ impl<H: Handler, C: Named> Context<H, C> {
     /// `post` from outside of all handlers: a handler that is ready behind all others there. Refused where
     /// the strand is gone, or no place is free: then it comes back.
     pub fn post<R: Wait>(&self, rt: &R, lane: Lane, handler: H) -> Result<Receipt<C>, Refused<H, C>>
-        ensures called { IfOk result (λ receipt. IsNewest
-            (event.Called receipt.op None (posting lane operation.Post (H.marks handler)) gone.Nothing) receipt.told) }
-        ensures refused { IfErr result (λ refused. WasRefused C.limits lane refused.why refused.told) }
+        ensures called { IfOk result (λ receipt. receipt.section.after
+            ≡ event.Called receipt.op None (posting lane operation.Post (H.marks handler)) gone.Nothing ∷ receipt.section.before) }
+        ensures refused { IfErr result (λ refused. WasRefused C.limits lane refused.why refused.section.after) }
+        ensures nothing { IfErr result (λ refused. refused.section.after ≡ refused.section.before) }
         ensures back { IfErr result (λ refused. refused.back ≡ handler) }
     {
         self.initiate(rt, lane, Operation::Post, handler)
@@ -55,9 +56,10 @@ impl<H: Handler, C: Named> Context<H, C> {
         lane: Lane,
         handler: H,
     ) -> Result<Receipt<C>, Refused<H, C>>
-        ensures called { IfOk result (λ receipt. IsNewest
-            (event.Called receipt.op None (posting lane operation.Defer (H.marks handler)) gone.Nothing) receipt.told) }
-        ensures refused { IfErr result (λ refused. WasRefused C.limits lane refused.why refused.told) }
+        ensures called { IfOk result (λ receipt. receipt.section.after
+            ≡ event.Called receipt.op None (posting lane operation.Defer (H.marks handler)) gone.Nothing ∷ receipt.section.before) }
+        ensures refused { IfErr result (λ refused. WasRefused C.limits lane refused.why refused.section.after) }
+        ensures nothing { IfErr result (λ refused. refused.section.after ≡ refused.section.before) }
         ensures back { IfErr result (λ refused. refused.back ≡ handler) }
     {
         self.initiate(rt, lane, Operation::Defer, handler)
@@ -70,9 +72,10 @@ impl<H: Handler, C: Named> Context<H, C> {
         lane: Lane,
         handler: H,
     ) -> Result<Receipt<C>, Refused<H, C>>
-        ensures called { IfOk result (λ receipt. IsNewest
-            (event.Called receipt.op None (posting lane operation.Dispatch (H.marks handler)) gone.Nothing) receipt.told) }
-        ensures refused { IfErr result (λ refused. WasRefused C.limits lane refused.why refused.told) }
+        ensures called { IfOk result (λ receipt. receipt.section.after
+            ≡ event.Called receipt.op None (posting lane operation.Dispatch (H.marks handler)) gone.Nothing ∷ receipt.section.before) }
+        ensures refused { IfErr result (λ refused. WasRefused C.limits lane refused.why refused.section.after) }
+        ensures nothing { IfErr result (λ refused. refused.section.after ≡ refused.section.before) }
         ensures back { IfErr result (λ refused. refused.back ≡ handler) }
     {
         self.initiate(rt, lane, Operation::Dispatch, handler)

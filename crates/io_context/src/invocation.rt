@@ -33,8 +33,14 @@ impl<H: Handler, C: Named> Model for Invocation<H, C> {
 pub(crate) enum Next<H: Handler, C: Named> {
     /// It invokes a handler.
     Invoke(Invocation<H, C>, Wake),
+    /// No handler begins.
+    Pause(Pause<H::State>),
+}
+
+/// What a worker does where no handler begins.
+pub(crate) enum Pause<S> {
     /// It retires the state of a strand that is gone.
-    Retire(H::State, Wake),
+    Retire(S, Wake),
     /// Nothing, for now.
     Nothing,
     /// Nothing more: its call of `run` returns.
@@ -75,12 +81,12 @@ pub(crate) fn take_next<H: Handler, C: Named>(
         None => {
             if scheduler.is_over() {
                 scheduler.returned(table);
-                return Next::Over(sleepers.call(scheduler));
+                return Next::Pause(Pause::Over(sleepers.call(scheduler)));
             }
             if waits {
                 sleepers.sleep();
             }
-            Next::Nothing
+            Next::Pause(Pause::Nothing)
         }
     }
 }

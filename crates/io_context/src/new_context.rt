@@ -5,6 +5,7 @@ use io_history::{HistorySeat, HistoryTable};
 use io_rules::Limits;
 use std::alloc::Global;
 use std::marker::Model;
+use std::sync::ledger::Blank;
 
 /// What a context is made of: its empty history, and what it is to have room for. Contracts see both, and a
 /// type that is bound by `Named` stands for them.
@@ -12,17 +13,26 @@ pub struct NewContext {
     pub(crate) table: HistoryTable,
     pub(crate) seat: HistorySeat,
     pub(crate) limits: Limits,
+    // how many handlers each worker has executed
+    pub(crate) ledger: Blank,
 }
 
 impl Model for NewContext {
+    ghost use Rattle.std.specs.Prelude.{◌≡◌};
     ghost use Rattle.io_history.specs.Seats.{IsFirstSeat};
-    ghost use Rattle.io_context.specs.Naming.{Naming};
+    ghost use Rattle.io_context.specs.Naming.{Naming, most_parts};
 
     ghost Value = { Naming };
 
-    ghost view = { λ n. record { table = n.table; limits = n.limits } };
+    ghost view = { λ n. record {
+      table = n.table;
+      limits = n.limits;
+      name = n.ledger.name;
+      parts = n.ledger.parts;
+    } };
 
-    ghost invariant = { λ n. IsFirstSeat n.limits n.table n.seat.table_id n.seat.me };
+    ghost invariant = { λ n. IsFirstSeat n.limits n.table n.seat.table_id n.seat.me
+        × (n.ledger.parts ≡ most_parts) };
 }
 
 impl NewContext {
@@ -36,6 +46,7 @@ impl NewContext {
             table,
             seat,
             limits,
+            ledger: Blank::new(u64::MAX),
         })
     }
 }

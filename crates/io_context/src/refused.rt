@@ -2,11 +2,12 @@ ghost use Rattle.std.specs.Prelude.{◌≡◌, false};
 ghost use Rattle.io_context.specs.Refused.{NoStrandWasFree, WasRefused};
 ghost use Rattle.io_rules.specs.Names.{any_free};
 ghost use Rattle.io_scheduler.specs.Counted.{may_post};
+ghost use Rattle.io_scheduler.specs.Sections.{NotesNothing};
 
 use io_handlers::Handler;
-use io_history::{HistoryTable, Named, Witness};
+use io_history::{HistoryTable, Named};
 use io_rules::Lane;
-use io_scheduler::Scheduler;
+use io_scheduler::{Scheduler, Section};
 
 /// Why a call from outside of all handlers is refused.
 #[derive(Clone, Copy, Debug, PartialEq, Eq)]
@@ -24,8 +25,8 @@ pub struct Refused<T, C: Named> {
     pub back: T,
     /// Why.
     pub why: Refusal,
-    /// The history at that moment.
-    pub told: Witness<C>,
+    /// The critical section, in which nothing was noted.
+    pub section: Section<C>,
 }
 
 /// A handler that isn't accepted on this lane.
@@ -38,16 +39,17 @@ pub(crate) fn refuse<H: Handler, C: Named>(
     requires table { table.now ≡ C.table }
     requires may { may_post scheduler.old lane ≡ false }
     ensures same { scheduler.new ≡ scheduler.old }
-    ensures refused { WasRefused C.limits lane result.why result.told }
+    ensures refused { WasRefused C.limits lane result.why result.section.after }
+    ensures nothing { NotesNothing C.limits result.section.before result.section.after scheduler.old }
     ensures back { result.back ≡ back }
 {
-    let told = scheduler.tell(table);
+    let section = scheduler.look(table);
     if scheduler.has_lane(lane) {
         let why = Refusal::Full;
-        Refused { back, why, told }
+        Refused { back, why, section }
     } else {
         let why = Refusal::Gone;
-        Refused { back, why, told }
+        Refused { back, why, section }
     }
 }
 
@@ -60,10 +62,11 @@ pub(crate) fn refuse_strand<H: Handler, C: Named>(
     requires table { table.now ≡ C.table }
     requires none { any_free scheduler.old.names.strands ≡ false }
     ensures same { scheduler.new ≡ scheduler.old }
-    ensures refused { NoStrandWasFree C.limits result.told }
+    ensures refused { NoStrandWasFree C.limits result.section.after }
+    ensures nothing { NotesNothing C.limits result.section.before result.section.after scheduler.old }
     ensures back { result.back ≡ back }
 {
-    let told = scheduler.tell(table);
+    let section = scheduler.look(table);
     let why = Refusal::Full;
-    Refused { back, why, told }
+    Refused { back, why, section }
 }

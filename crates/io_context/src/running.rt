@@ -1,4 +1,4 @@
-ghost use Rattle.std.specs.Prelude.{◌≡◌};
+ghost use Rattle.std.specs.Prelude.{◌≡◌, ◌<◌, ◌≤◌, ◌+◌, IfOk, OnErr, vec_len};
 
 use crate::context::Context;
 use crate::worker::Worker;
@@ -7,59 +7,73 @@ use io_handlers::Handler;
 use io_history::Named;
 use std::alloc::Global;
 use std::sync::Wait;
+use std::sync::ledger::Share;
 use std::thread;
 use std::thread::Threads;
 
 impl<H: Handler, C: Named> Context<H, C> {
     /// Executes handlers until the context is stopped or out of work (`io_context::run`), and answers how
     /// many it executed. Any number of threads may call it at the same time, each with a worker of its own.
-    pub fn run<R: Wait>(&self, rt: &R, worker: &mut Worker<H>) -> u64 {
+    pub fn run<R: Wait>(&self, rt: &R, worker: &mut Worker<H, C>) -> u64
+        ensures { worker.new.executed ≡ worker.old.executed + result }
+    {
         self.serve(rt, worker, true)
     }
 
     /// Executes handlers until none may begin (`io_context::poll`), and answers how many it executed.
-    pub fn poll<R: Wait>(&self, rt: &R, worker: &mut Worker<H>) -> u64 {
+    pub fn poll<R: Wait>(&self, rt: &R, worker: &mut Worker<H, C>) -> u64
+        ensures { worker.new.executed ≡ worker.old.executed + result }
+    {
         self.serve(rt, worker, false)
     }
 
     /// Executes handlers until none may begin; a worker that waits does while more may come.
-    fn serve<R: Wait>(&self, rt: &R, worker: &mut Worker<H>, waits: bool) -> u64 {
-        let mut executed: u64 = 0;
+    fn serve<R: Wait>(&self, rt: &R, worker: &mut Worker<H, C>, waits: bool) -> u64
+        ensures { worker.new.executed ≡ worker.old.executed + result }
+    {
         let mut next = self.first(rt, waits);
-        for _ in rt.forever() {
+        for executed in 0..u64::MAX {
             match next {
                 None => return executed,
-                Some(invocation) => {
-                    next = self.execute(rt, invocation, worker, waits);
-                    executed = executed.saturating_add(1);
-                }
+                Some(invocation) => next = self.execute(rt, invocation, worker, waits),
             }
         }
+        // so many are never executed
+        for _ in rt.forever() {}
         unreachable!()
     }
 }
 
-/// Gives the memory of all workers back.
-fn destroy_all<H>(workers: Vec<Worker<H>>) {
+/// Gives the memory of all workers back, and their shares to this one.
+fn destroy_all<H, C: Named>(workers: Vec<Worker<H, C>>, share: &mut Share<C>)
+    ensures amount { share.old.amount ≤ share.new.amount }
+    ensures parts { share.new.parts ≡ share.old.parts + vec_len workers }
+{
     let mut left = workers;
     'workers: while let Some(worker) = left.pop() {
-        worker.destroy();
+        worker.destroy(share);
     }
     left.destroy_empty();
 }
 
-/// So many workers of a context.
+/// So many workers of a context, whose shares are cut off this one.
 fn make_workers<H: Handler, C: Named>(
     alloc: Global,
     context: &Context<H, C>,
     many: usize,
-) -> Result<Vec<Worker<H>>, NoMemory> {
+    share: &mut Share<C>,
+) -> Result<Vec<Worker<H, C>>, NoMemory>
+    requires { many < share.old.parts }
+    ensures made { IfOk result (λ workers. share.new.parts + vec_len workers ≡ share.old.parts) }
+    ensures refused { OnErr result (share.new.parts ≡ share.old.parts) }
+    ensures amount { share.old.amount ≤ share.new.amount }
+{
     let mut workers = Vec::with_capacity(alloc, many)?;
     'workers: for _ in 0..many {
-        match context.worker(alloc) {
+        match context.worker(alloc, share) {
             Ok(worker) => workers.push_reserved(worker),
             Err(refused) => {
-                destroy_all(workers);
+                destroy_all(workers, share);
                 return Err(refused);
             }
         }
@@ -67,18 +81,22 @@ fn make_workers<H: Handler, C: Named>(
     Ok(workers)
 }
 
-/// Calls `run` on so many threads, until all are back. Takes the memory of their workers first; `NoMemory`
-/// where it is refused, and then nothing ran.
+/// Calls `run` on so many threads, until all are back; how many handlers they executed is added to this
+/// share. Takes the memory of their workers first; `NoMemory` where it is refused, and then nothing ran.
 pub fn run_on_threads<R: Threads + Wait + Sync, H: Handler + Send, C: Named + Send + Sync>(
     rt: &R,
     alloc: Global,
     context: &Context<H, C>,
     threads: usize,
+    share: &mut Share<C>,
 ) -> Result<(), NoMemory>
 where
     H::State: Send,
+    requires { threads < share.old.parts }
+    ensures parts { share.new.parts ≡ share.old.parts }
+    ensures amount { share.old.amount ≤ share.new.amount }
 {
-    let mut workers = make_workers(alloc, context, threads)?;
+    let mut workers = make_workers(alloc, context, threads, share)?;
     thread::for_each_mut(
         rt,
         workers.as_mut_slice(),
@@ -87,6 +105,6 @@ where
             context.run(rt, worker);
         },
     );
-    destroy_all(workers);
+    destroy_all(workers, share);
     Ok(())
 }

@@ -1,22 +1,28 @@
-ghost use Rattle.std.specs.Prelude.{◌≡◌, [], true, IfErr, IfOk, None, Some};
+ghost use Rattle.std.specs.Prelude.{◌≡◌, ◌<◌, ◌+◌, nat_lt, [], true, IfErr, IfOk, None, OnErr, Some};
 ghost use Rattle.std.specs.Option.{is_some};
+ghost use Rattle.io_rules.specs.declared.control.Control.TheVariants as control;
 ghost use Rattle.io_rules.specs.declared.event.Event.TheVariants as event;
+ghost use Rattle.io_rules.specs.declared.name.Kind.TheVariants as kind;
 ghost use Rattle.io_rules.specs.declared.request.Gone.TheVariants as gone;
+ghost use Rattle.io_rules.specs.Names.{is_alive};
 ghost use Rattle.io_rules.specs.Operations.{is_posting};
 ghost use Rattle.io_context.specs.Refused.{NoStrandWasFree, WasRefused};
 ghost use Rattle.io_scheduler.specs.Begun.{is_strand};
 ghost use Rattle.io_scheduler.specs.Ended.{mark_of};
+ghost use Rattle.io_scheduler.specs.Holding.{may_hold};
 ghost use Rattle.io_scheduler.specs.Posted.{posting};
-ghost use Rattle.io_scheduler.specs.Told.{IsNewest};
+ghost use Rattle.io_scheduler.specs.Sections.{Notes, NotesIf, NotesNothing};
+ghost use Rattle.io_scheduler.specs.Tallied.{is_idle};
 
-use crate::invocation::{Next, take_next};
+use crate::invocation::{Next, Pause, take_next};
 use crate::refused::{Refused, refuse, refuse_strand};
 use crate::sleepers::{Sleepers, Wake};
 use io_handlers::{Handler, Staging};
 use io_history::{HistoryTable, Named};
 use io_rules::{Lane, Name, Operation};
-use io_scheduler::{Receipt, Running, Scheduler};
+use io_scheduler::{Receipt, Running, Scheduler, Section};
 use std::marker::Model;
+use std::sync::ledger::Share;
 
 /// What lies under the lock of a context. Contracts see the state of its history so far.
 pub(crate) struct Shared<H: Handler, C: Named> {
@@ -56,9 +62,13 @@ impl<H: Handler, C: Named> Shared<H, C> {
     ) -> (Result<Receipt<C>, Refused<H, C>>, Wake)
         requires table { table.now ≡ C.table }
         requires posting { is_posting kind ≡ true }
-        ensures called { IfOk result.0 (λ receipt. IsNewest
-            (event.Called receipt.op None (posting lane kind (H.marks handler)) gone.Nothing) receipt.told) }
-        ensures refused { IfErr result.0 (λ refused. WasRefused C.limits lane refused.why refused.told) }
+        ensures called { IfOk result.0 (λ receipt. Notes C.limits
+            (event.Called receipt.op None (posting lane kind (H.marks handler)) gone.Nothing)
+            receipt.section.before receipt.section.after self.old self.new) }
+        ensures refused { IfErr result.0 (λ refused. WasRefused C.limits lane refused.why refused.section.after) }
+        ensures nothing { IfErr result.0 (λ refused.
+            NotesNothing C.limits refused.section.before refused.section.after self.old) }
+        ensures same { OnErr result.0 (self.new ≡ self.old) }
         ensures back { IfErr result.0 (λ refused. refused.back ≡ handler) }
     {
         match self.scheduler.initiate(table, lane, kind, handler) {
@@ -85,8 +95,8 @@ impl<H: Handler, C: Named> Shared<H, C> {
         take_next(&mut self.scheduler, &mut self.sleepers, table, true)
     }
 
-    /// A handler has returned this mark, and what it initiated takes effect. Then the next one begins, if one
-    /// may.
+    /// A handler has returned this mark, which counts in the share of its worker, and what it initiated takes
+    /// effect. Then the next one begins, if one may.
     pub(crate) fn end(
         &mut self,
         table: &HistoryTable,
@@ -94,52 +104,64 @@ impl<H: Handler, C: Named> Shared<H, C> {
         state: Option<H::State>,
         mark: u64,
         staging: &mut Staging<H>,
+        by: &mut Share<C>,
         waits: bool,
     ) -> Next<H, C>
         requires table { table.now ≡ C.table }
         requires mark { mark_of running.held ≡ Some mark }
         requires state { is_some state ≡ is_strand running.lane }
         requires granted { staging.old.granted ≡ running.places }
+        requires part { 0 < by.old.parts }
+        ensures counted { by.new.amount ≡ by.old.amount + 1 }
+        ensures parts { by.new.parts ≡ by.old.parts }
         ensures taken { staging.new ≡ record staging.old { staged = [] } }
     {
-        match self.scheduler.end(table, running, state, mark, staging) {
-            Some(state) => Next::Retire(state, self.sleepers.call(&self.scheduler)),
+        match self.scheduler.end(table, running, state, mark, staging, by) {
+            Some(state) => Next::Pause(Pause::Retire(state, self.sleepers.call(&self.scheduler))),
             None => take_next(&mut self.scheduler, &mut self.sleepers, table, waits),
         }
     }
 
     /// No handler begins any more.
-    pub(crate) fn stop(&mut self, table: &HistoryTable) -> Wake
+    pub(crate) fn stop(&mut self, table: &HistoryTable) -> (Section<C>, Wake)
         requires { table.now ≡ C.table }
+        ensures { Notes C.limits (event.Changed None control.Stop)
+            result.0.before result.0.after self.old self.new }
     {
-        self.scheduler.stop(table);
-        self.sleepers.call(&self.scheduler)
+        let section = self.scheduler.stop(table);
+        (section, self.sleepers.call(&self.scheduler))
     }
 
     /// Handlers may begin again.
-    pub(crate) fn restart(&mut self, table: &HistoryTable) -> (bool, Wake)
+    pub(crate) fn restart(&mut self, table: &HistoryTable) -> ((bool, Section<C>), Wake)
         requires { table.now ≡ C.table }
+        ensures restarted { result.0.0 ≡ is_idle self.old }
+        ensures noted { NotesIf result.0.0 C.limits event.Restarted
+            result.0.1.before result.0.1.after self.old self.new }
     {
         let restarted = self.scheduler.restart(table);
         (restarted, self.sleepers.call(&self.scheduler))
     }
 
     /// One more work guard.
-    pub(crate) fn hold(&mut self, table: &HistoryTable) -> (bool, Wake)
+    pub(crate) fn hold(&mut self, table: &HistoryTable) -> ((bool, Section<C>), Wake)
         requires { table.now ≡ C.table }
+        ensures held { result.0.0 ≡ may_hold self.old }
+        ensures noted { NotesIf result.0.0 C.limits (event.Changed None control.Hold)
+            result.0.1.before result.0.1.after self.old self.new }
     {
         let held = self.scheduler.hold(table);
         (held, self.sleepers.call(&self.scheduler))
     }
 
     /// A work guard is reset.
-    pub(crate) fn release(&mut self, table: &HistoryTable) -> Wake
+    pub(crate) fn release(&mut self, table: &HistoryTable) -> (Section<C>, Wake)
         requires { table.now ≡ C.table }
+        ensures { NotesIf (nat_lt 0 self.old.holds) C.limits (event.Changed None control.Release)
+            result.0.before result.0.after self.old self.new }
     {
-        if self.scheduler.has_guards() {
-            self.scheduler.release(table);
-        }
-        self.sleepers.call(&self.scheduler)
+        let section = release_one(&mut self.scheduler, table);
+        (section, self.sleepers.call(&self.scheduler))
     }
 
     /// Makes a strand with this state.
@@ -147,13 +169,18 @@ impl<H: Handler, C: Named> Shared<H, C> {
         &mut self,
         table: &HistoryTable,
         state: H::State,
-    ) -> (Result<Name, Refused<H::State, C>>, Wake)
+    ) -> (Result<(Name, Section<C>), Refused<H::State, C>>, Wake)
         requires table { table.now ≡ C.table }
-        ensures refused { IfErr result.0 (λ refused. NoStrandWasFree C.limits refused.told) }
+        ensures made { IfOk result.0 (λ made. Notes C.limits
+            (event.Changed None (control.Make kind.Strand made.0)) made.1.before made.1.after self.old self.new) }
+        ensures refused { IfErr result.0 (λ refused. NoStrandWasFree C.limits refused.section.after) }
+        ensures nothing { IfErr result.0 (λ refused.
+            NotesNothing C.limits refused.section.before refused.section.after self.old) }
+        ensures same { OnErr result.0 (self.new ≡ self.old) }
         ensures back { IfErr result.0 (λ refused. refused.back ≡ state) }
     {
         match self.scheduler.make_strand(table, state) {
-            Ok(name) => (Ok(name), self.sleepers.call(&self.scheduler)),
+            Ok(made) => (Ok(made), self.sleepers.call(&self.scheduler)),
             Err(back) => (
                 Err(refuse_strand(&mut self.scheduler, table, back)),
                 self.sleepers.call(&self.scheduler),
@@ -166,10 +193,28 @@ impl<H: Handler, C: Named> Shared<H, C> {
         &mut self,
         table: &HistoryTable,
         name: Name,
-    ) -> (Option<H::State>, Wake)
+    ) -> ((Option<H::State>, Section<C>), Wake)
         requires { table.now ≡ C.table }
+        ensures { NotesIf (is_alive self.old.names.strands name) C.limits
+            (event.Changed None (control.Free kind.Strand name)) result.0.1.before result.0.1.after self.old self.new }
     {
         let freed = self.scheduler.free_strand(table, name);
         (freed, self.sleepers.call(&self.scheduler))
+    }
+}
+
+/// A work guard is reset, if one is out.
+fn release_one<H: Handler, C: Named>(
+    scheduler: &mut Scheduler<H, C>,
+    table: &HistoryTable,
+) -> Section<C>
+    requires { table.now ≡ C.table }
+    ensures { NotesIf (nat_lt 0 scheduler.old.holds) C.limits (event.Changed None control.Release)
+        result.before result.after scheduler.old scheduler.new }
+{
+    if scheduler.has_guards() {
+        scheduler.release(table)
+    } else {
+        scheduler.look(table)
     }
 }

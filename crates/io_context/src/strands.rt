@@ -1,4 +1,9 @@
-ghost use Rattle.std.specs.Prelude.{◌≡◌, IfErr};
+ghost use Rattle.std.specs.Prelude.{◌≡◌, ◌∷◌, if◌then◌else◌, IfErr, IfOk, None};
+ghost use Rattle.io_rules.specs.declared.control.Control.TheVariants as control;
+ghost use Rattle.io_rules.specs.declared.event.Event.TheVariants as event;
+ghost use Rattle.io_rules.specs.declared.name.Kind.TheVariants as kind;
+ghost use Rattle.io_rules.specs.Legal.{state_of};
+ghost use Rattle.io_rules.specs.Names.{is_alive};
 ghost use Rattle.io_context.specs.Refused.{NoStrandWasFree};
 
 use crate::context::Context;
@@ -6,6 +11,7 @@ use crate::refused::Refused;
 use io_handlers::Handler;
 use io_history::Named;
 use io_rules::Name;
+use io_scheduler::Section;
 use std::sync::Wait;
 
 impl<H: Handler, C: Named> Context<H, C> {
@@ -14,8 +20,11 @@ impl<H: Handler, C: Named> Context<H, C> {
         &self,
         rt: &R,
         state: H::State,
-    ) -> Result<Name, Refused<H::State, C>>
-        ensures refused { IfErr result (λ refused. NoStrandWasFree C.limits refused.told) }
+    ) -> Result<(Name, Section<C>), Refused<H::State, C>>
+        ensures made { IfOk result (λ made. made.1.after
+            ≡ event.Changed None (control.Make kind.Strand made.0) ∷ made.1.before) }
+        ensures refused { IfErr result (λ refused. NoStrandWasFree C.limits refused.section.after) }
+        ensures nothing { IfErr result (λ refused. refused.section.after ≡ refused.section.before) }
         ensures back { IfErr result (λ refused. refused.back ≡ state) }
     {
         let mut shared = self.shared.lock(rt);
@@ -27,14 +36,18 @@ impl<H: Handler, C: Named> Context<H, C> {
 
     /// The name of a strand is gone. What the strand has still executes, and then its state is retired. No
     /// effect where it is gone already.
-    pub fn free_strand<R: Wait>(&self, rt: &R, name: Name) {
+    pub fn free_strand<R: Wait>(&self, rt: &R, name: Name) -> Section<C>
+        ensures { result.after ≡ (if is_alive (state_of C.limits result.before).names.strands name
+            then event.Changed None (control.Free kind.Strand name) ∷ result.before else result.before) }
+    {
         let mut shared = self.shared.lock(rt);
-        let (freed, wake) = shared.free_strand(&self.table, name);
+        let ((freed, section), wake) = shared.free_strand(&self.table, name);
         drop(shared);
         wake.send(&self.more);
         match freed {
             None => {}
             Some(state) => H::retire(state),
         }
+        section
     }
 }

@@ -1,7 +1,8 @@
-ghost use Rattle.std.specs.Prelude.{◌≡◌, [], ◌∷◌, IsSome, None};
+ghost use Rattle.std.specs.Prelude.{◌≡◌, ◌<◌, ◌≤◌, ◌+◌, true, false, [], ◌∷◌, IsSome, None};
+ghost use Rattle.io_rules.specs.History.{times};
 ghost use Rattle.io_rules.specs.Legal.{IsLegal, MayHappen, state_of};
 ghost use Rattle.io_history.specs.Rule.{EndsWith, IsHeld};
-ghost use Rattle.io_history.specs.Seats.{IsFirstSeat, IsOther};
+ghost use Rattle.io_history.specs.Seats.{IsFirstSeat, IsOther, is_end};
 ghost use Rattle.io_history.specs.Steps.{IsFree, first_held, held_after};
 
 use crate::claim::Claim;
@@ -10,12 +11,16 @@ use crate::step::{Claims, Learns, Notes, TakesIn, Tells};
 use crate::table::{HistorySeat, HistoryTable};
 use crate::witness::Witness;
 use std::marker::{Model, PhantomData};
+use std::sync::ledger::{Book, Share};
 
 /// Whoever has this knows the whole history of a context, and is the only one to note events. Contracts
-/// see the history, newest event first, and the operation that it holds itself, if any.
+/// see the history, newest event first, and the operation that it holds itself, if any. How many handlers
+/// have returned is known by the shares of those who executed them too.
 #[derive(Drop)]
 pub struct Keeper<C: Named> {
     seat: HistorySeat,
+    // how many handlers have returned
+    ended: Book<C>,
     of: PhantomData<C>,
 }
 
@@ -26,31 +31,64 @@ impl<C: Named> Model for Keeper<C> {
 
     ghost view = { λ k. kept_by k.seat.me };
 
-    ghost invariant = { λ k. IsKeeper C.table C.limits k.seat.table_id k.seat.me };
+    ghost invariant = { λ k. IsKeeper C.table C.limits k.ended.total k.seat.table_id k.seat.me };
 }
 
 impl<C: Named> Keeper<C> {
-    /// The keeper of the history whose first seat this is.
-    pub fn of(seat: HistorySeat) -> Keeper<C>
-        requires { IsFirstSeat C.limits C.table seat.table_id seat.me }
+    /// The keeper of the history whose first seat this is, and of a ledger in which nothing is yet.
+    pub fn of(seat: HistorySeat, ended: Book<C>) -> Keeper<C>
+        requires first { IsFirstSeat C.limits C.table seat.table_id seat.me }
+        requires none { ended.total ≡ 0 }
         ensures { result ≡ record { past = []; held = None } }
     {
         Keeper {
             seat,
+            ended,
             of: PhantomData,
         }
     }
 
-    /// Notes an event that may come. One load, no memory.
+    /// Notes an event that may come, and isn't the return of a handler. One load, no memory.
     pub fn note<E: Happening>(&mut self, table: &HistoryTable)
         requires table { table.now ≡ C.table }
         requires may { MayHappen (state_of C.limits self.old.past) E.event }
         requires free { IsFree E.event self.old.held }
+        requires other { is_end E.event ≡ false }
         ensures past { self.new.past ≡ E.event ∷ self.old.past }
         ensures held { self.new.held ≡
             held_after (state_of C.limits (E.event ∷ self.old.past)) E.event self.old.held }
     {
         table.events.shared.load::<Notes<E>>(&mut self.seat, 0);
+    }
+
+    /// Notes that a handler has returned, which counts in the share of whoever executed it. One load.
+    pub fn note_end<E: Happening>(&mut self, table: &HistoryTable, by: &mut Share<C>)
+        requires table { table.now ≡ C.table }
+        requires may { MayHappen (state_of C.limits self.old.past) E.event }
+        requires free { IsFree E.event self.old.held }
+        requires end { is_end E.event ≡ true }
+        requires part { 0 < by.old.parts }
+        ensures past { self.new.past ≡ E.event ∷ self.old.past }
+        ensures held { self.new.held ≡
+            held_after (state_of C.limits (E.event ∷ self.old.past)) E.event self.old.held }
+        ensures counted { by.new.amount ≡ by.old.amount + 1 }
+        ensures parts { by.new.parts ≡ by.old.parts }
+    {
+        self.ended.add(by, 1);
+        let shared = &table.events.shared;
+        shared.load::<Notes<E>>(&mut self.seat, 0);
+    }
+
+    /// Those who have a share executed no more handlers than have returned, and if they have all of it just
+    /// as many. Costs nothing.
+    pub fn audit(&mut self, by: &mut Share<C>)
+        ensures same { self.new ≡ self.old }
+        ensures amount { by.new.amount ≡ by.old.amount }
+        ensures parts { by.new.parts ≡ by.old.parts }
+        ensures at_most { by.old.amount ≤ times is_end self.old.past }
+        ensures all { by.old.parts ≡ C.parts → by.old.amount ≡ times is_end self.old.past }
+    {
+        self.ended.audit(by);
     }
 
     /// The history so far is legal, and what the keeper holds executes. One load.

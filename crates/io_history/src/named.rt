@@ -1,7 +1,9 @@
 use std::marker::Brand;
+use std::sync::ledger::Ledger;
 
-/// Names a context's history, for contracts alone: its table, and what the context has room for.
-pub trait Named {
+/// Names a context's history, for contracts alone: its table, what the context has room for, and the
+/// ledger of the handlers that were executed.
+pub trait Named: Ledger {
     ghost use Rattle.atomic_table.specs.Seated.{TableId};
     ghost use Rattle.io_rules.specs.declared.limits.Limits.{Limits};
 

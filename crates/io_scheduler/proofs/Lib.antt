@@ -15,6 +15,7 @@ pub mod MadeLemmas
 pub mod PostedLemmas
 pub mod ReadyLemmas
 pub mod RefusedLemmas
+pub mod SectionLemmas
 pub mod SortedLemmas
 pub mod SpaceLemmas
 pub mod SpareLemmas

@@ -1,5 +1,5 @@
 -- What an execution shows of what it holds.
-use Rattle.std.proofs.Common.{ap, subst, sym, ◌∙◌}
+use Rattle.std.proofs.Common.{ap, sym, ◌∙◌}
 use Rattle.std.specs.Prelude.{◌≡◌, ℕ, Bool, Option, Some, None}
 use Rattle.io_rules.specs.declared.name.Lane.{Lane}
 use Rattle.io_rules.specs.declared.spares.Spares.{Spares}

@@ -8,6 +8,7 @@ pub mod Outside
 pub mod Posted
 pub mod Ready
 pub mod Running
+pub mod Sections
 pub mod Shown
 pub mod Staged
 pub mod Steps

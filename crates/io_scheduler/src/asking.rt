@@ -1,14 +1,15 @@
 ghost use Rattle.std.specs.Prelude.{◌≡◌, not, false, nat_lt};
 ghost use Rattle.io_rules.specs.Calls.{is_lane_gone};
-ghost use Rattle.io_rules.specs.Legal.{state_of};
 ghost use Rattle.io_scheduler.specs.Begun.{NoneMayBegin};
+ghost use Rattle.io_scheduler.specs.Sections.{NotesNothing};
 ghost use Rattle.io_scheduler.specs.Told.{IsOnLane};
 
 use crate::initiating::is_there;
 use crate::running::Running;
 use crate::scheduler::Scheduler;
+use crate::section::Section;
 use io_handlers::Handler;
-use io_history::{HistoryTable, Named, Witness};
+use io_history::{HistoryTable, Named};
 use io_rules::Lane;
 
 impl<H: Handler, C: Named> Scheduler<H, C> {
@@ -39,13 +40,15 @@ impl<H: Handler, C: Named> Scheduler<H, C> {
         self.counts.holds > 0
     }
 
-    /// The history so far, for whoever wants to know it later. One load.
-    pub fn tell(&mut self, table: &HistoryTable) -> Witness<C>
+    /// A critical section in which nothing is noted. Two loads.
+    pub fn look(&mut self, table: &HistoryTable) -> Section<C>
         requires { table.now ≡ C.table }
         ensures same { self.new ≡ self.old }
-        ensures told { state_of C.limits result ≡ self.old }
+        ensures nothing { NotesNothing C.limits result.before result.after self.old }
     {
-        self.keeper.tell(table)
+        let before = self.keeper.tell(table);
+        let after = self.keeper.tell(table);
+        Section { before, after }
     }
 }
 

@@ -1,4 +1,4 @@
-ghost use Rattle.std.specs.Prelude.{◌≡◌, if◌then◌else◌, [], None, Some};
+ghost use Rattle.std.specs.Prelude.{◌≡◌, ◌<◌, ◌+◌, if◌then◌else◌, [], None, Some};
 ghost use Rattle.std.specs.Option.{is_some};
 ghost use Rattle.io_rules.specs.declared.event.Event.TheVariants as event;
 ghost use Rattle.io_rules.specs.Legal.{IsStep};
@@ -14,11 +14,12 @@ use crate::scheduler::Scheduler;
 use io_handlers::{Handler, Staging};
 use io_history::{HistoryTable, Named};
 use std::marker::Brand;
+use std::sync::ledger::Share;
 
 impl<H: Handler, C: Named> Scheduler<H, C> {
     /// A handler has returned this mark. What it staged takes effect in the order of its calls, and then it
-    /// has ended. Answers the state of its strand, to be retired, where that is gone and this was its last
-    /// operation.
+    /// has ended, which counts in the share of whoever executed it. Answers the state of its strand, to be
+    /// retired, where that is gone and this was its last operation.
     pub fn end(
         &mut self,
         table: &HistoryTable,
@@ -26,11 +27,15 @@ impl<H: Handler, C: Named> Scheduler<H, C> {
         state: Option<H::State>,
         mark: u64,
         io: &mut Staging<H>,
+        by: &mut Share<C>,
     ) -> Option<H::State>
         requires table { table.now ≡ C.table }
         requires mark { mark_of running.held ≡ Some mark }
         requires state { is_some state ≡ is_strand running.lane }
         requires granted { io.old.granted ≡ running.places }
+        requires part { 0 < by.old.parts }
+        ensures counted { by.new.amount ≡ by.old.amount + 1 }
+        ensures parts { by.new.parts ≡ by.old.parts }
         ensures ended { IsEnded H.marks running.op io.old.staged mark self.old self.new }
         ensures taken { io.new ≡ record io.old { staged = [] } }
         ensures retired { result
@@ -38,7 +43,7 @@ impl<H: Handler, C: Named> Scheduler<H, C> {
             then state else None) }
     {
         let left = self.commit_all(table, running, io);
-        self.end_now(table, left, state, mark)
+        self.end_now(table, left, state, mark, by)
     }
 
     /// A handler has returned this mark, and what it initiated is noted; answers the state of its strand
@@ -49,10 +54,14 @@ impl<H: Handler, C: Named> Scheduler<H, C> {
         running: Running<C>,
         state: Option<H::State>,
         mark: u64,
+        by: &mut Share<C>,
     ) -> Option<H::State>
         requires table { table.now ≡ C.table }
         requires mark { mark_of running.held ≡ Some mark }
         requires state { is_some state ≡ is_strand running.lane }
+        requires part { 0 < by.old.parts }
+        ensures counted { by.new.amount ≡ by.old.amount + 1 }
+        ensures parts { by.new.parts ≡ by.old.parts }
         ensures ended { IsStep self.old (event.Ended running.op mark) self.new }
         ensures retired { result ≡ (if is_last_on self.old running.lane then state else None) }
     {
@@ -66,7 +75,7 @@ impl<H: Handler, C: Named> Scheduler<H, C> {
         } = running;
         self.keeper.take_back(table, claim);
         self.keeper.learn(table);
-        note_ended::<C, Brand>(table, &mut self.keeper, op, mark);
+        note_ended::<C, Brand>(table, &mut self.keeper, by, op, mark);
         let last = is_last(&self.names.strands, &self.strands, lane);
         self.names.give_back_all(&spares);
         let places = places_of(own, grant);

@@ -7,7 +7,7 @@ ghost use Rattle.io_rules.specs.Operations.{is_posting};
 ghost use Rattle.io_names.specs.Tables.{names_of};
 ghost use Rattle.io_scheduler.specs.Counted.{may_post};
 ghost use Rattle.io_scheduler.specs.Posted.{posting};
-ghost use Rattle.io_scheduler.specs.Told.{IsNewest};
+ghost use Rattle.io_scheduler.specs.Sections.{Notes};
 
 use crate::entering::enter;
 use crate::noting::note_posted;
@@ -52,8 +52,9 @@ impl<H: Handler, C: Named> Scheduler<H, C> {
         requires posting { is_posting kind ≡ true }
         ensures initiated { IfOk result (λ receipt. IsStep self.old
             (event.Called receipt.op None (posting lane kind (H.marks handler)) gone.Nothing) self.new) }
-        ensures told { IfOk result (λ receipt. IsNewest
-            (event.Called receipt.op None (posting lane kind (H.marks handler)) gone.Nothing) receipt.told) }
+        ensures noted { IfOk result (λ receipt. Notes C.limits
+            (event.Called receipt.op None (posting lane kind (H.marks handler)) gone.Nothing)
+            receipt.section.before receipt.section.after self.old self.new) }
         ensures refused { OnErr result (may_post self.old lane ≡ false) }
         ensures same { OnErr result (self.new ≡ self.old) }
         ensures back { IfErr result (λ back. back ≡ handler) }
@@ -71,12 +72,13 @@ impl<H: Handler, C: Named> Scheduler<H, C> {
         requires may { may_post self.old lane ≡ true }
         ensures initiated { IsStep self.old
             (event.Called result.op None (posting lane kind (H.marks handler)) gone.Nothing) self.new }
-        ensures told { IsNewest
-            (event.Called result.op None (posting lane kind (H.marks handler)) gone.Nothing) result.told }
+        ensures noted { Notes C.limits
+            (event.Called result.op None (posting lane kind (H.marks handler)) gone.Nothing)
+            result.section.before result.section.after self.old self.new }
     {
         self.keeper.learn(table);
         let op = self.counts.next;
-        let told = note_posted::<H, C, Brand>(table, &mut self.keeper, op, lane, kind, &handler);
+        let section = note_posted::<H, C, Brand>(table, &mut self.keeper, op, lane, kind, &handler);
         self.counts.next += 1;
         self.counts.room -= 1;
         self.tally.call();
@@ -87,6 +89,6 @@ impl<H: Handler, C: Named> Scheduler<H, C> {
             handler,
         };
         enter(&mut self.strands, &mut self.jobs, false, lane, ready);
-        Receipt { op, told }
+        Receipt { op, section }
     }
 }

@@ -1,4 +1,4 @@
-ghost use Rattle.std.specs.Prelude.{◌≡◌, ◌∷◌, None, Some};
+ghost use Rattle.std.specs.Prelude.{◌≡◌, ◌<◌, ◌+◌, ◌∷◌, None, Some};
 ghost use Rattle.asio_types.specs.declared.code.Code.TheVariants as code;
 ghost use Rattle.io_rules.specs.declared.control.Control.TheVariants as control;
 ghost use Rattle.io_rules.specs.declared.event.Event.TheVariants as event;
@@ -8,11 +8,13 @@ ghost use Rattle.io_rules.specs.Ops.{op_at};
 ghost use Rattle.io_history.specs.Steps.{held_op, held_still, holding};
 ghost use Rattle.io_scheduler.specs.Posted.{posting};
 
+use crate::section::Section;
 use io_handlers::Handler;
-use io_history::{Happening, HistoryTable, Keeper, Named, Witness};
+use io_history::{Happening, HistoryTable, Keeper, Named};
 use io_rules::{Gone, Lane, Operation, Spares};
+use std::sync::ledger::Share;
 
-/// Notes that an operation is posted from outside, and tells the history up to it.
+/// Notes that an operation is posted from outside, and answers the critical section.
 pub(crate) fn note_posted<H: Handler, C: Named, E: Happening>(
     table: &HistoryTable,
     keeper: &mut Keeper<C>,
@@ -20,17 +22,20 @@ pub(crate) fn note_posted<H: Handler, C: Named, E: Happening>(
     lane: Lane,
     kind: Operation,
     handler: &H,
-) -> Witness<C>
+) -> Section<C>
     requires table { table.now ≡ C.table }
     requires event { E.event ≡ event.Called op None (posting lane kind (H.marks handler.now)) gone.Nothing }
     requires may { MayHappen (state_of C.limits keeper.old.past) E.event }
     requires none { keeper.old.held ≡ None }
     ensures past { keeper.new.past ≡ E.event ∷ keeper.old.past }
     ensures none { keeper.new.held ≡ None }
-    ensures told { result ≡ E.event ∷ keeper.old.past }
+    ensures before { result.before ≡ keeper.old.past }
+    ensures after { result.after ≡ E.event ∷ keeper.old.past }
 {
+    let before = keeper.tell(table);
     keeper.note::<E>(table);
-    keeper.tell(table)
+    let after = keeper.tell(table);
+    Section { before, after }
 }
 
 /// Notes that a handler begins, and holds its operation.
@@ -52,10 +57,11 @@ pub(crate) fn note_begun<C: Named, E: Happening>(
     keeper.note::<E>(table);
 }
 
-/// Notes that what is held has returned its mark.
+/// Notes that what is held has returned its mark, which counts in the share of whoever executed it.
 pub(crate) fn note_ended<C: Named, E: Happening>(
     table: &HistoryTable,
     keeper: &mut Keeper<C>,
+    by: &mut Share<C>,
     op: u64,
     mark: u64,
 )
@@ -63,11 +69,14 @@ pub(crate) fn note_ended<C: Named, E: Happening>(
     requires event { E.event ≡ event.Ended op mark }
     requires may { MayHappen (state_of C.limits keeper.old.past) E.event }
     requires held { held_op keeper.old.held ≡ Some op }
+    requires part { 0 < by.old.parts }
     ensures may { MayHappen (state_of C.limits keeper.old.past) (event.Ended op mark) }
     ensures past { keeper.new.past ≡ event.Ended op mark ∷ keeper.old.past }
     ensures none { keeper.new.held ≡ None }
+    ensures counted { by.new.amount ≡ by.old.amount + 1 }
+    ensures parts { by.new.parts ≡ by.old.parts }
 {
-    keeper.note::<E>(table);
+    keeper.note_end::<E>(table, by);
 }
 
 /// Notes that the handler that is held posts an operation.

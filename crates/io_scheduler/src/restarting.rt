@@ -1,11 +1,13 @@
 ghost use Rattle.std.specs.Prelude.{◌≡◌, true};
 ghost use Rattle.io_rules.specs.declared.event.Event.TheVariants as event;
 ghost use Rattle.io_rules.specs.Legal.{IsStep};
+ghost use Rattle.io_scheduler.specs.Sections.{NotesIf};
 ghost use Rattle.io_scheduler.specs.Steps.{IsStepIf};
 ghost use Rattle.io_scheduler.specs.Tallied.{is_idle, is_over};
 
-use crate::outside::note_outside;
+use crate::outside::{note_outside, note_section};
 use crate::scheduler::Scheduler;
+use crate::section::Section;
 use io_handlers::Handler;
 use io_history::{HistoryTable, Named};
 use std::marker::Brand;
@@ -31,16 +33,18 @@ impl<H: Handler, C: Named> Scheduler<H, C> {
 
     /// Handlers may begin again (`io_context::restart`). `false` exactly where one executes, and then nothing
     /// has changed.
-    pub fn restart(&mut self, table: &HistoryTable) -> bool
+    pub fn restart(&mut self, table: &HistoryTable) -> (bool, Section<C>)
         requires { table.now ≡ C.table }
-        ensures idle { result ≡ is_idle self.old }
-        ensures step { IsStepIf result self.old event.Restarted self.new }
+        ensures idle { result.0 ≡ is_idle self.old }
+        ensures step { IsStepIf result.0 self.old event.Restarted self.new }
+        ensures noted { NotesIf result.0 C.limits event.Restarted
+            result.1.before result.1.after self.old self.new }
     {
         if self.tally.running > 0 {
-            return false;
+            return (false, self.look(table));
         }
-        note_outside::<C, Brand>(table, &mut self.keeper);
+        let section = note_section::<C, Brand>(table, &mut self.keeper);
         self.counts.stopped = false;
-        true
+        (true, section)
     }
 }

@@ -8,6 +8,7 @@ ghost use Rattle.io_rules.specs.Changes.{is_forgotten};
 ghost use Rattle.io_rules.specs.Legal.{IsStep};
 ghost use Rattle.io_rules.specs.Names.{any_free, is_alive};
 ghost use Rattle.io_scheduler.specs.Ended.{forgotten_cells, forgotten_state};
+ghost use Rattle.io_scheduler.specs.Sections.{Notes, NotesIf};
 ghost use Rattle.io_scheduler.specs.Shown.{cell_at};
 ghost use Rattle.io_scheduler.specs.Steps.{IsStepIf};
 ghost use Rattle.io_scheduler.specs.Stranded.{MayFree, MayOpen, names_freed, opened_cells};
@@ -15,6 +16,7 @@ ghost use Rattle.io_scheduler.specs.Stranded.{MayFree, MayOpen, names_freed, ope
 use crate::leaving::forget_if;
 use crate::outside::note_named;
 use crate::scheduler::Scheduler;
+use crate::section::Section;
 use io_handlers::Handler;
 use io_history::{HistoryTable, Named};
 use io_names::NameTable;
@@ -49,10 +51,16 @@ fn free_at<H, S>(names: &mut NameTable, strands: &mut Vec<Strand<H, S>>, name: N
 impl<H: Handler, C: Named> Scheduler<H, C> {
     /// Makes a strand with this state, from outside of all handlers (`strand`); gives the state back exactly
     /// where no place with a name is free.
-    pub fn make_strand(&mut self, table: &HistoryTable, state: H::State) -> Result<Name, H::State>
+    pub fn make_strand(
+        &mut self,
+        table: &HistoryTable,
+        state: H::State,
+    ) -> Result<(Name, Section<C>), H::State>
         requires { table.now ≡ C.table }
-        ensures made { IfOk result (λ name. IsStep self.old
-            (event.Changed None (control.Make kind.Strand name)) self.new) }
+        ensures made { IfOk result (λ made. IsStep self.old
+            (event.Changed None (control.Make kind.Strand made.0)) self.new) }
+        ensures noted { IfOk result (λ made. Notes C.limits
+            (event.Changed None (control.Make kind.Strand made.0)) made.1.before made.1.after self.old self.new) }
         ensures refused { OnErr result (any_free self.old.names.strands ≡ false) }
         ensures same { OnErr result (self.new ≡ self.old) }
         ensures back { IfErr result (λ back. back ≡ state) }
@@ -61,9 +69,9 @@ impl<H: Handler, C: Named> Scheduler<H, C> {
         match self.names.strands.make_one() {
             None => Err(state),
             Some(name) => {
-                note_named::<C, Brand>(table, &mut self.keeper, name);
+                let section = note_named::<C, Brand>(table, &mut self.keeper, name);
                 open_at(&mut self.strands, name.place, state);
-                Ok(name)
+                Ok((name, section))
             }
         }
     }
@@ -71,28 +79,37 @@ impl<H: Handler, C: Named> Scheduler<H, C> {
     /// A strand's name is gone at once, and nothing more is accepted on it; what it has still executes there.
     /// Answers its state, to be retired, where it has no operation. Nothing happens exactly where the name is
     /// gone already.
-    pub fn free_strand(&mut self, table: &HistoryTable, name: Name) -> Option<H::State>
+    pub fn free_strand(
+        &mut self,
+        table: &HistoryTable,
+        name: Name,
+    ) -> (Option<H::State>, Section<C>)
         requires { table.now ≡ C.table }
         ensures freed { IsStepIf (is_alive self.old.names.strands name) self.old
             (event.Changed None (control.Free kind.Strand name)) self.new }
-        ensures retired { is_some result ≡ is_forgotten self.old kind.Strand name }
+        ensures retired { is_some result.0 ≡ is_forgotten self.old kind.Strand name }
+        ensures noted { NotesIf (is_alive self.old.names.strands name) C.limits
+            (event.Changed None (control.Free kind.Strand name)) result.1.before result.1.after self.old self.new }
     {
         if self.names.strands.is_alive(name) {
             self.free_alive(table, name)
         } else {
-            None
+            (None, self.look(table))
         }
     }
 
     /// Likewise, where the name is there.
-    fn free_alive(&mut self, table: &HistoryTable, name: Name) -> Option<H::State>
+    fn free_alive(&mut self, table: &HistoryTable, name: Name) -> (Option<H::State>, Section<C>)
         requires table { table.now ≡ C.table }
         requires alive { is_alive self.old.names.strands name ≡ true }
         ensures freed { IsStep self.old (event.Changed None (control.Free kind.Strand name)) self.new }
-        ensures retired { is_some result ≡ is_forgotten self.old kind.Strand name }
+        ensures retired { is_some result.0 ≡ is_forgotten self.old kind.Strand name }
+        ensures noted { Notes C.limits (event.Changed None (control.Free kind.Strand name))
+            result.1.before result.1.after self.old self.new }
     {
         self.keeper.learn(table);
-        note_named::<C, Brand>(table, &mut self.keeper, name);
-        free_at(&mut self.names.strands, &mut self.strands, name)
+        let section = note_named::<C, Brand>(table, &mut self.keeper, name);
+        let state = free_at(&mut self.names.strands, &mut self.strands, name);
+        (state, section)
     }
 }

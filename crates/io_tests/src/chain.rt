@@ -1,6 +1,6 @@
-use crate::handlers::{Counting, Counts, Task};
-use crate::running::{MEMORY, Scenario, limits, new_strand, play_new, post};
-use io_context::{Context, Named, run_on_threads};
+use crate::handlers::{Counts, Task};
+use crate::running::{Case, Scenario, limits, play_new};
+use io_context::Named;
 use std::alloc::Global;
 use std::process::Abort;
 use std::sync::Wait;
@@ -11,14 +11,14 @@ use std::thread::Threads;
 pub(crate) fn chain<'a, R: Abort + Threads + Wait + Sync, C: Named + Send + Sync>(
     rt: &R,
     alloc: Global,
-    context: Context<Counting<'a>, C>,
-    counts: &'a Counts,
+    case: Case<'a, C>,
     length: u64,
 ) {
-    let lane = new_strand(rt, &context, counts);
-    post(rt, &context, lane, Task::Chain(length, lane), counts);
-    run_on_threads(rt, alloc, &context, 4).expect(rt, MEMORY);
-    let _history = context.finish(rt);
+    let mut case = case;
+    let lane = case.new_strand(rt);
+    case.post(rt, lane, Task::Chain(length, lane));
+    case.run(rt, alloc, 4);
+    case.finish(rt);
 }
 
 #[test]

@@ -13,6 +13,8 @@ pub(crate) struct Counts {
     pub(crate) discarded: AtomicU64,
     pub(crate) refused: AtomicU64,
     pub(crate) retired: AtomicU64,
+    /// The marks of handlers, in the order of their executions.
+    pub(crate) order: AtomicU64,
 }
 
 impl Counts {
@@ -23,6 +25,7 @@ impl Counts {
             discarded: AtomicU64::new(0),
             refused: AtomicU64::new(0),
             retired: AtomicU64::new(0),
+            order: AtomicU64::new(0),
         }
     }
 }
@@ -43,6 +46,12 @@ pub(crate) enum Task {
     Chain(u64, Lane),
     /// Stops the context.
     Stop,
+    /// Leaves its mark.
+    Mark(u64),
+    /// Posts 2 and dispatches 3 to this lane, its own, and then leaves its mark 1.
+    Dispatch(Lane),
+    /// Waits for a word, and then posts so many.
+    Initiate(u32),
 }
 
 /// A handler that counts its execution.
@@ -54,13 +63,32 @@ pub(crate) struct Counting<'a> {
 /// Looks so often at most for others.
 const MOST_LOOKS: u32 = 1_000_000_000;
 
-/// Waits until so many are executed.
-fn meet(executed: &AtomicU64, want: u64) {
+/// Leaves this mark behind the others.
+fn mark(order: &AtomicU64, number: u64) {
+    let marks = order.load(Ordering::SeqCst);
+    order.store(
+        marks.wrapping_mul(10).wrapping_add(number),
+        Ordering::SeqCst,
+    );
+}
+
+/// Waits until there are so many.
+pub(crate) fn await_count(one: &AtomicU64, want: u64) {
     for _ in 0..MOST_LOOKS {
-        if executed.load(Ordering::SeqCst) >= want {
+        if one.load(Ordering::SeqCst) >= want {
             return;
         }
         thread::yield_now();
+    }
+}
+
+/// A handler with this task is initiated, or discarded where there is no room for it.
+fn initiated<'a>(posted: Result<(), Full<Counting<'a>>>) {
+    match posted {
+        Ok(()) => {}
+        Err(Full(handler)) => {
+            handler.discard();
+        }
     }
 }
 
@@ -73,22 +101,49 @@ impl<'a> Counting<'a> {
         count(&counts.executed);
         match task {
             Task::Nothing => {}
-            Task::Meet(want) => meet(&counts.executed, want),
+            Task::Meet(want) => await_count(&counts.executed, want),
             Task::Chain(left, lane) => {
                 if left > 0 {
                     let task = Task::Chain(left - 1, lane);
-                    match io.post(lane, Counting { task, counts }) {
-                        Ok(()) => {}
-                        Err(Full(handler)) => {
-                            handler.discard();
-                        }
-                    }
+                    initiated(io.post(lane, Counting { task, counts }));
                 }
             }
             Task::Stop => {
                 io.stop();
             }
+            Task::Mark(number) => mark(&counts.order, number),
+            Task::Dispatch(lane) => {
+                initiated(io.post(
+                    lane,
+                    Counting {
+                        task: Task::Mark(2),
+                        counts,
+                    },
+                ));
+                initiated(io.dispatch(
+                    lane,
+                    Counting {
+                        task: Task::Mark(3),
+                        counts,
+                    },
+                ));
+                mark(&counts.order, 1);
+            }
+            Task::Initiate(many) => {
+                await_count(&counts.order, 1);
+                post_so_many(many, counts, io);
+            }
         }
+    }
+}
+
+/// Posts so many that do nothing.
+fn post_so_many<'a>(many: u32, counts: &'a Counts, io: &mut Initiator<Counting<'a>>)
+    ensures { io.new.granted ≡ io.old.granted }
+{
+    'posts: for _ in 0..many {
+        let task = Task::Nothing;
+        initiated(io.post(Lane::Own, Counting { task, counts }));
     }
 }
 

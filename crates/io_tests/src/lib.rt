@@ -5,10 +5,14 @@
 #[cfg(test)]
 mod chain;
 #[cfg(test)]
+mod grant;
+#[cfg(test)]
 mod handlers;
 #[cfg(test)]
 mod many;
 #[cfg(test)]
 mod meeting;
+#[cfg(test)]
+mod order;
 #[cfg(test)]
 mod running;

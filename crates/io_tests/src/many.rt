@@ -2,12 +2,12 @@
 //! handlers left: each handler that was accepted is executed once, or discarded once.
 
 use crate::handlers::{Counting, Counts, Task};
-use crate::running::{MEMORY, Scenario, limits, new_strand, play_new, post};
-use io_context::{Context, Lane, Named, Refusal, run_on_threads};
+use crate::running::{Case, Part, Scenario, limits, play_new, post};
+use io_context::{Context, Lane, Named, Refusal, WorkGuard};
 use std::alloc::Global;
 use std::process::Abort;
-use std::sync::Wait;
 use std::sync::atomic::Ordering;
+use std::sync::{Mutex, Wait};
 use std::thread;
 use std::thread::Threads;
 
@@ -35,25 +35,45 @@ fn post_all<'a, R: Wait, C: Named>(
     }
 }
 
+/// Gives a work guard back, if there is one.
+fn release<'a, R: Wait, C: Named>(
+    rt: &R,
+    context: &Context<Counting<'a>, C>,
+    guard: Option<WorkGuard<C>>,
+) {
+    match guard {
+        None => {}
+        Some(guard) => {
+            context.release(rt, guard);
+        }
+    }
+}
+
 /// Sixteen threads post to four strands and to none while four run; a guard keeps those in `run` till then.
 pub(crate) fn initiate_and_run<'a, R: Abort + Threads + Wait + Sync, C: Named + Send + Sync>(
     rt: &R,
     alloc: Global,
-    context: Context<Counting<'a>, C>,
-    counts: &'a Counts,
+    case: Case<'a, C>,
 ) {
-    let guard = context.hold(rt).expect(rt, "a guard");
-    let shared = &context;
     let lanes = [
-        new_strand(rt, shared, counts),
-        new_strand(rt, shared, counts),
-        new_strand(rt, shared, counts),
-        new_strand(rt, shared, counts),
+        case.new_strand(rt),
+        case.new_strand(rt),
+        case.new_strand(rt),
+        case.new_strand(rt),
         Lane::Own,
     ];
+    let Case {
+        context,
+        mut part,
+        counts,
+    } = case;
+    let shared = &context;
+    let (guard, _) = shared.hold(rt);
+    // a closure can't hold a guard, which can't be dropped
+    let kept = Mutex::new(guard);
     thread::join(
         rt,
-        || run_on_threads(rt, alloc, shared, 4).expect(rt, MEMORY),
+        || part.run(rt, alloc, shared, 4),
         || {
             let mut posters = [0u8; 16];
             thread::for_each_mut(
@@ -62,10 +82,12 @@ pub(crate) fn initiate_and_run<'a, R: Abort + Threads + Wait + Sync, C: Named + 
                 16,
                 &|first, _| { post_all(rt, shared, &lanes, first, counts) },
             );
-            shared.release(rt, guard);
+            release(rt, shared, kept.lock(rt).take());
         },
     );
-    let _history = context.finish(rt);
+    release(rt, shared, kept.into_inner());
+    let Part { share } = part;
+    let _history = context.finish(rt, share);
 }
 
 #[test]
@@ -83,37 +105,33 @@ fn each_handler_that_is_accepted_is_executed_once(rt: HostRuntime) {
 pub(crate) fn stop_and_finish<'a, R: Abort + Threads + Wait + Sync, C: Named + Send + Sync>(
     rt: &R,
     alloc: Global,
-    context: Context<Counting<'a>, C>,
-    counts: &'a Counts,
+    case: Case<'a, C>,
 ) {
-    let mut context = context;
-    let lane = new_strand(rt, &context, counts);
+    let mut case = case;
+    let executed = &case.counts.executed;
+    let lane = case.new_strand(rt);
     for n in 0..6u32 {
         let task = if n == 2 { Task::Stop } else { Task::Nothing };
-        assert!(rt; post(rt, &context, lane, task, counts).is_none());
+        assert!(rt; case.post(rt, lane, task).is_none());
     }
-    assert_eq!(rt;
-        post(rt, &context, lane, Task::Nothing, counts),
-        Some(Refusal::Full)
-    );
-    run_on_threads(rt, alloc, &context, 1).expect(rt, MEMORY);
-    assert_eq!(rt; counts.executed.load(Ordering::SeqCst), 3);
-    run_on_threads(rt, alloc, &context, 2).expect(rt, MEMORY);
-    assert_eq!(rt; counts.executed.load(Ordering::SeqCst), 3);
-    assert!(rt; context.restart());
-    let mut worker = context.worker(alloc).expect(rt, MEMORY);
-    context.stop(rt);
-    assert_eq!(rt; context.poll(rt, &mut worker), 0);
-    worker.destroy();
+    assert_eq!(rt; case.post(rt, lane, Task::Nothing), Some(Refusal::Full));
+    case.run(rt, alloc, 1);
+    assert_eq!(rt; executed.load(Ordering::SeqCst), 3);
+    case.run(rt, alloc, 2);
+    assert_eq!(rt; executed.load(Ordering::SeqCst), 3);
+    let (restarted, _) = case.context.restart();
+    assert!(rt; restarted);
+    case.context.stop(rt);
+    case.run(rt, alloc, 1);
+    assert_eq!(rt; executed.load(Ordering::SeqCst), 3);
     match lane {
         Lane::Own => {}
-        Lane::Strand(name) => context.free_strand(rt, name),
+        Lane::Strand(name) => {
+            case.context.free_strand(rt, name);
+        }
     }
-    assert_eq!(rt;
-        post(rt, &context, lane, Task::Nothing, counts),
-        Some(Refusal::Gone)
-    );
-    let _history = context.finish(rt);
+    assert_eq!(rt; case.post(rt, lane, Task::Nothing), Some(Refusal::Gone));
+    case.finish(rt);
 }
 
 #[test]

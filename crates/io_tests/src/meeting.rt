@@ -1,6 +1,6 @@
-use crate::handlers::{Counting, Counts, Task};
-use crate::running::{MEMORY, Scenario, limits, new_strand, play_new, post};
-use io_context::{Context, Named, run_on_threads};
+use crate::handlers::{Counts, Task};
+use crate::running::{Case, Scenario, limits, play_new};
+use io_context::Named;
 use std::alloc::Global;
 use std::process::Abort;
 use std::sync::Wait;
@@ -11,15 +11,15 @@ use std::thread::Threads;
 pub(crate) fn meet<'a, R: Abort + Threads + Wait + Sync, C: Named + Send + Sync>(
     rt: &R,
     alloc: Global,
-    context: Context<Counting<'a>, C>,
-    counts: &'a Counts,
+    case: Case<'a, C>,
 ) {
+    let mut case = case;
     for _ in 0..2u32 {
-        let lane = new_strand(rt, &context, counts);
-        post(rt, &context, lane, Task::Meet(2), counts);
+        let lane = case.new_strand(rt);
+        case.post(rt, lane, Task::Meet(2));
     }
-    run_on_threads(rt, alloc, &context, 2).expect(rt, MEMORY);
-    let _history = context.finish(rt);
+    case.run(rt, alloc, 2);
+    case.finish(rt);
 }
 
 #[test]

@@ -1,16 +1,21 @@
 //! Contexts of counting handlers.
 
-ghost use Rattle.std.specs.Prelude.{◌≡◌};
+ghost use Rattle.std.specs.Prelude.{◌≡◌, ◌≤◌, ◌<◌};
 
 use crate::chain::chain;
+use crate::grant::grant;
 use crate::handlers::{Counting, Counts, Task, count};
 use crate::many::{initiate_and_run, stop_and_finish};
 use crate::meeting::meet;
-use io_context::{Context, Handler, Lane, Limits, Named, NewContext, Refusal, Refused};
+use crate::order::dispatch;
+use io_context::{
+    Context, Handler, Lane, Limits, Named, NewContext, Refusal, Refused, run_on_threads,
+};
 use std::alloc::Global;
 use std::marker::Brand;
 use std::process::Abort;
 use std::sync::Wait;
+use std::sync::ledger::Share;
 use std::thread::Threads;
 
 pub(crate) const MEMORY: &str = "memory";
@@ -26,6 +31,10 @@ pub(crate) enum Scenario {
     Many,
     /// It is stopped, restarted and finished with handlers left.
     Stop,
+    /// A handler posts and dispatches to its own strand.
+    Dispatch,
+    /// A thread posts as much as it can while a handler executes.
+    Grant,
 }
 
 /// Room for so many operations and strands.
@@ -36,30 +45,88 @@ pub(crate) fn limits(operations: u32, strands: u32) -> Limits {
         timers: 0,
         slots: 0,
         streams: 0,
-        grant: 4,
+        grant: 2,
         staged: 8,
         held: 0,
     }
 }
 
-/// The lane of a new strand, or none where no strand is free.
-pub(crate) fn new_strand<'a, R: Wait, C: Named>(
-    rt: &R,
-    context: &Context<Counting<'a>, C>,
-    counts: &'a Counts,
-) -> Lane {
-    match context.make_strand(rt, counts) {
-        Ok(name) => Lane::Strand(name),
-        Err(
-            Refused {
-                back,
-                why: _,
-                told: _,
-            },
-        ) => {
-            Counting::retire(back);
-            Lane::Own
+/// A share of which those of 64 workers can be cut.
+pub(crate) struct Part<C: Named> {
+    pub(crate) share: Share<C>,
+    ghost many: { 64 < share.parts },
+}
+
+impl<C: Named> Part<C> {
+    /// Runs a context on so many threads.
+    pub(crate) fn run<'a, R: Abort + Threads + Wait + Sync>(
+        &mut self,
+        rt: &R,
+        alloc: Global,
+        context: &Context<Counting<'a>, C>,
+        threads: usize,
+    )
+    where
+        C: Send + Sync,
+        requires { threads ≤ 64 }
+    {
+        run_on_threads(rt, alloc, context, threads, &mut self.share).expect(rt, MEMORY);
+    }
+}
+
+/// A context of counting handlers, and the share of its workers.
+pub(crate) struct Case<'a, C: Named> {
+    pub(crate) context: Context<Counting<'a>, C>,
+    pub(crate) part: Part<C>,
+    pub(crate) counts: &'a Counts,
+}
+
+impl<'a, C: Named> Case<'a, C> {
+    /// The lane of a new strand, or none where no strand is free.
+    pub(crate) fn new_strand<R: Wait>(&self, rt: &R) -> Lane {
+        match self.context.make_strand(rt, self.counts) {
+            Ok((name, _)) => Lane::Strand(name),
+            Err(
+                Refused {
+                    back,
+                    why: _,
+                    section: _,
+                },
+            ) => {
+                Counting::retire(back);
+                Lane::Own
+            }
         }
+    }
+
+    /// Posts a handler, and counts it where it is refused; answers why.
+    pub(crate) fn post<R: Wait>(&self, rt: &R, lane: Lane, task: Task) -> Option<Refusal> {
+        post(rt, &self.context, lane, task, self.counts)
+    }
+
+    /// Runs the context on so many threads.
+    pub(crate) fn run<R: Abort + Threads + Wait + Sync>(
+        &mut self,
+        rt: &R,
+        alloc: Global,
+        threads: usize,
+    )
+    where
+        C: Send + Sync,
+        requires { threads ≤ 64 }
+    {
+        self.part.run(rt, alloc, &self.context, threads);
+    }
+
+    /// Destroys the context.
+    pub(crate) fn finish<R: Wait>(self, rt: &R) {
+        let Case {
+            context,
+            part,
+            counts: _,
+        } = self;
+        let Part { share } = part;
+        let _history = context.finish(rt, share);
     }
 }
 
@@ -73,7 +140,13 @@ pub(crate) fn post<'a, R: Wait, C: Named>(
 ) -> Option<Refusal> {
     match context.post(rt, lane, Counting { task, counts }) {
         Ok(_) => None,
-        Err(Refused { back, why, told: _ }) => {
+        Err(
+            Refused {
+                back,
+                why,
+                section: _,
+            },
+        ) => {
             let Counting { task: _, counts } = back;
             count(&counts.refused);
             Some(why)
@@ -91,13 +164,23 @@ fn play<'a, R: Abort + Threads + Wait + Sync, C: Named + Send + Sync>(
 )
     requires table { new.table ≡ C.table }
     requires limits { new.limits ≡ C.limits }
+    requires name { new.name ≡ C.name }
+    requires parts { new.parts ≡ C.parts }
 {
-    let context = Context::<Counting<'a>, C>::make(alloc, new).expect(rt, MEMORY);
+    let (context, share) = Context::<Counting<'a>, C>::make(alloc, new).expect(rt, MEMORY);
+    let part = Part { share };
+    let case = Case {
+        context,
+        part,
+        counts,
+    };
     match scenario {
-        Scenario::Meet => meet(rt, alloc, context, counts),
-        Scenario::Chain(length) => chain(rt, alloc, context, counts, length),
-        Scenario::Many => initiate_and_run(rt, alloc, context, counts),
-        Scenario::Stop => stop_and_finish(rt, alloc, context, counts),
+        Scenario::Meet => meet(rt, alloc, case),
+        Scenario::Chain(length) => chain(rt, alloc, case, length),
+        Scenario::Many => initiate_and_run(rt, alloc, case),
+        Scenario::Stop => stop_and_finish(rt, alloc, case),
+        Scenario::Dispatch => dispatch(rt, alloc, case),
+        Scenario::Grant => grant(rt, alloc, case),
     }
 }
 

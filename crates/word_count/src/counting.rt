@@ -58,7 +58,7 @@ impl<'a> Piece<'a> {
 
 /// A strand's count, and where it comes out.
 #[derive(Drop)]
-pub(crate) struct Share<'a> {
+pub(crate) struct Tally<'a> {
     pub(crate) count: Count,
     pub(crate) total: &'a OnceLock<Count>,
 }
@@ -71,7 +71,7 @@ pub(crate) struct Counting<'a> {
 }
 
 impl<'a> Handler for Counting<'a> {
-    type State = Share<'a>;
+    type State = Tally<'a>;
 
     ghost marks = { λ _. record { run = 1; drop = 0 } };
 
@@ -82,7 +82,7 @@ impl<'a> Handler for Counting<'a> {
     fn call(
         self,
         done: Completion,
-        state: &mut Share<'a>,
+        state: &mut Tally<'a>,
         io: &mut Initiator<Counting<'a>>,
     ) -> u64 {
         let _done = done;
@@ -111,8 +111,8 @@ impl<'a> Handler for Counting<'a> {
         0
     }
 
-    fn retire(state: Share<'a>) {
-        let Share { count, total } = state;
+    fn retire(state: Tally<'a>) {
+        let Tally { count, total } = state;
         let _ = total.try_set(count);
     }
 }

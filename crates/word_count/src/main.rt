@@ -10,7 +10,7 @@ mod counting;
 
 use asio_types::{NoMemory, StdSource};
 use count::Count;
-use counting::{Counting, Piece, STRANDS, Share};
+use counting::{Counting, Piece, STRANDS, Tally};
 use io_context::{Context, Lane, Limits, Named, NewContext, run_on_threads};
 use std::alloc::Global;
 use std::marker::Brand;
@@ -45,7 +45,7 @@ fn start<'a, R: Wait, C: Named>(
     total: &'a OnceLock<Count>,
 ) -> bool {
     let count = Count::none();
-    let Ok(name) = context.make_strand(rt, Share { count, total }) else {
+    let Ok((name, _)) = context.make_strand(rt, Tally { count, total }) else {
         return false;
     };
     let lane = Lane::Strand(name);
@@ -77,11 +77,13 @@ fn count_all<'a, R: Threads + Wait + Sync, C: Named + Send + Sync>(
 ) -> Result<(), NoMemory>
     requires table { new.table ≡ C.table }
     requires limits { new.limits ≡ C.limits }
+    requires name { new.name ≡ C.name }
+    requires parts { new.parts ≡ C.parts }
 {
-    let context = Context::<Counting<'a>, C>::make(alloc, new)?;
+    let (context, mut share) = Context::<Counting<'a>, C>::make(alloc, new)?;
     let started = start_all(rt, &context, text, counts);
-    let ran = run_on_threads(rt, alloc, &context, THREADS);
-    let _history = context.finish(rt);
+    let ran = run_on_threads(rt, alloc, &context, THREADS, &mut share);
+    let _history = context.finish(rt, share);
     if started { ran } else { Err(NoMemory) }
 }
 

@@ -7,11 +7,12 @@ use Rattle.io_rules.specs.declared.name.Kind.TheVariants as kind
 use Rattle.io_rules.specs.Legal.{state_of}
 use Rattle.io_names.specs.Tables.{names_of}
 use Rattle.io_scheduler.proofs.FreedLemmas.{may_free, shows_freed, state_freed}
+use Rattle.io_scheduler.proofs.SectionLemmas.{notes_one}
 use Rattle.io_scheduler.proofs.TallyLemmas.{tally_changes}
 use Rattle.io_scheduler.proofs.scheduler.Scheduler.free_alive.Goals as goal
 
-pub note_named-requires : goal.note_named-requires
-note_named-requires g c = record {
+pub note_named-section-requires : goal.note_named-section-requires
+note_named-section-requires g c = record {
   table = c.requires.table;
   outside = record { nobody = refl; no_begin = λ begins. begins };
   may = rw c.learn.ensures.same
@@ -19,20 +20,20 @@ note_named-requires g c = record {
   none = rw c.learn.ensures.same c.self.invariant.0;
 }
 
-pub free_at-requires : goal.free_at-requires
-free_at-requires g c =
+pub free_at-state-requires : goal.free_at-state-requires
+free_at-state-requires g c =
     may_free g.H.Handler.marks g.C.Named.limits c.self.inside.keeper.past c.self.inside.counts
     (names_of c.self.inside.names) c.self.inside.strands.items c.self.inside.jobs c.args.name
     (rw c.learn.ensures.same at c.learn.ensures.legal) (rw (← c.self.view_is) at c.requires.alive) c.self.invariant.1
 
 pub invariant_of-self : goal.invariant_of-self
 invariant_of-self g c = (
-  c.note_named.ensures.none,
-  rw (c.free_at.ensures.names, c.free_at.ensures.strands, c.note_named.ensures.past, c.learn.ensures.same)
+  c.note_named-section.ensures.none,
+  rw (c.free_at-state.ensures.names, c.free_at-state.ensures.strands, c.note_named-section.ensures.past, c.learn.ensures.same)
       (shows_freed g.H.Handler.marks g.C.Named.limits c.self.inside.keeper.past c.self.inside.counts
       (names_of c.self.inside.names) c.self.inside.strands.items c.self.inside.jobs c.args.name
       (rw c.learn.ensures.same at c.learn.ensures.legal) (rw (← c.self.view_is) at c.requires.alive) c.self.invariant.1),
-  rw (c.note_named.ensures.past, c.learn.ensures.same)
+  rw (c.note_named-section.ensures.past, c.learn.ensures.same)
       (tally_changes c.self.inside.tally (state_of g.C.Named.limits c.self.inside.keeper.past) None
       (control.Free kind.Strand c.args.name) c.self.invariant.2 refl),
 )
@@ -41,16 +42,23 @@ pub returns-clause-freed : goal.returns-clause-freed
 returns-clause-freed g c =
     rw (← c.self.view_is)
     (record {
-      may = rw c.learn.ensures.same at c.note_named.ensures.may;
+      may = rw c.learn.ensures.same at c.note_named-section.ensures.may;
       is = ap (state_of g.C.Named.limits)
-          (c.note_named.ensures.past
+          (c.note_named-section.ensures.past
           ∙ ap (λ k. event.Changed None (control.Free kind.Strand c.args.name) ∷ k.past) c.learn.ensures.same);
     })
 
 pub returns-clause-retired : goal.returns-clause-retired
 returns-clause-retired g c =
     rw (← c.self.view_is)
-    (ap is_some c.free_at.ensures.state
+    (ap is_some c.free_at-state.ensures.state
     ∙ state_freed g.H.Handler.marks g.C.Named.limits c.self.inside.keeper.past c.self.inside.counts
     (names_of c.self.inside.names) c.self.inside.strands.items c.self.inside.jobs c.args.name
     (rw c.learn.ensures.same at c.learn.ensures.legal) (rw (← c.self.view_is) at c.requires.alive) c.self.invariant.1)
+
+pub returns-clause-noted : goal.returns-clause-noted
+returns-clause-noted g c =
+    rw (← c.self.view_is, c.note_named-section.ensures.past, c.learn.ensures.same)
+    (notes_one g.C.Named.limits (event.Changed None (control.Free kind.Strand c.args.name)) _ _ c.self.inside.keeper.past
+    (rw c.learn.ensures.same at c.note_named-section.ensures.before)
+    (rw c.learn.ensures.same at c.note_named-section.ensures.after))

@@ -6,11 +6,12 @@ use Rattle.io_rules.specs.declared.name.Kind.TheVariants as kind
 use Rattle.io_rules.specs.Legal.{state_of}
 use Rattle.io_names.specs.Tables.{names_of}
 use Rattle.io_scheduler.proofs.MadeLemmas.{free_shown, may_open, shows_made}
+use Rattle.io_scheduler.proofs.SectionLemmas.{notes_one}
 use Rattle.io_scheduler.proofs.TallyLemmas.{tally_changes}
 use Rattle.io_scheduler.proofs.scheduler.Scheduler.make_strand.Goals as goal
 
-pub note_named-requires : goal.note_named-requires
-note_named-requires g c = record {
+pub note_named-section-requires : goal.note_named-section-requires
+note_named-section-requires g c = record {
   table = c.requires;
   outside = record { nobody = refl; no_begin = λ begins. begins };
   may = rw c.learn.ensures.same
@@ -35,12 +36,12 @@ open_at-requires g c =
 
 pub invariant_of-self-in-Some : goal.invariant_of-self-in-Some
 invariant_of-self-in-Some g c = (
-  c.note_named.ensures.none,
-  rw (c.open_at.ensures, c.in-Some.ensures.places, c.note_named.ensures.past, c.learn.ensures.same)
+  c.note_named-section.ensures.none,
+  rw (c.open_at.ensures, c.in-Some.ensures.places, c.note_named-section.ensures.past, c.learn.ensures.same)
       (shows_made g.H.Handler.marks g.C.Named.limits c.self.inside.keeper.past c.self.inside.counts
       (names_of c.self.inside.names) c.self.inside.strands.items c.self.inside.jobs c.in-Some.name c.args.state
       (rw c.learn.ensures.same at c.learn.ensures.legal) c.in-Some.ensures.made c.self.invariant.1),
-  rw (c.note_named.ensures.past, c.learn.ensures.same)
+  rw (c.note_named-section.ensures.past, c.learn.ensures.same)
       (tally_changes c.self.inside.tally (state_of g.C.Named.limits c.self.inside.keeper.past) None
       (control.Make kind.Strand c.in-Some.name) c.self.invariant.2 refl),
 )
@@ -49,8 +50,15 @@ pub returns-in-Some-clause-made : goal.returns-in-Some-clause-made
 returns-in-Some-clause-made g c =
     rw (← c.self.view_is)
     (record {
-      may = rw c.learn.ensures.same at c.note_named.ensures.may;
+      may = rw c.learn.ensures.same at c.note_named-section.ensures.may;
       is = ap (state_of g.C.Named.limits)
-          (c.note_named.ensures.past
+          (c.note_named-section.ensures.past
           ∙ ap (λ k. event.Changed None (control.Make kind.Strand c.in-Some.name) ∷ k.past) c.learn.ensures.same);
     })
+
+pub returns-in-Some-clause-noted : goal.returns-in-Some-clause-noted
+returns-in-Some-clause-noted g c =
+    rw (← c.self.view_is, c.note_named-section.ensures.past, c.learn.ensures.same)
+    (notes_one g.C.Named.limits (event.Changed None (control.Make kind.Strand c.in-Some.name)) _ _ c.self.inside.keeper.past
+    (rw c.learn.ensures.same at c.note_named-section.ensures.before)
+    (rw c.learn.ensures.same at c.note_named-section.ensures.after))

@@ -7,11 +7,12 @@ use Rattle.io_names.specs.Tables.{names_of}
 use Rattle.io_scheduler.specs.Posted.{posting}
 use Rattle.io_scheduler.proofs.PostedLemmas.{may_be_posted, shows_outside}
 use Rattle.io_scheduler.proofs.SpaceLemmas.{posted_space}
+use Rattle.io_scheduler.proofs.SectionLemmas.{notes_one}
 use Rattle.io_scheduler.proofs.TallyLemmas.{tally_posts, tally_room}
 use Rattle.io_scheduler.proofs.scheduler.Scheduler.post.Goals as goal
 
-pub note_posted-told-requires : goal.note_posted-told-requires
-note_posted-told-requires g c =
+pub note_posted-section-requires : goal.note_posted-section-requires
+note_posted-section-requires g c =
     let shows = c.self.invariant.1 in
     record {
       table = c.requires.table;
@@ -39,14 +40,14 @@ enter-requires g c =
 pub invariant_of-self : goal.invariant_of-self
 invariant_of-self g c =
     let shows = c.self.invariant.1 in (
-      c.note_posted-told.ensures.none,
-      rw (c.enter.ensures.strands, c.enter.ensures.jobs, c.note_posted-told.ensures.past, c.learn.ensures.same)
+      c.note_posted-section.ensures.none,
+      rw (c.enter.ensures.strands, c.enter.ensures.jobs, c.note_posted-section.ensures.past, c.learn.ensures.same)
           (shows_outside g.H.Handler.marks g.C.Named.limits c.self.inside.counts
           (names_of c.self.inside.names) c.self.inside.strands.items c.self.inside.jobs
           (state_of g.C.Named.limits c.self.inside.keeper.past) c.self.inside.counts.next c.args.lane c.args.kind
           c.args.handler (ap (λ n. n.next) shows.counts_are) c.requires.posting
           (rw (← c.self.view_is) at c.requires.may) shows),
-      rw (c.call.ensures, c.note_posted-told.ensures.past, c.learn.ensures.same)
+      rw (c.call.ensures, c.note_posted-section.ensures.past, c.learn.ensures.same)
           (tally_posts c.self.inside.tally (state_of g.C.Named.limits c.self.inside.keeper.past)
           c.self.inside.counts.next c.args.lane c.args.kind _ c.self.invariant.2 c.requires.posting),
     )
@@ -59,11 +60,16 @@ returns-clause-initiated g c =
       may = may_be_posted _ c.self.inside.counts.next c.args.lane c.args.kind _ shows.going
           (ap (λ n. n.next) shows.counts_are) c.requires.posting (rw (← c.self.view_is) at c.requires.may);
       is = ap (state_of g.C.Named.limits)
-          (c.note_posted-told.ensures.past
+          (c.note_posted-section.ensures.past
           ∙ ap (λ k. event.Called c.self.inside.counts.next None
           (posting c.args.lane c.args.kind (g.H.Handler.marks c.args.handler)) gone.Nothing ∷ k.past)
           c.learn.ensures.same);
     })
 
-pub returns-clause-told : goal.returns-clause-told
-returns-clause-told g c = record { before = c.learn.new.self.past; is = c.note_posted-told.ensures.told }
+pub returns-clause-noted : goal.returns-clause-noted
+returns-clause-noted g c =
+    rw (← c.self.view_is, c.note_posted-section.ensures.past, c.learn.ensures.same)
+    (notes_one g.C.Named.limits (event.Called c.self.inside.counts.next None
+    (posting c.args.lane c.args.kind (g.H.Handler.marks c.args.handler)) gone.Nothing) _ _ c.self.inside.keeper.past
+    (rw c.learn.ensures.same at c.note_posted-section.ensures.before)
+    (rw c.learn.ensures.same at c.note_posted-section.ensures.after))

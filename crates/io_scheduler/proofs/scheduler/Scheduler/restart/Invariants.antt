@@ -1,5 +1,5 @@
 use Rattle.io_rules.specs.declared.event.Event.TheVariants as event
 use Rattle.io_scheduler.proofs.scheduler.Scheduler.restart.Given as goal
 
-abbrev pub ghosts-note_outside : goal.ghosts-note_outside
-ghosts-note_outside g a = record { event = event.Restarted }
+abbrev pub ghosts-note_section : goal.ghosts-note_section
+ghosts-note_section g a = record { event = event.Restarted }
