@@ -1,0 +1,13 @@
+pub mod CallLemmas
+pub mod EntryLemmas
+pub mod ItemLemmas
+pub mod MadeLemmas
+pub mod NumberLemmas
+pub mod PartLemmas
+pub mod PathLemmas
+pub mod QueuedLemmas
+pub mod ReadLemmas
+pub mod RingLemmas
+pub mod StepLemmas
+pub mod TakeLemmas
+pub mod WholeLemmas

@@ -1,0 +1,3 @@
+pub mod LostLemmas
+pub mod StandLemmas
+pub mod TurnLemmas

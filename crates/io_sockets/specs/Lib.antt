@@ -1,0 +1,4 @@
+pub mod Lost
+pub mod Ready
+pub mod Stands
+pub mod Turns

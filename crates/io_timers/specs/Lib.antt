@@ -1,0 +1,4 @@
+pub mod DueFirst
+pub mod Kept
+pub mod Pending
+pub mod Tournament
