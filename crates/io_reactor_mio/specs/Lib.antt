@@ -1,0 +1,3 @@
+pub mod EventEdge
+pub mod Gave
+pub mod Tokens
