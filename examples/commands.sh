@@ -7,7 +7,7 @@
 # failed'.
 set -u
 cd "$(dirname "$0")/.." || exit 1
-. examples/common.sh commands asio_run asio_check asio_show prime_count run_judge
+. examples/common.sh commands asio_run asio_check asio_show asio_orders prime_count run_judge
 mkdir "$room/tree" "$room/blocks"
 git ls-files | tar -c -T - | tar -x -C "$room/tree" || exit 1
 export BUILT_IN=$room
@@ -132,8 +132,9 @@ done < <(grep -E '^\| [1-9] \|' docs/SCRIPT.md)
 
 # The table of rules of runs: behind its header each example breaks its rule.
 while IFS='|' read -r _ rule _ _ example _; do
-  example=${example# \`} example=${example%\` }
-  said=$({ echo "run 1"; echo "${example// \/ /$'\n'}"; } | "$room/run_judge" check --streams - 2>&1)
+  example=${example# \`} example=${example%\` } level=--streams
+  [[ $rule =~ Ready|Order|Stopped|Nested|Finishing ]] && level=--strict
+  said=$({ echo "run 1"; echo "${example// \/ /$'\n'}"; } | "$room/run_judge" check $level - 2>&1)
   [[ $said == *"rule:$(sed -E 's/ +$//' <<< "$rule")"* ]]
   count $? "$example: $said"
 done < <(grep -E '^\| [A-Z][A-Za-z]+ \| `[a-z]+`.*\| `[0-9]+ ' docs/RUNS.md)

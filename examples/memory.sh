@@ -3,14 +3,15 @@
 # takes it as often where the context is stopped in `open` and each handler is destroyed as where a restart lets everything run,
 # but for a block of hints, which the first hint of a run takes (none of these sessions has as many as fill one).
 # A replay takes its memory before its first event: asio_check takes it as often where the first line of a trace is illegal as
-# where the whole trace is judged. Ends with 'N passed, M failed'.
+# where the whole trace is judged. A context of io_speed takes all its memory when it is made: as often for ten handlers posted one by
+# another as for 5,000. Ends with 'N passed, M failed'.
 set -u
 cd "$(dirname "$0")/.." || exit 1
 if ! command -v valgrind > /dev/null; then
   echo "memory: not counted, since there is no valgrind here"
   exit 0
 fi
-. examples/common.sh memory asio_run asio_check
+. examples/common.sh memory asio_run asio_check io_speed
 
 # How often the command takes memory with $room/input as its input.
 counted() {
@@ -70,5 +71,13 @@ for trace in examples/*.trace; do
   first=$(counted "$room/asio_check")
   grep -q '^illegal 1$\|^illegal.* 1$' "$room/output" || first="$(cat "$room/output")"
   compare "$trace" "$whole" "$first"
+done
+for strands in 0 1 4; do
+  : > "$room/input"
+  few=$(counted "$room/io_speed" "$strands" 1 9 0 2 2> /dev/null)
+  [ "$(cat "$room/output")" = 200 ] || few="not executed"
+  many=$(counted "$room/io_speed" "$strands" 1 4999 0 2 2> /dev/null)
+  [ "$(cat "$room/output")" = 100000 ] || many="too few executed"
+  compare "io_speed over $strands strands" "$few" "$many"
 done
 say_counts

@@ -22,18 +22,22 @@ while IFS='|' read -r _ rule _ _ example _; do
   rule=${rule// /}
   example=${example#*\`}
   example=${example%\`*}
+  case $rule in
+    Ready | Order | Stopped | Nested | Finishing) level=--strict ;;
+    *) level=--streams ;;
+  esac
   write_run "$example"
   last=$(wc -l < "$room/run")
-  said=$("$room/run_judge" check --streams "$room/run")
+  said=$("$room/run_judge" check $level "$room/run")
   [[ $said == "illegal at line $last: ${example##* / }"* && $said == *$'\n'"rule: $rule"$'\n'* ]]
   count $? "$rule: $example: $said"
   sed -i '$d' "$room/run"
-  said=$("$room/run_judge" check --streams "$room/run")
+  said=$("$room/run_judge" check $level "$room/run")
   [[ $said == legal* ]]
   count $? "$rule, without the last line: $example: $said"
   rules=$((rules + 1))
 done < <(grep -E '^\| [A-Z][A-Za-z]+ \|.* \| `[0-9].* / .*` \|$' docs/RUNS.md)
-[ "$rules" = 16 ]
+[ "$rules" = 22 ]
 count $? "docs/RUNS.md has examples of $rules rules"
 
 # Legal cases.
@@ -54,18 +58,28 @@ said=$(cd crates/run_judge/data && "$room/run_judge" why --streams race.run)
 count $? "why: $said"
 
 # What is under way at the end of a run, line by line.
-write_run '0 call 0 post 0 - - / 0 call 1 read 0 5 9 / 0 call 2 post 0 - - / 1 begin 0 ok 0 / 1 claim 7 / 1 lock 8 / 1 unlock 8 / 0 drop 2'
+write_run 'name strand 5 room / 0 call 0 post 0 - - / 0 call 1 read 0 5 9 / 0 call 2 post 0 - - / 1 begin 0 ok 0 / 1 claim 7 / 1 lock 8 / 1 unlock 8 / 0 drop 2'
 cat > "$room/wanted" << 'END'
-legal so far, 9 lines
+legal so far, 10 lines
 owed: 1 operations that wait
 owed: 1 threads that execute handlers
 owed: 1 claims and locks
-owed: line 3: 0 call 1 read 0 5 9
-owed: line 5: 1 begin 0 ok 0
-owed: line 6: 1 claim 7
+owed: line 4: 0 call 1 read 0 5 9 [strand 5 room]
+owed: line 6: 1 begin 0 ok 0
+owed: line 7: 1 claim 7
 END
 "$room/run_judge" why "$room/run" | cmp -s - "$room/wanted"
 count $? "why of a run that goes on: $("$room/run_judge" why "$room/run")"
+
+# The picture of docs/RUNS.md, one of a window, and one of what is no run.
+"$room/run_judge" picture crates/run_judge/data/room.run | cmp -s - examples/room.svg
+count $? "the picture of room.run isn't examples/room.svg"
+said=$("$room/run_judge" picture crates/run_judge/data/room.run --from 6 --to 9)
+[[ $said == *"lines 6 to 9 of the run; those before aren't drawn; more lines follow that aren't drawn"* && $said != *"line 10"* ]]
+count $? "a window: $said"
+printf 'run 1\n0 call\n' | "$room/run_judge" picture - > "$room/said" 2> "$room/notes"
+[ $? = 7 ] && [ ! -s "$room/said" ] && [ "$(cat "$room/notes")" = 'run_judge: bad run at line 2' ]
+count $? "a picture of no run: $(cat "$room/said" "$room/notes")"
 
 # A long run: postings and reads on strands and things in turn, on five threads, with as much under way at the end as in its midst.
 long_run() {
