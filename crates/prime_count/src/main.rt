@@ -91,8 +91,10 @@ fn print_found<R: Print>(rt: &R, primes: u64, events: &[Event]) -> Status {
     }
 }
 
-/// The whole program. It ends with the statuses of a session, and so with those of `asio_run`.
-fn run<R: Env + AllocGlobal + Print + Threads + Wait + Sync>(rt: &R) -> Result<Status, NoMemory> {
+/// Counts the primes, and ends with the statuses of a session, and so with those of `asio_run`.
+fn counted<R: Env + AllocGlobal + Print + Threads + Wait + Sync>(
+    rt: &R,
+) -> Result<Status, NoMemory> {
     let alloc = rt.alloc();
     let words = words_of(rt).unwrap_or(Vec::new(alloc));
     let [workers] = words.as_slice() else {
@@ -124,12 +126,19 @@ fn reason(status: Status) -> &'static str {
     }
 }
 
-fn main(rt: HostRuntime) -> ExitCode {
-    let status = run(&rt).unwrap_or(Status::NoMemory);
+/// The whole program. It says on standard error why it ends, where not all went well.
+fn run<R: Env + AllocGlobal + Print + Eprint + Threads + Wait + Sync>(
+    rt: &R,
+) -> Result<Status, NoMemory> {
+    let status = counted(rt).unwrap_or(Status::NoMemory);
     if status != Status::Done {
         let reason = reason(status);
         // Where standard error can't be written, the exit status is all that is said.
         let _unsaid = eprintln!(rt; "prime_count: {reason}");
     }
-    ExitCode::from(status.number())
+    Ok(status)
+}
+
+fn main(rt: HostRuntime) -> ExitCode {
+    ExitCode::from(run(&rt).unwrap_or(Status::NoMemory).number())
 }
