@@ -23,5 +23,3 @@ mod running;
 mod scripts;
 #[cfg(test)]
 mod sessions;
-#[cfg(test)]
-mod spent;
