@@ -1,17 +1,18 @@
 #!/usr/bin/env bash
-# Runs every example with 1, 2, 4 and 16 workers in each round, and has its trace judged: it has to be that of a legal history, and
-# the stored one where one is stored. Runs those that may write several traces again and again with 16 workers: each trace has to be
-# legal, and two have to be seen. Then the same of 2,000 random scripts, where python3 is there. Ends with 'N passed, M failed'.
+# Runs every example with 1, 2, 4 and 16 workers in each round, and has its trace judged: it has to be that of a legal history that
+# keeps every law, and the stored one where one is stored. Runs those that may write several traces again and again with 16 workers:
+# each trace has to be legal, and two have to be seen. Then the same of 2,000 random scripts, where python3 is there. Ends with
+# 'N passed, M failed'.
 set -u
 cd "$(dirname "$0")/.." || exit 1
-. examples/common.sh examples asio_run asio_check
+. examples/common.sh examples asio_run asio_check asio_laws
 
 # Whether the script $1 with $2 workers has a trace, which is written to $room/trace, that is legal.
 is_legal() {
   sed -E "s/\b(run|poll) [0-9]+/\1 $2/g" "$1" > "$room/script"
   timeout 60 "$room/asio_run" run < "$room/script" > "$room/trace" || return 1
   { cat "$room/script"; echo "--"; cat "$room/trace"; } > "$room/input"
-  [ "$("$room/asio_check" < "$room/input")" = legal ]
+  [ "$("$room/asio_check" < "$room/input")" = legal ] && [ "$("$room/asio_laws" < "$room/input")" = kept ]
 }
 
 # Examples of which several workers may write several traces. Where one is stored, it is that of one worker.

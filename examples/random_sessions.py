@@ -3,7 +3,8 @@
 
     random_sessions.py make NUMBER          writes the script that the number makes
     random_sessions.py check FOLDER COUNT   runs the scripts of 1 to COUNT by FOLDER/asio_run, each with 1, 2, 4 and 16
-                                            workers in every round, and has FOLDER/asio_check judge each trace
+                                            workers in every round, and has FOLDER/asio_check judge each trace and
+                                            FOLDER/asio_laws compute its laws
 
 A script is valid by construction: a refusal counts as a failure. Many scripts allow several orders: where a thousand and more
 showed none two, on a machine with two processors, that is a failure too. `check` ends with 'N passed, M failed'."""
@@ -198,9 +199,12 @@ def output_of(command, text):
 def legal_trace(folder, text):
     """The trace of a script, which has to be that of a legal history."""
     trace = output_of([f"{folder}/asio_run", "run"], text)
-    verdict = output_of([f"{folder}/asio_check"], text + b"--\n" + trace)
+    history = text + b"--\n" + trace
+    verdict = output_of([f"{folder}/asio_check"], history)
     if verdict != b"legal\n":
         raise RuntimeError(f"is judged {verdict.decode().strip()}")
+    if output_of([f"{folder}/asio_laws"], history) != b"kept\n":
+        raise RuntimeError("breaks a law")
     return trace
 
 

@@ -1,9 +1,9 @@
 -- A wait that is pending when its timer is cancelled begins as aborted, if at all.
-use Rattle.std.proofs.Common.{◌≡◌, ◌≢◌, ◌⊎◌, ℕ, ◌+◌, ◌<◌, ◌≤◌, ◌==◌, zero, suc, Bool, true, false, cond, not, List, [], ◌∷◌, ◌++◌, Option, Some, None, filter, map, set, length, take, inl, inr, refl, sym, ap, subst, ◌∙◌, arith}
-use Rattle.std.specs.List.{All, count_by, slice_index_or}
+use Rattle.std.proofs.Common.{◌≡◌, ◌≢◌, ◌⊎◌, ℕ, ◌+◌, ◌<◌, ◌≤◌, ◌==◌, zero, suc, Bool, true, false, cond, not, List, [], ◌∷◌, Option, Some, None, filter, map, set, take, inl, inr, refl, sym, ap, subst, ◌∙◌, arith, get_or}
+use Rattle.std.specs.List.{All, slice_index_or}
 use Rattle.std.specs.Prelude.{slice_get}
-use Rattle.std.proofs.lemmas.Bool.{cases_lt, cases_order, eqb-true, not-true}
-use Rattle.std.proofs.lemmas.List.Elements.{All-append, All-map, All-nil, All-weaker}
+use Rattle.std.proofs.lemmas.Bool.{cases_order, eqb-true, not-true}
+use Rattle.std.proofs.lemmas.List.Elements.{All-append, All-map, All-nil, All-weaker, All-head}
 use Rattle.std.proofs.lemmas.List.Sums.{sum_by-cons}
 use Rattle.asio_types.specs.declared.code.Code.{Code}
 use Rattle.asio_types.specs.declared.code.Code.TheVariants as code
@@ -11,20 +11,19 @@ use Rattle.asio_types.specs.declared.event.Event.{Event}
 use Rattle.asio_types.specs.declared.event.Event.TheVariants as event
 use Rattle.session_script.specs.declared.act.Act.{Act}
 use Rattle.session_script.specs.declared.act.Act.TheVariants as act
-use Rattle.session_script.specs.Script.{ScriptModel, act_of, is_op}
+use Rattle.session_script.specs.Script.{ScriptModel, act_of}
 use Rattle.session_script.specs.WellFormed.{IsWellFormed}
 use Rattle.stream_rules.specs.declared.queue.Completion.{Completion}
 use Rattle.stream_rules.specs.Queue.{Pending}
 use Rattle.stream_rules.specs.Serving.{Reading, Writing}
-use Rattle.history_rules.specs.Kinds.{is_act, is_posting}
 use Rattle.history_rules.specs.Legal.{IsLegalSoFar, MayHappen, after_event}
 use Rattle.history_rules.specs.Order.{was_taken}
-use Rattle.history_rules.specs.Performing.{aborted, is_wait_of, performed, performed_act, performed_by, queues_at, with_taken}
+use Rattle.history_rules.specs.Performing.{aborted, is_wait_of, performed_act, performed_by, queues_at, with_taken, performed, waits_cancelled}
 use Rattle.history_rules.specs.Requests.{MayComplete, MayTake}
 use Rattle.history_rules.specs.Settling.{settled}
 use Rattle.history_rules.specs.State.{ReactorHalf, State, act_at, call_at, no_queues, phase_at}
 use Rattle.history_rules.specs.Time.{at_last, at_time}
-use Rattle.history_rules.specs.Untold.{MayGiveUntold}
+use Rattle.history_rules.specs.Untold.{MayGiveUntold, head_of}
 use Rattle.history_rules.specs.declared.phase.ActPhase.{ActPhase}
 use Rattle.history_rules.specs.declared.phase.ActPhase.TheVariants as phase
 use Rattle.history_rules.specs.declared.phase.ActState.{ActState}
@@ -34,11 +33,12 @@ use Rattle.history_rules.specs.declared.phase.Cause.{Cause}
 use Rattle.history_rules.specs.declared.phase.Cause.TheVariants as cause
 use Rattle.history_rules.specs.declared.wait.Wait.{Wait}
 use Rattle.history_rules.proofs.PerformingLemmas.{All-passing}
-use Rattle.history_laws.specs.Cancelled.{cancels_waits, may_cancel}
+use Rattle.history_laws.specs.AfterCompletion.{IsAsynchronous}
+use Rattle.history_laws.specs.Cancelled.{IsPendingAt}
 use Rattle.history_laws.specs.Clock.{IsWaitOf}
-use Rattle.history_laws.specs.Events.{StandsAt, calls_of, completions_of, is_call_of, is_completion_of, takes_of}
+use Rattle.history_laws.specs.Events.{StandsAt, calls_of, completions_of, is_call_of, is_completion_of}
 use Rattle.history_laws.proofs.CountLemmas.{one_if, same-is}
-use Rattle.history_laws.proofs.HeldLemmas.{Holds, IsOn, IsPerformed, IsSettled, settles}
+use Rattle.history_laws.proofs.HeldLemmas.{Holds, IsOn, settles}
 use Rattle.history_laws.proofs.HistoryLemmas.{moves_after, taken_after}
 use Rattle.history_laws.proofs.KeptLemmas.{IsKept, Streamed, Timed, no_wait, one_timer, told_due, told_held}
 use Rattle.history_laws.proofs.KindLemmas.{inline_posts}
@@ -119,10 +119,7 @@ module _ (script : ScriptModel) (n : ℕ) where
       inr (inr (record { given = given; size = size; why = cause.Completed done turn; shown = refl; is = refl }))
   asked_moved e old new (destroys is isnt never) asks = inr (inl tt)
 
-module _ (script : ScriptModel) (told : Bool) (timer n : ℕ) (wait : IsWaitOf script timer n) where
-  pub other_stream : (stream op : ℕ) → IsOn script stream op → IsOther n op
-  other_stream stream op on same = no_wait script stream timer n (subst (IsOn script stream) same on) wait
-
+module _ (script : ScriptModel) (told : Bool) (n : ℕ) where
   -- a turn that settles
   settles_aborting : (r : ReactorHalf) → IsAborting script n r → IsAborting script n (settled told r)
   settles_aborting r half =
@@ -145,30 +142,32 @@ module _ (script : ScriptModel) (told : Bool) (timer n : ℕ) (wait : IsWaitOf s
       (λ op moved target of may held same. refl) r slots (record { held = half.held; due = half.due }) in
       settles_aborting (with_taken a by) (marked a by (record { held = all.held; due = all.due }))
 
-  -- its timer is cancelled
-  waits_gone : (other : ℕ) (r u : ReactorHalf) → (other == timer) ≡ true → (before : List Event) → IsKept script before r →
-      r.due ≡ [] → u.waits ≡ r.waits → u.queues ≡ r.queues → u.due ≡ r.due →
-      IsAborting script n (record u {
-        due = u.due ++ map (λ (wait : Wait). aborted wait.op 0) (filter (is_wait_of other) u.waits);
-        waits = filter (λ wait. not (is_wait_of other wait)) u.waits;
-      })
-  waits_gone other r u same before kept none waits queues due =
-      let timers : other ≡ timer = eqb-true other timer same in
+  -- an act is taken that leaves nothing of it pending
+  pub reached_taken : (a : ℕ) (by : Act) (r : ReactorHalf) → act_of script a ≡ Some by →
+      IsAborting script n (performed_act script a by r) → IsAborting script n (settled told (performed script a r))
+  reached_taken a by r is half =
+      subst (λ (given : Option Act). IsAborting script n (settled told (with_taken a (performed_by script a given r)))) (sym is)
+      (settles_aborting (with_taken a (performed_act script a by r)) (marked a (performed_act script a by r) half))
+
+-- the act cancels all waits of this timer
+abbrev pub cancels_waits : ℕ → Act → Bool
+cancels_waits timer (act.Expires other after) = other == timer
+cancels_waits timer (act.ExpiresAt other at) = other == timer
+cancels_waits timer (act.Cancel other) = other == timer
+cancels_waits timer _ = false
+
+module _ (script : ScriptModel) (timer n : ℕ) (wait : IsWaitOf script timer n) where
+  pub other_stream : (stream op : ℕ) → IsOn script stream op → IsOther n op
+  other_stream stream op on same = no_wait script stream timer n (subst (IsOn script stream) same on) wait
+
+  -- no wait is it, so nothing of it is pending
+  pub waits_left : (before : List Event) (r u : ReactorHalf) → IsKept script before r →
+      All (λ (found : Wait). OtherTimed script n found.timer found.op) u.waits → u.queues ≡ r.queues → All (AbortsOnly n) u.due →
+      IsAborting script n u
+  waits_left before r u kept waits queues due =
       record {
         held = record {
-          waits =
-              All-passing (λ wait. not (is_wait_of other wait)) (λ wait. Timed script before wait.timer wait.op)
-              (λ wait. OtherTimed script n wait.timer wait.op) u.waits
-              (λ found of passes. (
-                of.0,
-                λ is.
-                    let one = one_timer script found.timer timer n (subst (IsWaitOf script found.timer) is of.0) wait in
-                    let here : (found.timer == other) ≡ true =
-                    ap (λ t. t == other) (one ∙ sym timers) ∙ same-is other in
-                    absurd (let wrong : true ≡ false = sym here ∙ not-true (found.timer == other) passes in cc),
-              ))
-              (subst (λ (waits : List Wait). All (λ wait. Timed script before wait.timer wait.op) waits) (sym waits)
-              kept.held.waits);
+          waits = waits;
           queues = λ stream. (
             All-weaker (λ (pending : Pending Reading). Streamed script before stream pending.op)
                 (λ pending. OtherStreamed script n stream pending.op)
@@ -184,35 +183,78 @@ module _ (script : ScriptModel) (told : Bool) (timer n : ℕ) (wait : IsWaitOf s
                 (sym queues) (kept.held.queues stream).1),
           );
         };
-        due =
-            All-append (AbortsOnly n) u.due (map (λ (wait : Wait). aborted wait.op 0) (filter (is_wait_of other) u.waits))
-            (subst (λ (due : List Completion). All (AbortsOnly n) due) (sym (due ∙ none)) (All-nil (AbortsOnly n)))
-            (All-map (AbortsOnly n) (λ (wait : Wait). aborted wait.op 0) (filter (is_wait_of other) u.waits)
-            (λ k d within same. refl));
+        due = due;
       }
 
-  cancels_aborting : (a : ℕ) (by : Act) (r : ReactorHalf) → cancels_waits timer by ≡ true → (before : List Event) →
+  -- waits are cancelled, and it among them, if it is there
+  pub waits_gone : (test : Wait → Bool) (before : List Event) (r u : ReactorHalf) → IsKept script before r → r.due ≡ [] →
+      All (λ (found : Wait). IsWaitOf script found.timer found.op → found.op ≡ n → test found ≡ true) r.waits →
+      u.waits ≡ r.waits → u.queues ≡ r.queues → u.due ≡ r.due → IsAborting script n (waits_cancelled test u)
+  waits_gone test before r u kept none hits waits queues due =
+      waits_left before r (waits_cancelled test u) kept
+      (All-passing (λ wait. not (test wait))
+      (λ found. Timed script before found.timer found.op
+      × (IsWaitOf script found.timer found.op → found.op ≡ n → test found ≡ true))
+      (λ found. OtherTimed script n found.timer found.op) u.waits
+      (λ found of passes. (
+        of.0.0,
+        λ is. absurd (let wrong : true ≡ false = sym (of.1 of.0.0 is) ∙ not-true (test found) passes in cc),
+      ))
+      (subst (λ (waits : List Wait). All (λ found. Timed script before found.timer found.op
+      × (IsWaitOf script found.timer found.op → found.op ≡ n → test found ≡ true)) waits) (sym waits)
+      (λ k d within. (kept.held.waits k d within, hits k d within))))
+      queues
+      (All-append (AbortsOnly n) u.due (map (λ (wait : Wait). aborted wait.op 0) (filter test u.waits))
+      (subst (λ (due : List Completion). All (AbortsOnly n) due) (sym (due ∙ none)) (All-nil (AbortsOnly n)))
+      (All-map (AbortsOnly n) (λ (wait : Wait). aborted wait.op 0) (filter test u.waits)
+      (λ k d within same. refl)))
+
+  -- its timer is cancelled
+  timer_hits : (other : ℕ) → (other == timer) ≡ true → (found : Wait) → IsWaitOf script found.timer found.op → found.op ≡ n →
+      is_wait_of other found ≡ true
+  timer_hits other same found of is =
+      let timers : other ≡ timer = eqb-true other timer same in
+      let one = one_timer script found.timer timer n (subst (IsWaitOf script found.timer) is of) wait in
+      ap (λ t. t == other) (one ∙ sym timers) ∙ same-is other
+
+  pub cancels_aborting : (a : ℕ) (by : Act) (r : ReactorHalf) → cancels_waits timer by ≡ true → (before : List Event) →
       IsKept script before r → r.due ≡ [] → IsAborting script n (performed_act script a by r)
   cancels_aborting a (act.Expires other after) r cancels before kept none =
-      waits_gone other r (record r { expiries = set r.expiries other (r.now + after) }) cancels before kept none refl refl refl
+      waits_gone (is_wait_of other) before r (record r { expiries = set r.expiries other (r.now + after) }) kept none
+      (λ k d within. timer_hits other cancels (get_or r.waits k d)) refl refl refl
   cancels_aborting a (act.ExpiresAt other at) r cancels before kept none =
-      waits_gone other r (record r { expiries = set r.expiries other at }) cancels before kept none refl refl refl
-  cancels_aborting a (act.Cancel other) r cancels before kept none = waits_gone other r r cancels before kept none refl refl refl
+      waits_gone (is_wait_of other) before r (record r { expiries = set r.expiries other at }) kept none
+      (λ k d within. timer_hits other cancels (get_or r.waits k d)) refl refl refl
+  cancels_aborting a (act.Cancel other) r cancels before kept none =
+      waits_gone (is_wait_of other) before r r kept none (λ k d within. timer_hits other cancels
+      (get_or r.waits k d)) refl refl refl
   cancels_aborting a _ r cancels before kept none = absurd (cc)
 
-  pub cancel_taken : (a : ℕ) (by : Act) (r : ReactorHalf) (given : Option Act) → given ≡ Some by → cancels_waits timer by ≡ true →
-      (before : List Event) → IsKept script before r → r.due ≡ [] →
-      IsAborting script n (settled told (with_taken a (performed_by script a given r)))
-  cancel_taken a by r None is cancels before kept none = absurd (cc)
-  cancel_taken a by r (Some given) is cancels before kept none =
-      let same : given ≡ by = cc in
-      let it : ReactorHalf = performed_act script a given r in
-      settles_aborting (with_taken a it)
-      (marked a it
-      (cancels_aborting a given r (subst (λ (by : Act). cancels_waits timer by ≡ true) (sym same) cancels) before kept none))
+  pub wait_asks : IsAsynchronous script n
+  wait_asks = record { operation = rw wait.act refl; unposted = rw wait.act refl }
 
-  wait_kind : (is_op script n ≡ true) × (is_act is_posting script n ≡ false)
-  wait_kind = (rw wait.act refl, rw wait.act refl)
+-- the head of a queue isn't in it where none of its operations is
+head_never : {Asks : Type 0} (n : ℕ) (P : ℕ → Type 0) (queue : List (Pending Asks)) → head_of queue ≡ Some n →
+    All (λ (pending : Pending Asks). P pending.op × IsOther n pending.op) queue → ⊥
+head_never n P [] is all = absurd (cc)
+head_never {Asks} n P (head ∷ queue) is all =
+    let same : head.op ≡ n = cc in
+    (All-head (λ (pending : Pending Asks). P pending.op × IsOther n pending.op) head queue all).1 same
+
+-- where nothing of it is queued no stream gives it anything
+untold_never : (script : ScriptModel) (n : ℕ) (r : ReactorHalf) (target : Option Act) (given : Code) (size : ℕ) →
+    IsAborting script n r → MayGiveUntold r n target given size → ⊥
+untold_never script n r (Some (act.ReadSome stream most strand slot kinds)) given size half may =
+    head_never n (IsOn script stream) (queues_at r stream).reads may.head (half.held.queues stream).0
+untold_never script n r (Some (act.ReadAll stream most strand slot kinds)) given size half may =
+    head_never n (IsOn script stream) (queues_at r stream).reads may.head (half.held.queues stream).0
+untold_never script n r (Some (act.Until stream delimiter max strand slot kinds)) given size half may =
+    head_never n (IsOn script stream) (queues_at r stream).reads may.head (half.held.queues stream).0
+untold_never script n r (Some (act.WriteSome stream bytes strand slot kinds)) given size half may =
+    head_never n (IsOn script stream) (queues_at r stream).writes may.head (half.held.queues stream).1
+untold_never script n r (Some (act.WriteAll stream bytes strand slot kinds)) given size half may =
+    head_never n (IsOn script stream) (queues_at r stream).writes may.head (half.held.queues stream).1
+untold_never script n r _ given size half may = may
 
 completion_counted : (n : ℕ) (events : List Event) (place k : ℕ) (given : Code) (size : ℕ) → k < place →
     slice_get events k ≡ Some (event.Done n given size) → 1 ≤ completions_of n (take place events)
@@ -241,7 +283,7 @@ call_counted n (first ∷ events) (suc place) (suc k) less stands =
     let rest = call_counted n events place k (omega (arith, less)) stands in omega (arith, one, rest)
 
 module _ (script : ScriptModel) (well : IsWellFormed script) (told : Bool) (events : List Event)
-    (legal : IsLegalSoFar script told events) (timer n : ℕ) (wait : IsWaitOf script timer n) where
+    (legal : IsLegalSoFar script told events) (n : ℕ) (asynchronous : IsAsynchronous script n) where
   abbrev s : ℕ → State
   s place = at script well told events legal place
 
@@ -254,7 +296,7 @@ module _ (script : ScriptModel) (well : IsWellFormed script) (told : Bool) (even
   pub half_after : (place : ℕ) (e : Event) → MayHappen script told (s place) e → was_taken (s place).reactor n ≡ true →
       IsAborting script n (s place).reactor → IsAborting script n (after_event script told (s place) e).reactor
   half_after place (event.Take a) may taken half =
-      takes_aborting script told timer n wait a (s place).reactor
+      takes_aborting script told n a (s place).reactor
       (λ same.
       let was = untaken script well told (s place) (sound place) a may in
       absurd (let wrong : false ≡ true = sym was ∙ (ap (was_taken (s place).reactor) same ∙ taken) in cc))
@@ -266,10 +308,10 @@ module _ (script : ScriptModel) (well : IsWellFormed script) (told : Bool) (even
     due = told_due script told (take place events) (s place).reactor (kept place) (AbortsOnly n) o half.due;
   }
   half_after place (event.Tick now) may taken half =
-      settles_aborting script told timer n wait (at_time script told now (s place).reactor)
+      settles_aborting script told n (at_time script told now (s place).reactor)
       (record { held = record { waits = half.held.waits; queues = half.held.queues }; due = half.due })
   half_after place event.Last may taken half =
-      settles_aborting script told timer n wait (at_last told (s place).reactor)
+      settles_aborting script told n (at_last told (s place).reactor)
       (record { held = record { waits = half.held.waits; queues = half.held.queues }; due = half.due })
   half_after place event.Fault may taken half =
       record { held = record { waits = half.held.waits; queues = half.held.queues }; due = All-nil (AbortsOnly n) }
@@ -296,7 +338,7 @@ module _ (script : ScriptModel) (well : IsWellFormed script) (told : Bool) (even
         let only = first_due (AbortsOnly n) (s place).reactor.due next.head next.due half.due in
         sym (told_code told (act_of script n) next.head.outcome given size next.outcome) ∙ only next.is_op
     | inr untold ↦
-        absurd (subst (λ (found : Option Act). MayGiveUntold (s place).reactor n found given size) wait.act untold.given)
+        absurd (untold_never script n (s place).reactor (act_of script n) given size half untold.given)
   ]
 
   doomed_step : (place : ℕ) (e : Event) → MayHappen script told (s place) e → IsDoomed script n (s place) →
@@ -327,36 +369,35 @@ module _ (script : ScriptModel) (well : IsWellFormed script) (told : Bool) (even
           Moves script n e (act_at (s place).context n) (act_at (after_event script told (s place) e).context n)
       moves place e may = moves_after script well told (s place) (sound place) e may n
 
-  -- a wait that was taken and neither completed nor was destroyed
+  -- what was taken and neither completed nor was destroyed
   asked_by : (place : ℕ) (made : CallPhase) (p : ActPhase) → IsPhaseOf script n made p → begins_shown p ≡ 0 → p ≢ phase.Dropped →
       ((given : Code) (size done turn : ℕ) → p ≡ phase.Ready given size (cause.Completed done turn) → ⊥) →
       p ≡ phase.Requested
   asked_by place made phase.Requested of unbegun stands never = refl
   asked_by place made phase.Absent of unbegun stands never =
-      absurd (let op = (wait_kind script told timer n wait).0 in let wrong : true ≡ false = sym op ∙ of in cc)
+      absurd (let op = asynchronous.operation in let wrong : true ≡ false = sym op ∙ of in cc)
   asked_by place made phase.Asked of unbegun stands never =
-      absurd (let op = (wait_kind script told timer n wait).0 in let wrong : true ≡ false = sym op ∙ of in cc)
+      absurd (let op = asynchronous.operation in let wrong : true ≡ false = sym op ∙ of in cc)
   asked_by place made phase.Inside of unbegun stands never =
       absurd (let posts = inline_posts script n of.0 in
-      let wrong : true ≡ false = sym posts ∙ (wait_kind script told timer n wait).1 in cc)
+      let wrong : true ≡ false = sym posts ∙ asynchronous.unposted in cc)
   asked_by place made (phase.Ready given size cause.Posted) of unbegun stands never =
-      absurd (let wrong : true ≡ false = sym of.0 ∙ (wait_kind script told timer n wait).1 in cc)
+      absurd (let wrong : true ≡ false = sym of.0 ∙ asynchronous.unposted in cc)
   asked_by place made (phase.Ready given size (cause.Completed done turn)) of unbegun stands never =
       absurd (never given size done turn refl)
   asked_by place made (phase.Running class progress) of unbegun stands never = absurd (omega (arith, unbegun))
   asked_by place made phase.Ended of unbegun stands never = absurd (omega (arith, unbegun))
   asked_by place made phase.Dropped of unbegun stands never = absurd (stands refl)
 
-  module _ (canceller place later : ℕ) (by : Act) (given : Code) (size : ℕ) (is_by : act_of script canceller ≡ Some by)
-      (cancels : cancels_waits timer by ≡ true) (takes : StandsAt events place (event.Take canceller))
-      (once : takes_of n (take place events) ≡ 1) (never : completions_of n (take place events) ≡ 0)
-      (begins : StandsAt events later (event.Begin n given size)) where
+  module _ (canceller place later : ℕ) (given : Code) (size : ℕ) (takes : StandsAt events place (event.Take canceller))
+      (pending : IsPendingAt events place n) (begins : StandsAt events later (event.Begin n given size))
+      (gone : IsAborting script n (settled told (performed script canceller (s place).reactor))) where
     may : MayTake script (s place) canceller
     may = happens script well told events legal place (event.Take canceller) takes
 
     was_taken_here : was_taken (s place).reactor n ≡ true
     was_taken_here = one_true (was_taken (s place).reactor n)
-        (omega (arith, once, (shown_at script well told events legal place).takes n))
+        (omega (arith, pending.taken, (shown_at script well told events legal place).takes n))
       where
         one_true : (b : Bool) → 1 ≤ one_if b → b ≡ true
         one_true true is = refl
@@ -371,12 +412,11 @@ module _ (script : ScriptModel) (well : IsWellFormed script) (told : Bool) (even
       | inr apart ↦ elim apart [
         | inl less ↦ less
         | inr more ↦
-            let kind = wait_kind script told timer n wait in
             let done = completed script well told events legal n later given size
-            (record { operation = kind.0; unposted = kind.1 }) begins in
+            asynchronous begins in
             let counted = completion_counted n events place done.earlier given size (omega (arith, done.before, more))
             done.stands in
-            absurd (omega (arith, counted, never))
+            absurd (omega (arith, counted, pending.uncompleted))
       ]
     ]
 
@@ -396,7 +436,7 @@ module _ (script : ScriptModel) (well : IsWellFormed script) (told : Bool) (even
         let stands = shown.completed n code most done turn ready in
         let within = stands_before events place stands.0 (event.Done n code most) stands.1 in
         let counted = completion_counted n events place stands.0 code most within.0 within.1 in
-        absurd (omega (arith, counted, never)))
+        absurd (omega (arith, counted, pending.uncompleted)))
       where
         -- what was taken was called
         never_taken : phase_at (s place).context n ≡ phase.Absent → call_at (s place).context n ≡ call.Uncalled → ⊥
@@ -415,9 +455,7 @@ module _ (script : ScriptModel) (well : IsWellFormed script) (told : Bool) (even
         (inl (record {
           asks = asks;
           taken = stays_taken place (event.Take canceller) may was_taken_here;
-          half =
-              cancel_taken script told timer n wait canceller by (s place).reactor (act_of script canceller) is_by cancels
-              (take place events) (kept place) may.turn.told;
+          half = gone;
         }))
 
     pub heeds : given ≡ code.Aborted

@@ -1,9 +1,9 @@
 -- What the reactor holds, and what becomes due as it performs an act and settles.
-use Rattle.std.proofs.Common.{◌≡◌, ◌≢◌, ℕ, ◌+◌, ◌-◌, min, take, ◌<◌, ◌≤◌, ◌==◌, nat_le, nat_lt, zero, suc, Bool, true, false, not, ◌&&◌, cond, List, [], ◌∷◌, ◌++◌, Option, Some, None, map, filter, find, length, get_or, set, inl, inr, refl, sym, ap, subst, ◌∙◌, arith}
+use Rattle.std.proofs.Common.{◌≡◌, ◌≢◌, ℕ, ◌+◌, ◌-◌, min, take, ◌==◌, nat_le, nat_lt, zero, suc, Bool, true, false, not, cond, List, [], ◌∷◌, ◌++◌, Option, Some, None, map, filter, find, length, set, inl, inr, refl, sym, subst, ◌∙◌}
 use Rattle.std.specs.List.{All, slice_index_or}
 use Rattle.std.specs.Option.{option_map}
-use Rattle.std.proofs.lemmas.Bool.{and_from, cases_eq, cond_both, cases_lt, eqb-true}
-use Rattle.std.proofs.lemmas.List.{get_or-set_same, get_or-set_other, get_or_past, set_past}
+use Rattle.std.proofs.lemmas.Bool.{cases_eq, cond_both, cases_lt, eqb-true}
+use Rattle.std.proofs.lemmas.List.{get_or-set_same, get_or-set_other, set_past}
 use Rattle.std.proofs.lemmas.List.Elements.{All-append, All-cons, All-filter, All-head, All-map, All-nil, All-push, All-tail, All-weaker}
 use Rattle.asio_types.specs.declared.code.Code.{Code}
 use Rattle.asio_types.specs.declared.code.Code.TheVariants as code
@@ -12,7 +12,6 @@ use Rattle.asio_types.specs.declared.mark.ReadMark.TheVariants as read_mark
 use Rattle.asio_types.specs.declared.mark.WriteMark.{WriteMark}
 use Rattle.asio_types.specs.declared.mark.WriteMark.TheVariants as write_mark
 use Rattle.session_script.specs.declared.act.Act.{Act}
-use Rattle.session_script.specs.declared.act.Act.TheVariants as act
 use Rattle.session_script.specs.Script.{ScriptModel, act_of}
 use Rattle.stream_rules.specs.declared.queue.Completion.{Completion}
 use Rattle.stream_rules.specs.Delimiter.{first_end}
@@ -20,16 +19,15 @@ use Rattle.stream_rules.specs.Queue.{Pending, QueueServed, Side, reading_side, s
 use Rattle.stream_rules.specs.Serving.{Outcome, Reading, Writing, Some_bytes, All_bytes, Until, Some_of, All_of, all_of, ended_by, read_code, served_read, served_write, some_of, until_found, write_code}
 use Rattle.stream_rules.specs.Stream.{Stream}
 use Rattle.stream_rules.specs.declared.serving.Served.{Served}
-use Rattle.stream_rules.specs.World.{changed_at, stream_at}
-use Rattle.history_rules.specs.Kinds.{slot_of, stream_of}
-use Rattle.history_rules.specs.Performing.{aborted, all_aborted, all_of_stream, bad, connected, emitted, emitted_to, expiry_set, is_of, is_reached, is_wait_for, is_wait_of, new_pending, one_of_stream_cancelled, one_wait_cancelled, operation_cancelled, performed_act, queues_at, read_accepted, shut_at, wait_accepted, waits_cancelled, with_due, with_queues, with_writes, write_accepted}
+use Rattle.stream_rules.specs.World.{stream_at}
+use Rattle.history_rules.specs.Kinds.{stream_of}
+use Rattle.history_rules.specs.Performing.{aborted, all_aborted, all_of_stream, bad, connected, is_of, new_pending, one_of_stream_cancelled, queues_at, read_accepted, waits_cancelled, with_due, with_queues, with_writes, write_accepted}
 use Rattle.history_rules.specs.Settling.{due_waits, expiry_of, is_due, put_by, served_at, served_below, served_stream, settled, sorted_by, waited, with_waits_served}
 use Rattle.history_rules.specs.State.{ReactorHalf, StreamQueues, no_queues}
 use Rattle.history_rules.specs.declared.wait.Wait.{Wait}
 use Rattle.history_rules.proofs.PerformingLemmas.{All-passing}
 use Rattle.history_laws.specs.Cancelled.{may_cancel}
 use Rattle.history_laws.specs.Clock.{IsWaitOf}
-use Rattle.history_laws.proofs.CountLemmas.{same-is}
 
 -- the act is an operation on this stream
 pub record IsOn (script : ScriptModel) (stream n : ℕ) : Type 0 where

@@ -1,5 +1,5 @@
 -- Along a legal history what is due is right: what is aborted was cancelled, and waits have expired.
-use Rattle.std.proofs.Common.{◌≡◌, ◌≢◌, ◌⊎◌, ℕ, ◌+◌, ◌<◌, ◌≤◌, ◌==◌, nat_le, zero, suc, Bool, true, false, not, ◌&&◌, cond, List, [], ◌∷◌, ◌++◌, Option, Some, None, drop, length, replicate, set, inl, inr, refl, sym, ap, subst, ◌∙◌, arith}
+use Rattle.std.proofs.Common.{◌≡◌, ◌≢◌, ℕ, ◌<◌, ◌≤◌, Bool, true, false, List, [], ◌∷◌, ◌++◌, Option, Some, None, drop, length, inl, inr, refl, sym, ap, subst, ◌∙◌, arith}
 use Rattle.std.specs.List.{All, slice_index_or}
 use Rattle.std.specs.Prelude.{slice_get}
 use Rattle.std.proofs.lemmas.Bool.{cases_lt}
@@ -7,7 +7,6 @@ use Rattle.std.proofs.lemmas.List.{length-append}
 use Rattle.std.proofs.lemmas.Bool.Decides.{nat_tests}
 use Rattle.std.proofs.lemmas.List.Elements.{All-drop, All-nil, All-tail, All-weaker}
 use Rattle.std.proofs.lemmas.Option.{slice_get_within}
-use Rattle.asio_types.specs.declared.code.Code.{Code}
 use Rattle.asio_types.specs.declared.code.Code.TheVariants as code
 use Rattle.asio_types.specs.declared.event.Event.{Event}
 use Rattle.asio_types.specs.declared.event.Event.TheVariants as event
@@ -16,13 +15,13 @@ use Rattle.session_script.specs.declared.act.Act.TheVariants as act
 use Rattle.session_script.specs.Script.{ScriptModel, act_of}
 use Rattle.stream_rules.specs.declared.queue.Completion.{Completion}
 use Rattle.stream_rules.specs.Queue.{Pending}
-use Rattle.stream_rules.specs.Serving.{Outcome, Reading, Writing}
-use Rattle.history_rules.specs.Kinds.{slot_of, stream_of}
+use Rattle.stream_rules.specs.Serving.{Reading, Writing}
+use Rattle.history_rules.specs.Kinds.{stream_of}
 use Rattle.history_rules.specs.Legal.{MayHappen, after_event}
-use Rattle.history_rules.specs.Performing.{aborted, bad, performed, performed_act, performed_by, queues_at, with_queues, with_taken}
+use Rattle.history_rules.specs.Performing.{performed_act, performed_by, queues_at, with_queues, with_taken}
 use Rattle.history_rules.specs.Requests.{disconnected, reactor_after_done, reactor_after_take, slot_in, told_off}
-use Rattle.history_rules.specs.Settling.{expiry_of, is_due, settled, waited}
-use Rattle.history_rules.specs.State.{ReactorHalf, State, StreamQueues, first_reactor, first_state, no_queues}
+use Rattle.history_rules.specs.Settling.{expiry_of, is_due, settled}
+use Rattle.history_rules.specs.State.{ReactorHalf, State, StreamQueues, first_reactor, no_queues}
 use Rattle.history_rules.specs.Time.{at_last, at_time}
 use Rattle.history_rules.specs.Untold.{gone, reading_place, writing_place}
 use Rattle.history_rules.specs.declared.wait.Wait.{Wait}
@@ -31,7 +30,7 @@ use Rattle.history_laws.specs.Events.{StandsAt}
 use Rattle.history_laws.specs.Clock.{IsWaitOf}
 use Rattle.history_laws.proofs.ClockLemmas.{settled_keeps, told_keeps}
 use Rattle.history_laws.proofs.FirstLemmas.{repeated}
-use Rattle.history_laws.proofs.HeldLemmas.{AreQueued, Holds, IsOn, IsPerformed, IsSettled, OfStream, OfTimer, at_queues, settles}
+use Rattle.history_laws.proofs.HeldLemmas.{AreQueued, Holds, IsOn, at_queues, settles}
 use Rattle.history_laws.proofs.HistoryLemmas.{stands_last, stands_more}
 use Rattle.history_laws.proofs.PerformedLemmas.{AreConnected, performs, slots_performed, slots_settled, slots_told}
 use Rattle.history_laws.proofs.Shown.{StandsIn}

@@ -1,9 +1,8 @@
 -- The law of timers: of two waits that are pending together the first to complete has no later expiry.
-use Rattle.std.proofs.Common.{◌≡◌, ◌≢◌, ◌⊎◌, ℕ, ◌+◌, ◌<◌, ◌≤◌, ◌==◌, zero, suc, Bool, true, false, cond, List, [], ◌∷◌, ◌++◌, Option, Some, None, get_or, length, take, inl, inr, refl, sym, ap, subst, ◌∙◌, arith}
+use Rattle.std.proofs.Common.{◌≡◌, ◌≢◌, ◌⊎◌, ℕ, ◌+◌, ◌<◌, ◌≤◌, suc, Bool, true, false, cond, List, [], ◌∷◌, Option, Some, None, get_or, length, take, inl, inr, refl, sym, ap, subst, ◌∙◌, arith}
 use Rattle.std.specs.List.{All, slice_index_or}
-use Rattle.std.specs.Prelude.{slice_get}
 use Rattle.std.proofs.lemmas.Bool.{cases_eq}
-use Rattle.std.proofs.lemmas.List.Elements.{All-cons, All-head, All-nil, All-tail, All-weaker}
+use Rattle.std.proofs.lemmas.List.Elements.{All-cons, All-nil, All-weaker}
 use Rattle.asio_types.specs.declared.code.Code.{Code}
 use Rattle.asio_types.specs.declared.code.Code.TheVariants as code
 use Rattle.asio_types.specs.declared.event.Event.{Event}
@@ -19,27 +18,24 @@ use Rattle.history_rules.specs.Legal.{IsLegalSoFar, MayHappen, after_event}
 use Rattle.history_rules.specs.Order.{was_taken}
 use Rattle.history_rules.specs.Performing.{performed, performed_by, queues_at}
 use Rattle.history_rules.specs.Settling.{expiry_of}
-use Rattle.history_rules.specs.State.{ReactorHalf, State, first_state}
+use Rattle.history_rules.specs.State.{ReactorHalf, State}
 use Rattle.history_rules.specs.Time.{at_last, at_time}
-use Rattle.history_rules.specs.Untold.{MayGiveUntold}
 use Rattle.history_rules.specs.declared.wait.Wait.{Wait}
-use Rattle.history_laws.specs.Cancelled.{cancels_waits}
 use Rattle.history_laws.specs.Clock.{IsWaitOf, expiry_at, expiry_by}
 use Rattle.history_laws.specs.Events.{StandsAt, takes_of}
 use Rattle.history_laws.specs.Timers.{TimersKeepTime}
 use Rattle.history_laws.proofs.ClockLemmas.{settled_keeps, told_keeps}
 use Rattle.history_laws.proofs.CountLemmas.{one_if}
-use Rattle.history_laws.proofs.HeededLemmas.{AbortsOnly, IsAborting, IsOther, OtherStreamed, OtherTimed, aborts, cancel_taken, half_after, other_stream, stays_taken}
-use Rattle.history_laws.proofs.KeptLemmas.{IsKept, IsRight, Streamed, Timed, one_timer}
+use Rattle.history_laws.proofs.HeededLemmas.{AbortsOnly, IsAborting, IsOther, OtherStreamed, aborts, cancels_aborting, cancels_waits, half_after, other_stream, reached_taken, stays_taken, wait_asks}
+use Rattle.history_laws.proofs.KeptLemmas.{IsKept, IsRight, Streamed, one_timer}
 use Rattle.history_laws.proofs.LaterLemmas.{at, counted_at, happens, later_on}
 use Rattle.history_laws.proofs.LawLemmas.{shown_at}
-use Rattle.history_laws.proofs.ReachLemmas.{along, legal_take}
-use Rattle.history_laws.proofs.TimeLemmas.{IsClocked, expiry_performed_by}
-use Rattle.history_laws.proofs.TimerLawLemmas.{clocked_at, expired, first_due, kept_at, rest, right_at, rising, timer_within, told_code, untold_wait}
+use Rattle.history_laws.proofs.TimeLemmas.{expiry_performed_by}
+use Rattle.history_laws.proofs.TimerLawLemmas.{clocked_at, expired, first_due, kept_at, rest, rising, timer_within, told_code, untold_wait}
 use Rattle.history_laws.proofs.WaitOrderLemmas.{ExpiresAt, IsLevel, first_level, level_after}
 
 -- an element of a list passes, or none does
-one_or_none : {X : Type 0} (P Q : X → Type 0) → ((x : X) → P x ⊎ Q x) → (d : X) (xs : List X) →
+pub one_or_none : {X : Type 0} (P Q : X → Type 0) → ((x : X) → P x ⊎ Q x) → (d : X) (xs : List X) →
     ((k : ℕ) × (k < length xs) × P (get_or xs k d)) ⊎ All Q xs
 one_or_none P Q either d [] = inr (All-nil Q)
 one_or_none P Q either d (x ∷ xs) = elim (either x) [
@@ -120,8 +116,8 @@ module _ (script : ScriptModel) (well : IsWellFormed script) (told : Bool) (even
         by_test : (by : Act) (b : Bool) → act_of script a ≡ Some by → cancels_waits timer by ≡ b →
             IsLate expiry (after_event script told (s place) (event.Take a)).reactor
         by_test by true is cancels =
-            inr (cancel_taken script told timer n wait a by r (act_of script a) is cancels (take place events) (kept place)
-            may.turn.told)
+            inr (reached_taken script told n a by r is
+            (cancels_aborting script timer n wait a by r cancels (take place events) (kept place) may.turn.told))
         by_test by false is cancels =
             inl (keeps (λ other also. let same : Some by ≡ Some other = sym is ∙ also in
             let it : by ≡ other = cc in subst (λ (by : Act). cancels_waits timer by ≡ false) it cancels))
@@ -155,10 +151,10 @@ module _ (script : ScriptModel) (well : IsWellFormed script) (told : Bool) (even
     later_step : (expiry place : ℕ) (e : Event) → MayHappen script told (s place) e → IsLater expiry (s place) →
         IsLater expiry (after_event script told (s place) e)
     later_step expiry place e may later = (
-      stays_taken script well told events legal timer n wait place e may later.0,
+      stays_taken script well told events legal n (wait_asks script timer n wait) place e may later.0,
       elim later.1 [
         | inl less ↦ late_after expiry place e may less
-        | inr half ↦ inr (half_after script well told events legal timer n wait place e may later.0 half)
+        | inr half ↦ inr (half_after script well told events legal n (wait_asks script timer n wait) place e may later.0 half)
       ],
     )
 
@@ -184,11 +180,11 @@ module _ (script : ScriptModel) (well : IsWellFormed script) (told : Bool) (even
             queues = λ stream. (
               All-weaker (λ (pending : Pending Reading). Streamed script (take place events) stream pending.op)
                   (λ pending. OtherStreamed script n stream pending.op)
-                  (λ pending of. (of.0, other_stream script told timer n wait stream pending.op of.0)) (queues_at r stream).reads
+                  (λ pending of. (of.0, other_stream script timer n wait stream pending.op of.0)) (queues_at r stream).reads
                   (held.queues stream).0,
               All-weaker (λ (pending : Pending Writing). Streamed script (take place events) stream pending.op)
                   (λ pending. OtherStreamed script n stream pending.op)
-                  (λ pending of. (of.0, other_stream script told timer n wait stream pending.op of.0)) (queues_at r stream).writes
+                  (λ pending of. (of.0, other_stream script timer n wait stream pending.op of.0)) (queues_at r stream).writes
                   (held.queues stream).1,
             );
           };
@@ -258,7 +254,7 @@ module _ (script : ScriptModel) (well : IsWellFormed script) (told : Bool) (even
           | inl less ↦ omega (arith, less, clock, later_clock)
           | inr half ↦
               let wrong : code.Ok ≡ code.Aborted =
-              aborts script well told events legal timer n wait later code.Ok more
+              aborts script well told events legal n (wait_asks script timer n wait) later code.Ok more
               (happens script well told events legal later (event.Done n code.Ok more) stands_later) half in
               absurd (cc)
         ]

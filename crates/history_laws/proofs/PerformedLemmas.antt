@@ -1,6 +1,6 @@
 -- What becomes due as an act is performed, and what slots hold.
-use Rattle.std.proofs.Common.{◌≡◌, ◌≢◌, ℕ, ◌+◌, ◌<◌, ◌≤◌, ◌==◌, zero, suc, Bool, true, false, not, ◌&&◌, cond, List, [], ◌∷◌, ◌++◌, Option, Some, None, find, length, set, inl, inr, refl, sym, ap, subst, ◌∙◌, arith}
-use Rattle.std.specs.List.{All, slice_index_or}
+use Rattle.std.proofs.Common.{◌≡◌, ℕ, ◌+◌, ◌==◌, zero, suc, Bool, true, false, cond, List, [], ◌∷◌, ◌++◌, Option, Some, None, find, length, set, inl, inr, refl, sym, ap, subst, ◌∙◌}
+use Rattle.std.specs.List.{slice_index_or}
 use Rattle.std.proofs.lemmas.Bool.{and_from, cases_eq, cases_lt, cond_both, eqb-true}
 use Rattle.std.proofs.lemmas.List.{get_or-set_same, get_or-set_other, set_past}
 use Rattle.std.proofs.lemmas.List.Elements.{All-append, All-push}
@@ -10,12 +10,10 @@ use Rattle.session_script.specs.Script.{ScriptModel, act_of}
 use Rattle.stream_rules.specs.declared.queue.Completion.{Completion}
 use Rattle.stream_rules.specs.Queue.{Pending}
 use Rattle.stream_rules.specs.Serving.{Reading, Writing, Some_bytes, All_bytes, Until, Some_of, All_of}
-use Rattle.stream_rules.specs.Stream.{closed_stream}
-use Rattle.stream_rules.specs.World.{changed_at}
-use Rattle.history_rules.specs.Kinds.{slot_of, stream_of}
-use Rattle.history_rules.specs.Performing.{aborted, all_of_stream, bad, closed_at, connected, emitted, emitted_to, is_reached, is_wait_for, is_wait_of, new_pending, one_wait_cancelled, operation_cancelled, performed_act, performed_by, queues_at, read_accepted, shut_at, wait_accepted, waits_cancelled, one_of_stream_cancelled, with_due, with_queues, write_accepted}
+use Rattle.history_rules.specs.Kinds.{slot_of}
+use Rattle.history_rules.specs.Performing.{aborted, all_of_stream, bad, closed_at, connected, emitted, emitted_to, is_reached, is_wait_for, is_wait_of, new_pending, one_wait_cancelled, operation_cancelled, performed_act, queues_at, read_accepted, shut_at, wait_accepted, waits_cancelled, one_of_stream_cancelled, with_due, with_queues, write_accepted}
 use Rattle.history_rules.specs.Requests.{disconnected, reactor_after_done, released, slot_in, told_off}
-use Rattle.history_rules.specs.Settling.{served_at, served_below, settled, with_waits_served}
+use Rattle.history_rules.specs.Settling.{served_below, settled, with_waits_served}
 use Rattle.history_rules.specs.State.{ReactorHalf, StreamQueues}
 use Rattle.history_rules.specs.Untold.{gone}
 use Rattle.history_rules.specs.declared.wait.Wait.{Wait}
@@ -23,7 +21,7 @@ use Rattle.std.proofs.lemmas.List.Elements.{All-nil}
 use Rattle.history_laws.specs.Cancelled.{is_this, may_cancel}
 use Rattle.history_laws.specs.Clock.{IsWaitOf}
 use Rattle.history_laws.proofs.CountLemmas.{same-is}
-use Rattle.history_laws.proofs.HeldLemmas.{AreQueued, Holds, IsOn, IsPerformed, OfStream, OfTimer, at_queues, connects, found_in, read_comes, stream_goes, stream_op_goes, waits_go, write_comes}
+use Rattle.history_laws.proofs.HeldLemmas.{AreQueued, IsPerformed, OfStream, OfTimer, at_queues, connects, found_in, read_comes, stream_goes, stream_op_goes, waits_go, write_comes}
 
 -- each slot holds an operation that is connected to it
 abbrev pub AreConnected : ScriptModel → ReactorHalf → Type 0
@@ -244,7 +242,7 @@ slots_connect script a given r t is same slots = by_slot (slot_of given) refl
     by_slot None of = λ k op holds. slots k op (ap (λ (xs : List (Option ℕ)). slice_index_or xs k None) (sym same) ∙ holds)
     by_slot (Some slot) of = connects_slot script a slot r t same (ap slot_in is ∙ of) slots
 
-slots_if : (b : Bool) (r one two : ReactorHalf) → one.slots ≡ r.slots → two.slots ≡ r.slots → (cond b one two).slots ≡ r.slots
+pub slots_if : (b : Bool) (r one two : ReactorHalf) → one.slots ≡ r.slots → two.slots ≡ r.slots → (cond b one two).slots ≡ r.slots
 slots_if true r one two first second = first
 slots_if false r one two first second = second
 
@@ -257,7 +255,7 @@ slots_cancelled (act.WriteSome stream bytes strand slot filter) op r = refl
 slots_cancelled (act.WriteAll stream bytes strand slot filter) op r = refl
 slots_cancelled _ op r = refl
 
-slots_emitted : (script : ScriptModel) (op : Option ℕ) (types : ℕ) (r : ReactorHalf) → (emitted script op types r).slots ≡ r.slots
+pub slots_emitted : (script : ScriptModel) (op : Option ℕ) (types : ℕ) (r : ReactorHalf) → (emitted script op types r).slots ≡ r.slots
 slots_emitted script None types r = refl
 slots_emitted script (Some op) types r = by_act (act_of script op)
   where
@@ -265,7 +263,7 @@ slots_emitted script (Some op) types r = by_act (act_of script op)
     by_act None = refl
     by_act (Some given) = slots_if (is_reached given types) r (operation_cancelled given op r) r (slots_cancelled given op r) refl
 
-slots_first : (wait : Option Wait) (r : ReactorHalf) → (one_wait_cancelled wait r).slots ≡ r.slots
+pub slots_first : (wait : Option Wait) (r : ReactorHalf) → (one_wait_cancelled wait r).slots ≡ r.slots
 slots_first None r = refl
 slots_first (Some wait) r = refl
 
@@ -273,13 +271,13 @@ slots_same : (script : ScriptModel) (r t : ReactorHalf) → t.slots ≡ r.slots 
 slots_same script r t same slots k op holds =
     slots k op (ap (λ (xs : List (Option ℕ)). slice_index_or xs k None) (sym same) ∙ holds)
 
-slots_read : (a stream : ℕ) (reading : Reading) (r : ReactorHalf) → (read_accepted a stream reading r).slots ≡ r.slots
+pub slots_read : (a stream : ℕ) (reading : Reading) (r : ReactorHalf) → (read_accepted a stream reading r).slots ≡ r.slots
 slots_read a stream reading r =
     let old = queues_at r stream in
     slots_if old.closed r (with_due (bad a ∷ []) r)
     (with_queues r stream (record old { reads = old.reads ++ new_pending a r.accepted reading ∷ [] })) refl refl
 
-slots_write : (a stream : ℕ) (writing : Writing) (r : ReactorHalf) → (write_accepted a stream writing r).slots ≡ r.slots
+pub slots_write : (a stream : ℕ) (writing : Writing) (r : ReactorHalf) → (write_accepted a stream writing r).slots ≡ r.slots
 slots_write a stream writing r =
     let old = queues_at r stream in
     slots_if old.closed r (with_due (bad a ∷ []) r)
@@ -315,7 +313,7 @@ slots_performed script a (act.Close stream) r is slots =
     slots_same script r (closed_at stream r) (slots_if (queues_at r stream).closed r r (shut_at stream r) refl refl) slots
 slots_performed script a _ r is slots = slots
 
-slots_below : (k : ℕ) (r : ReactorHalf) → (served_below k r).slots ≡ r.slots
+pub slots_below : (k : ℕ) (r : ReactorHalf) → (served_below k r).slots ≡ r.slots
 slots_below zero r = refl
 slots_below (suc k) r = slots_below k r
 
@@ -334,7 +332,7 @@ slots_gone (Some (act.WriteSome stream bytes strand slot filter)) r = refl
 slots_gone (Some (act.WriteAll stream bytes strand slot filter)) r = refl
 slots_gone _ r = refl
 
-slots_off : (script : ScriptModel) (o : ℕ) (r : ReactorHalf) (due : List Completion) → (told_off script o r due).slots ≡ r.slots
+pub slots_off : (script : ScriptModel) (o : ℕ) (r : ReactorHalf) (due : List Completion) → (told_off script o r due).slots ≡ r.slots
 slots_off script o r [] = slots_gone (act_of script o) r
 slots_off script o r (next ∷ due) = refl
 

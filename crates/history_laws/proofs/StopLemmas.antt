@@ -445,7 +445,7 @@ module _ (script : ScriptModel) (well : IsWellFormed script) (told : Bool) where
     none_more : (k : ℕ) → k ≤ 0 → k ≡ 0
     none_more k less = omega (arith, less)
 
-    abbrev HasClosed : List Event → State → Type 0
+    abbrev pub HasClosed : List Event → State → Type 0
     HasClosed before s =
         IsSound script s × (count_by is_round_end before ≡ s.context.closings)
         × (s.context.closings ≤ length script.rounds)
@@ -457,7 +457,7 @@ module _ (script : ScriptModel) (well : IsWellFormed script) (told : Bool) where
         let pushed = count-push is_round_end before e in
         (sound_after script well told s has.0 e may, omega (arith, pushed, after.0, has.1), after.1)
 
-    closed : HasClosed events (state_of script told events)
+    pub closed : HasClosed events (state_of script told events)
     closed =
         along script told HasClosed closed_next [] (first_state script told)
         ((shown_so_far script well told [] tt).sound, refl, omega arith) events legal

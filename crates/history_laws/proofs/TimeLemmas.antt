@@ -1,5 +1,5 @@
 -- The time and the expiries that the events show are the reactor's.
-use Rattle.std.proofs.Common.{◌≡◌, ◌≢◌, ℕ, ◌+◌, ◌<◌, ◌≤◌, ◌==◌, zero, suc, Bool, true, false, cond, List, [], ◌∷◌, ◌++◌, Option, Some, None, find, length, set, inl, inr, refl, sym, ap, subst, ◌∙◌, arith}
+use Rattle.std.proofs.Common.{◌≡◌, ℕ, ◌+◌, ◌<◌, ◌==◌, Bool, true, false, cond, List, [], ◌∷◌, ◌++◌, Option, Some, None, find, length, set, inl, inr, refl, sym, ap, subst, ◌∙◌, arith}
 use Rattle.std.specs.List.{slice_index_or}
 use Rattle.std.proofs.lemmas.Bool.{cases_eq}
 use Rattle.std.proofs.lemmas.List.{get_or-set_same, get_or-set_other, length-replicate, length-set}
@@ -10,7 +10,7 @@ use Rattle.session_script.specs.declared.act.Act.TheVariants as act
 use Rattle.session_script.specs.Script.{ScriptModel, act_of}
 use Rattle.stream_rules.specs.Serving.{Reading, Writing, Some_bytes, All_bytes, Until, Some_of, All_of}
 use Rattle.history_rules.specs.Legal.{MayHappen, after_event}
-use Rattle.history_rules.specs.Performing.{bad, closed_at, connected, emitted, emitted_to, is_reached, is_wait_for, is_wait_of, new_pending, one_wait_cancelled, operation_cancelled, performed, performed_act, performed_by, queues_at, read_accepted, shut_at, wait_accepted, with_due, with_queues, write_accepted}
+use Rattle.history_rules.specs.Performing.{bad, closed_at, connected, emitted, emitted_to, is_reached, is_wait_of, new_pending, one_wait_cancelled, operation_cancelled, performed, performed_act, performed_by, queues_at, read_accepted, shut_at, wait_accepted, with_due, with_queues, write_accepted}
 use Rattle.history_rules.specs.State.{ReactorHalf, State, first_reactor}
 use Rattle.history_rules.specs.Time.{at_last, at_time}
 use Rattle.history_rules.specs.declared.wait.Wait.{Wait}

@@ -1,6 +1,6 @@
 -- Laws of timers and of cancellation.
-use Rattle.std.proofs.Common.{◌≡◌, ◌≢◌, ◌⊎◌, ℕ, ◌+◌, ◌<◌, ◌≤◌, ◌==◌, zero, suc, Bool, true, false, cond, List, [], ◌∷◌, ◌++◌, Option, Some, None, length, take, inl, inr, refl, sym, ap, subst, ◌∙◌, arith}
-use Rattle.std.specs.List.{All, slice_index_or}
+use Rattle.std.proofs.Common.{◌≡◌, ◌≢◌, ℕ, ◌<◌, ◌≤◌, Bool, true, false, List, [], ◌∷◌, Option, Some, take, inl, inr, refl, sym, ap, subst, ◌∙◌, arith}
+use Rattle.std.specs.List.{All}
 use Rattle.std.specs.Prelude.{slice_get}
 use Rattle.std.proofs.lemmas.List.Elements.{All-head}
 use Rattle.asio_types.specs.declared.code.Code.{Code}
@@ -10,14 +10,13 @@ use Rattle.asio_types.specs.declared.event.Event.TheVariants as event
 use Rattle.session_script.specs.declared.act.Act.{Act}
 use Rattle.session_script.specs.declared.act.Act.TheVariants as act
 use Rattle.session_script.specs.Script.{ScriptModel, act_of}
-use Rattle.session_script.specs.WellFormed.{FitsAct, IsWellFormed, header_of}
+use Rattle.session_script.specs.WellFormed.{IsWellFormed}
 use Rattle.session_script.proofs.PlacingLemmas.{act_fits}
 use Rattle.stream_rules.specs.declared.queue.Completion.{Completion}
 use Rattle.stream_rules.specs.Serving.{Outcome, Reading, Writing, Some_bytes, All_bytes, Until, Some_of, All_of}
 use Rattle.history_rules.specs.Calls.{is_open}
-use Rattle.history_rules.specs.Legal.{IsLegalSoFar, state_of}
+use Rattle.history_rules.specs.Legal.{IsLegalSoFar}
 use Rattle.history_rules.specs.Order.{was_taken}
-use Rattle.history_rules.specs.Requests.{MayComplete}
 use Rattle.history_rules.specs.Rounds.{is_quiet}
 use Rattle.history_rules.specs.State.{ReactorHalf, State, call_at, first_state, phase_at}
 use Rattle.history_rules.specs.Time.{MayTick}

@@ -1,11 +1,8 @@
 -- Waits that are pending together complete by their expiries.
-use Rattle.std.proofs.Common.{◌≡◌, ◌≢◌, ◌⊎◌, ℕ, ◌+◌, ◌<◌, ◌≤◌, ◌==◌, nat_le, zero, suc, Bool, true, false, cond, List, [], ◌∷◌, ◌++◌, Option, Some, None, filter, find, get_or, set, length, take, inl, inr, refl, sym, ap, subst, ◌∙◌, arith}
+use Rattle.std.proofs.Common.{◌≡◌, ◌≢◌, ◌⊎◌, ℕ, ◌<◌, ◌≤◌, nat_le, Bool, true, false, cond, List, [], ◌∷◌, Option, Some, None, filter, get_or, inl, inr, refl, sym, ap, subst, ◌∙◌, arith}
 use Rattle.std.specs.List.{All, slice_index_or}
-use Rattle.std.specs.Prelude.{slice_get}
 use Rattle.std.proofs.lemmas.Bool.{cases_eq}
-use Rattle.std.proofs.lemmas.List.{get_or-set_other}
 use Rattle.std.proofs.lemmas.List.Elements.{All-cons, All-head, All-nil, All-tail, All-weaker}
-use Rattle.asio_types.specs.declared.code.Code.{Code}
 use Rattle.asio_types.specs.declared.code.Code.TheVariants as code
 use Rattle.asio_types.specs.declared.event.Event.{Event}
 use Rattle.asio_types.specs.declared.event.Event.TheVariants as event
@@ -16,13 +13,12 @@ use Rattle.session_script.specs.WellFormed.{IsWellFormed}
 use Rattle.session_script.proofs.PlacingLemmas.{act_fits}
 use Rattle.stream_rules.specs.declared.queue.Completion.{Completion}
 use Rattle.stream_rules.specs.Queue.{Pending}
-use Rattle.stream_rules.specs.Serving.{Reading, Writing, Some_bytes, All_bytes, Until, Some_of, All_of}
+use Rattle.stream_rules.specs.Serving.{Reading, Writing}
 use Rattle.history_rules.specs.Bounds.{AllAhead}
-use Rattle.history_rules.specs.Legal.{IsLegalSoFar, MayHappen, after_event}
-use Rattle.history_rules.specs.Order.{was_taken}
-use Rattle.history_rules.specs.Performing.{aborted, bad, connected, performed, performed_act, performed_by, queues_at, wait_accepted, with_taken}
+use Rattle.history_rules.specs.Legal.{MayHappen, after_event}
+use Rattle.history_rules.specs.Performing.{connected, performed_act, performed_by, queues_at, wait_accepted, with_taken}
 use Rattle.history_rules.specs.Requests.{reactor_after_done}
-use Rattle.history_rules.specs.Settling.{AreDueTogether, expiry_of, is_due, settled, waited}
+use Rattle.history_rules.specs.Settling.{AreDueTogether, expiry_of, is_due, settled}
 use Rattle.history_rules.specs.State.{ReactorHalf, State, StreamQueues, first_state, no_queues}
 use Rattle.history_rules.specs.Time.{at_last, at_time, next_time}
 use Rattle.asio_types.specs.declared.outside.Point.TheVariants as point
@@ -30,12 +26,9 @@ use Rattle.history_rules.specs.declared.wait.Wait.{Wait}
 use Rattle.history_rules.proofs.PerformingLemmas.{performs-by, together-ahead, together-from}
 use Rattle.history_rules.proofs.TimeLemmas.{next_point-first}
 use Rattle.stream_rules.specs.World.{times_after}
-use Rattle.history_laws.specs.Cancelled.{cancels_waits, may_cancel}
-use Rattle.history_laws.specs.Clock.{IsWaitOf, expiry_at}
-use Rattle.history_laws.specs.Events.{StandsAt, takes_of}
+use Rattle.history_laws.specs.Clock.{IsWaitOf}
 use Rattle.history_laws.proofs.ClockLemmas.{settled_keeps, told_keeps}
-use Rattle.history_laws.proofs.CountLemmas.{one_if}
-use Rattle.history_laws.proofs.HeldLemmas.{AreQueued, Holds, IsOn, IsPerformed, IsSettled, settles}
+use Rattle.history_laws.proofs.HeldLemmas.{AreQueued, Holds, IsOn, settles}
 use Rattle.history_laws.proofs.KeptLemmas.{IsKept, Streamed, Timed, no_wait, one_timer, told_due}
 use Rattle.history_laws.proofs.PerformedLemmas.{AreConnected, performs}
 

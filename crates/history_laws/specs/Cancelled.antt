@@ -10,6 +10,7 @@ use Rattle.session_script.specs.declared.act.Act.TheVariants as act
 use Rattle.session_script.specs.Script.{ScriptModel, act_of}
 use Rattle.history_rules.specs.Kinds.{slot_of, stream_of}
 use Rattle.history_rules.specs.Performing.{is_reached}
+use Rattle.history_rules.specs.Requests.{slot_in}
 use Rattle.history_laws.specs.Clock.{IsWaitOf}
 use Rattle.history_laws.specs.Events.{StandsAt, completions_of, takes_of}
 
@@ -33,13 +34,6 @@ may_cancel (act.Emit slot types) target = is_this slot (slot_of target) && is_re
 may_cancel (act.Close stream) target = is_this stream (stream_of target)
 may_cancel _ target = false
 
--- the act cancels all waits of this timer
-abbrev pub cancels_waits : ℕ → Act → Bool
-cancels_waits timer (act.Expires other after) = other == timer
-cancels_waits timer (act.ExpiresAt other at) = other == timer
-cancels_waits timer (act.Cancel other) = other == timer
-cancels_waits timer _ = false
-
 -- an act that was taken before this place, behind the operation, may cancel it
 pub record WasCancelled (script : ScriptModel) (events : List Event) (place n : ℕ) : Type 0 where
   pub canceller : ℕ
@@ -55,14 +49,38 @@ pub record WasCancelled (script : ScriptModel) (events : List Event) (place n : 
   pub takes : StandsAt events taken (event.Take n)
   pub cancels : StandsAt events cancelled (event.Take canceller)
 
+-- at this place the reactor has it: it was taken, and hasn't completed
+pub record IsPendingAt (events : List Event) (place n : ℕ) : Type 0 where
+  pub taken : takes_of n (take place events) ≡ 1
+  pub uncompleted : completions_of n (take place events) ≡ 0
+
+-- no other wait of this timer is pending that was taken before it
+abbrev pub IsOldestWait : ScriptModel → List Event → ℕ → ℕ → ℕ → Type 0
+IsOldestWait script events place timer n =
+    (other earlier later : ℕ) → IsWaitOf script timer other →
+    StandsAt events earlier (event.Take other) → StandsAt events later (event.Take n) →
+    earlier < later → IsPendingAt events place other → ⊥
+
+-- no other operation was connected to this slot behind it, before this place
+abbrev pub IsConnected : ScriptModel → List Event → ℕ → ℕ → ℕ → Type 0
+IsConnected script events place slot n =
+    (other earlier later : ℕ) → StandsAt events earlier (event.Take n) →
+    StandsAt events later (event.Take other) → earlier < later → later < place →
+    slot_in (act_of script other) ≡ Some slot → ⊥
+
+-- what an act that may cancel the operation asks besides, where it is taken at this place
+abbrev pub Reaches : ScriptModel → List Event → ℕ → ℕ → Act → Type 0
+Reaches script events place n (act.CancelOne timer) = IsOldestWait script events place timer n
+Reaches script events place n (act.Emit slot types) = IsConnected script events place slot n
+Reaches script events place n _ = Unit {0}
+
 -- An operation completes as aborted only where something that may cancel it was taken behind it; and
--- a wait that is pending when its timer is cancelled or gets another expiry begins as aborted, if at
--- all.
+-- an operation that is pending where an act is taken that reaches it begins as aborted, if at all.
 pub record CancellationIsHeeded (script : ScriptModel) (events : List Event) : Type 0 where
   pub aborted : (n place size : ℕ) → StandsAt events place (event.Done n code.Aborted size) →
       WasCancelled script events place n
-  pub heeded : (n canceller timer place later : ℕ) (by : Act) (given : Code) (size : ℕ) →
-      IsWaitOf script timer n → act_of script canceller ≡ Some by →
-      cancels_waits timer by ≡ true → StandsAt events place (event.Take canceller) →
-      takes_of n (take place events) ≡ 1 → completions_of n (take place events) ≡ 0 →
+  pub heeded : (n canceller place later : ℕ) (by target : Act) (given : Code) (size : ℕ) →
+      act_of script canceller ≡ Some by → act_of script n ≡ Some target →
+      may_cancel by target ≡ true → Reaches script events place n by →
+      StandsAt events place (event.Take canceller) → IsPendingAt events place n →
       StandsAt events later (event.Begin n given size) → given ≡ code.Aborted

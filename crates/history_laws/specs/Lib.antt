@@ -7,5 +7,9 @@ pub mod Events
 pub mod InOrder
 pub mod Length
 pub mod Once
+pub mod Overlap
 pub mod Promise
+pub mod Rounds
+pub mod Sent
+pub mod Streams
 pub mod Timers

@@ -1,5 +1,5 @@
 -- What every legal history keeps, in the words of Asio's reference.
-use Rattle.std.specs.Prelude.{Bool, List}
+use Rattle.std.specs.Prelude.{◌≡◌, Bool, true, List}
 use Rattle.asio_types.specs.declared.event.Event.{Event}
 use Rattle.session_script.specs.Script.{ScriptModel}
 use Rattle.session_script.specs.WellFormed.{IsWellFormed}
@@ -11,9 +11,12 @@ use Rattle.history_laws.specs.Cancelled.{CancellationIsHeeded}
 use Rattle.history_laws.specs.InOrder.{PostingsKeepTheirOrder}
 use Rattle.history_laws.specs.Length.{HistoriesAreShort}
 use Rattle.history_laws.specs.Once.{HandlersRunOnce}
+use Rattle.history_laws.specs.Rounds.{RoundsCloseOnce}
+use Rattle.history_laws.specs.Streams.{StreamsKeepTheirBytes}
 use Rattle.history_laws.specs.Timers.{TimersKeepTime}
 
-pub record KeepsPromise (script : ScriptModel) (events : List Event) : Type 0 where
+-- told says whether the reactor tells its bytes
+pub record KeepsPromise (script : ScriptModel) (told : Bool) (events : List Event) : Type 0 where
   -- each handler is called once, or destroyed once
   pub once : HandlersRunOnce script events
   -- a handler runs with what its operation gave, and never before
@@ -24,10 +27,14 @@ pub record KeepsPromise (script : ScriptModel) (events : List Event) : Type 0 wh
   pub in_order : PostingsKeepTheirOrder script events
   -- after a stop each lane begins at most one thing more until the restart
   pub after_stop : StopsAreHeeded script events
+  -- each round closes once, and behind the last nothing begins
+  pub closes_once : RoundsCloseOnce script events
   -- what is cancelled is aborted, and nothing else is
   pub cancelled : CancellationIsHeeded script events
   -- no wait completes early, and time moves only where all is at rest
   pub timers : TimersKeepTime script events
+  -- where bytes are told, what reads took is a first part of what was fed, and writes had room
+  pub streams : told ≡ true → StreamsKeepTheirBytes script events
   -- no history is longer than its script allows
   pub length : HistoriesAreShort script events
 
@@ -36,3 +43,15 @@ abbrev pub HoldsOfLegalHistories : (ScriptModel → List Event → Type 0) → T
 HoldsOfLegalHistories law =
     (script : ScriptModel) (told : Bool) (events : List Event) → IsWellFormed script →
     IsLegal script told events → law script events
+
+-- it holds of each one in which bytes are told
+abbrev pub HoldsOfToldHistories : (ScriptModel → List Event → Type 0) → Type 0
+HoldsOfToldHistories law =
+    (script : ScriptModel) (events : List Event) → IsWellFormed script →
+    IsLegal script true events → law script events
+
+-- all of this holds of each legal history
+abbrev pub LegalHistoriesKeepPromise : Type 0
+LegalHistoriesKeepPromise =
+    (script : ScriptModel) (told : Bool) (events : List Event) → IsWellFormed script →
+    IsLegal script told events → KeepsPromise script told events

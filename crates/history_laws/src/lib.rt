@@ -9,6 +9,7 @@ mod law;
 
 pub use law::{
     cancellation_is_heeded, handlers_follow_completion, handlers_run_once, histories_are_short,
-    legal_histories_keep_promise, postings_keep_their_order, stops_are_heeded,
-    strands_run_one_at_a_time, timers_keep_time,
+    legal_histories_keep_promise, postings_keep_their_order, rounds_close_once, stops_are_heeded,
+    strands_may_overlap, strands_run_one_at_a_time, streams_keep_their_bytes, timers_keep_time,
+    writes_are_sent_in_order,
 };

@@ -58,7 +58,7 @@ run_of marks script told before after events state first outside old new spent l
     sym f.still_told ∙ sym (seen_to_tell outside) in
     record {
       legal = subst (λ told. IsLegal script told events) told_is f.legal;
-      promise = keeps script told events well f.legal;
+      promise = subst (λ told. KeepsPromise script told events) told_is (keeps script told events well f.legal);
       numbers = numbers;
       marked = f.marked;
       spent = spent;
@@ -79,8 +79,8 @@ pub promised : {X E : Type 0} (script : ScriptModel) (told : Bool) (run drop : �
     (events : X → List Event) (state : X → ReactorState) (outside : X → Option Outside) (r : Result X E) →
     IsWellFormed script →
     IfOk r (λ ran. IsFinished script told run drop false before (after ran) (events ran) (state ran) (outside ran)) →
-    IfOk r (λ ran. KeepsPromise script (events ran))
+    IfOk r (λ ran. KeepsPromise script told (events ran))
 promised script told run drop before after events state outside r well ended =
     IfOk-weaker r
     (λ ran. IsFinished script told run drop false before (after ran) (events ran) (state ran) (outside ran))
-    (λ ran. KeepsPromise script (events ran)) (λ ran f. keeps script told (events ran) well f.legal) ended
+    (λ ran. KeepsPromise script told (events ran)) (λ ran f. keeps script told (events ran) well f.legal) ended

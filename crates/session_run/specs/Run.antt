@@ -37,7 +37,7 @@ pub record IsRunOf {H : Type 0} (marks : H → Marks) (script : ScriptModel) (re
   -- each event may come where it comes, and none is missing
   pub legal : IsLegal script (tells_bytes reactor) events
   -- so handlers run once and behind their completion, those of a strand one at a time and in order
-  pub promise : KeepsPromise script events
+  pub promise : KeepsPromise script (tells_bytes reactor) events
   -- their numbers fit their types, so that a trace of them fixes them
   pub numbers : AreEvents events
   -- the events show the marks that the handlers had

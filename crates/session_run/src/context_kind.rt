@@ -75,7 +75,8 @@ pub fn run_script<R: Threads + Wait + Sync, X: Reactor + Send, H: CompletionHand
     ensures let_go { IfOk result (λ ran. let_go_of rack.new ≡ let_go_marks script.now
         (tells (X.told reactor)) (drop_mark H.marks rack.old) ran.0.events) }
     ensures few { OnOk result (let_go_of rack.new ≤ 2 ^ 96) }
-    ensures promise { IfOk result (λ ran. KeepsPromise script.now ran.0.events) }
+    ensures promise { IfOk result
+        (λ ran. KeepsPromise script.now (tells (X.told reactor)) ran.0.events) }
 {
     scripts_are_well_formed(script);
     match run_by(rt, alloc, kind, script, reactor, rack) {
