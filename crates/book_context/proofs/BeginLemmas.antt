@@ -1,10 +1,12 @@
 -- How a turn of the reactor begins, and how it breaks off.
-use Rattle.std.proofs.Common.{◌≡◌, ◌≢◌, ℕ, Bool, false, [], ◌∷◌, refl, ap, ◌∙◌}
+use Rattle.std.proofs.Common.{◌≡◌, ◌≢◌, ℕ, Bool, false, [], ◌∷◌, ◌++◌, refl, ap, ◌∙◌}
 use Rattle.std.proofs.lemmas.List.Folds.{list_any-append}
 use Rattle.asio_types.specs.declared.event.Event.{Event}
 use Rattle.asio_types.specs.declared.event.Event.TheVariants as event
 use Rattle.asio_types.specs.declared.outside.Point.{Point}
 use Rattle.asio_types.specs.declared.outside.Point.TheVariants as point
+use Rattle.op_handlers.specs.Marks.{own_marks}
+use Rattle.op_handlers.specs.declared.call.Call.{Call}
 use Rattle.session_script.specs.Script.{ScriptModel}
 use Rattle.history_rules.specs.FromOutside.{has_outside_stop, is_outside_stop}
 use Rattle.history_rules.specs.Legal.{after_event}
@@ -12,6 +14,7 @@ use Rattle.history_rules.specs.Requests.{reactor_after_take}
 use Rattle.history_rules.specs.State.{ReactorHalf, State}
 use Rattle.history_rules.specs.Time.{next_time}
 use Rattle.proactor_core.specs.Proactor.{after_point}
+use Rattle.execution_laws.proofs.ShownLemmas.{marks_go_on}
 use Rattle.book_context.specs.Book.{KeepsHistory}
 use Rattle.book_context.specs.BookSteps.{BeginsTurn, passed_event}
 use Rattle.book_context.specs.InTurn.{HasBegun}
@@ -20,13 +23,13 @@ use Rattle.book_context.specs.Recorded.{IsRecorded, recorded_half, recorded_stat
 use Rattle.book_context.specs.Recording.{Recording, with_event, with_fault}
 use Rattle.book_context.specs.Steps.{IsRoundOpen}
 use Rattle.book_context.specs.TurnSteps as steps
-use Rattle.book_context.proofs.BookHistoryLemmas.{IsPlain, alone-behind, faults-plain, history-plain, marked-append, or_false}
+use Rattle.book_context.proofs.BookHistoryLemmas.{IsPlain, alone-behind, faults-plain, history-plain, or_false}
 
-module _ (script : ScriptModel) (told : Bool) (run drop : ℕ → ℕ) (outside : Bool) where
+module _ (script : ScriptModel) (told : Bool) (run : ℕ → Call → ℕ) (drop : ℕ → ℕ) (outside : Bool) where
   -- the oldest request is taken
   module _ (r : Recording) (a : ℕ) (keeps : KeepsHistory script told run drop outside (with_request a r))
       (did : steps.HasTaken told (with_request a r) a r.requests) where
-    pub take_plain : IsPlain run drop (event.Take a ∷ [])
+    pub take_plain : IsPlain run drop (r.events ++ event.Take a ∷ []) (event.Take a ∷ [])
     take_plain = record { marked = (tt, tt); working = refl; inside = refl }
 
     pub take_history : KeepsHistory script told run drop outside (with_event (event.Take a) r)
@@ -53,7 +56,7 @@ module _ (script : ScriptModel) (told : Bool) (run drop : ℕ → ℕ) (outside 
 
   -- time moves to a point
   module _ (r : Recording) (keeps : KeepsHistory script told run drop outside r) (round : IsRoundOpen r) where
-    point_begun : (event : Event) → IsPlain run drop (event ∷ []) → BeginsTurn event → (half : ReactorHalf) →
+    point_begun : (event : Event) → IsPlain run drop (r.events ++ event ∷ []) (event ∷ []) → BeginsTurn event → (half : ReactorHalf) →
         (after_event r.script told (recorded_state told r) event).reactor ≡ half →
         steps.TurnIsBegun told r event (with_event event r) → HasBegun told r (with_event event r) half
     point_begun event plain begins half is_half did = record {
@@ -71,7 +74,7 @@ module _ (script : ScriptModel) (told : Bool) (run drop : ℕ → ℕ) (outside 
       faults = faults-plain run drop r.events (event ∷ []) plain;
     }
 
-    point_plain : (point : Point) → IsPlain run drop (passed_event point ∷ [])
+    point_plain : (point : Point) → IsPlain run drop (r.events ++ passed_event point ∷ []) (passed_event point ∷ [])
     point_plain (point.Time now) = record { marked = (tt, tt); working = refl; inside = refl }
     point_plain point.Last = record { marked = (tt, tt); working = refl; inside = refl }
 
@@ -98,7 +101,7 @@ module _ (script : ScriptModel) (told : Bool) (run drop : ℕ → ℕ) (outside 
     fault_history did some = record {
       recorded = did.goes.recorded;
       is_script = keeps.is_script;
-      marked = marked-append run drop r.events (event.Fault ∷ []) keeps.marked (tt, tt);
+      marked = marks_go_on (own_marks run) drop r.events (event.Fault ∷ []) keeps.marked (tt, tt);
       unstopped = λ none.
           list_any-append is_outside_stop r.events (event.Fault ∷ []) ∙ or_false (has_outside_stop r.events) false refl
           ∙ keeps.unstopped none;

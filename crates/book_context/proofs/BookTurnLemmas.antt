@@ -1,6 +1,7 @@
 -- What a turn makes of a book, and what it answers.
 use Rattle.std.proofs.Common.{◌≡◌, ℕ, Bool, true, false, not, Option, inr, refl, sym, ap, subst, ◌∙◌}
 use Rattle.std.specs.Prelude.{◌||◌}
+use Rattle.op_handlers.specs.declared.call.Call.{Call}
 use Rattle.op_handlers.specs.Marks.{Marks}
 use Rattle.session_script.specs.Script.{ScriptModel, is_op}
 use Rattle.history_rules.specs.Rounds.{RoundIsOpen}
@@ -28,7 +29,7 @@ same_shown : {X : Type 0} (old new : Recording) (view left : ProactorView X) →
 same_shown old new view left same same_view = ap (λ r. shown r left) same ∙ ap (shown old) same_view
 
 -- where no handler was spent the same are held
-pub held_on : {H : Type 0} (marks : H → Marks) (told : Bool) (run drop : ℕ → ℕ) (r t : Recording) (hands : Held H) →
+pub held_on : {H : Type 0} (marks : H → Marks) (told : Bool) (run : ℕ → Call → ℕ) (drop : ℕ → ℕ) (r t : Recording) (hands : Held H) →
     HoldsUnspent marks told run drop r hands → t.script ≡ r.script → SpendsNone told r t →
     HoldsUnspent marks told run drop t hands
 held_on marks told run drop r t hands holds same spent = record {
@@ -40,7 +41,7 @@ held_on marks told run drop r t hands holds same spent = record {
       ∙ ap (λ b. unless_spent (not (is_op t.script n) || b) (record { run = run n; drop = drop n })) (sym (spent n));
 }
 
-module _ {H X : Type 0} (script : ScriptModel) (told : Bool) (run drop : ℕ → ℕ) (named : ℕ) (outside : Bool)
+module _ {H X : Type 0} (script : ScriptModel) (told : Bool) (run : ℕ → Call → ℕ) (drop : ℕ → ℕ) (named : ℕ) (outside : Bool)
     (marks : H → Marks) (state : X → ReactorState) (tells_of : X → Option Outside) (faults : X → ℕ) (r : Recording)
     (hands : Held H) (view : ProactorView X)
     (inv : IsBook script told run drop named outside marks state tells_of faults r hands view) where

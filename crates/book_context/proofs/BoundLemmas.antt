@@ -7,6 +7,7 @@ use Rattle.asio_types.specs.declared.code.Class.TheVariants as class
 use Rattle.asio_types.specs.declared.code.Code.{Code}
 use Rattle.asio_types.specs.declared.code.Code.TheVariants as code
 use Rattle.asio_types.specs.declared.event.Event.TheVariants as event
+use Rattle.op_handlers.specs.declared.call.Call.{Call}
 use Rattle.session_script.specs.Script.{Place, ScriptModel, branch_of, opening_of, stops}
 use Rattle.session_script.specs.Lanes.{is_inline}
 use Rattle.session_script.specs.WellFormed.{HasParent, IsWellFormed}
@@ -64,7 +65,7 @@ execution_events script op given size begun mark body =
     ap length (events-append script body end) ∙ length-append (events_of script body) (events_of script end) in
     omega (arith, parts)
 
-module _ (script : ScriptModel) (well : IsWellFormed script) (HasMark : ℕ → ℕ → Type 0) where
+module _ (script : ScriptModel) (well : IsWellFormed script) (HasMark : Call → ℕ → Type 0) where
   -- what a body calls comes after its operation
   behind_by : (place : Place) {acts : List ℕ} {calls : List Posted} → AreCalls script HasMark acts calls →
       ((n : ℕ) → IsOf n acts → IsBehind place n) → (fuel n : ℕ) → n < fuel → is_called n calls ≡ true → IsBehind place n

@@ -5,7 +5,8 @@ use Rattle.std.proofs.lemmas.List.Folds.{list_any-append}
 use Rattle.std.proofs.lemmas.Option.{slice_get_within}
 use Rattle.asio_types.specs.declared.event.Event.{Event}
 use Rattle.asio_types.specs.declared.event.Event.TheVariants as event
-use Rattle.op_handlers.specs.Marks.{Marks}
+use Rattle.op_handlers.specs.declared.call.Call.{Call}
+use Rattle.op_handlers.specs.Marks.{Marks, own_marks}
 use Rattle.session_script.specs.Script.{ScriptModel, is_op}
 use Rattle.session_script.specs.declared.round.Round.{Round}
 use Rattle.history_rules.specs.FromOutside.{has_fault, is_fault}
@@ -16,6 +17,7 @@ use Rattle.reactor_trait.specs.Reactor.{Outside, ReactorState}
 use Rattle.proactor_core.specs.Proactor.{ProactorView}
 use Rattle.strand_core.specs.Hands.{Held}
 use Rattle.reactor_turns.specs.Turned.{ReactorKeepsTime, IsTurned}
+use Rattle.execution_laws.proofs.ShownLemmas.{marks_go_on}
 use Rattle.book_context.specs.Book.{HoldsUnspent, IsBook, KeepsHistory, KeepsReactor, unless_spent}
 use Rattle.book_context.specs.BookSteps.{IsClosing, IsGoing, is_round_open, open_round, wants_restart, wants_with}
 use Rattle.book_context.specs.InTurn.{SpendsNone}
@@ -23,11 +25,11 @@ use Rattle.book_context.specs.Recorded.{IsRecorded, is_spent_at, recorded_half, 
 use Rattle.book_context.specs.Recording.{Recording, with_closing, with_outside_stop, with_restart}
 use Rattle.book_context.specs.RoundSteps.{OutsideStopsAreRecorded, RestartsAreRecorded}
 use Rattle.book_context.specs.Steps.{EventIsRecorded, OpenRoundsAreKnown}
-use Rattle.book_context.proofs.BookHistoryLemmas.{IsPlain, history-plain, marked-append, or_false}
+use Rattle.book_context.proofs.BookHistoryLemmas.{IsPlain, history-plain, or_false}
 use Rattle.book_context.proofs.OpenRoundLemmas.{round_open}
 
 -- the same handlers are held where the same are spent
-holds_same : {H : Type 0} (marks : H → Marks) (told : Bool) (run drop : ℕ → ℕ) (r t : Recording) (hands : Held H) →
+holds_same : {H : Type 0} (marks : H → Marks) (told : Bool) (run : ℕ → Call → ℕ) (drop : ℕ → ℕ) (r t : Recording) (hands : Held H) →
     HoldsUnspent marks told run drop r hands → t.script ≡ r.script → SpendsNone told r t →
     HoldsUnspent marks told run drop t hands
 holds_same marks told run drop r t hands holds script none = record {
@@ -61,13 +63,13 @@ other_alone (x ∷ []) same = absurd (cc same)
 other_alone (x ∷ y ∷ xs) same = absurd (cc same)
 
 -- somebody outside stopped the context, which is allowed
-stopped_history : (script : ScriptModel) (told : Bool) (run drop : ℕ → ℕ) (outside : Bool) (r : Recording) →
+stopped_history : (script : ScriptModel) (told : Bool) (run : ℕ → Call → ℕ) (drop : ℕ → ℕ) (outside : Bool) (r : Recording) →
     KeepsHistory script told run drop outside r → outside ≡ true →
     IsRecorded told (with_outside_stop r) → KeepsHistory script told run drop outside (with_outside_stop r)
 stopped_history script told run drop outside r keeps allowed recorded = record {
   recorded = recorded;
   is_script = keeps.is_script;
-  marked = marked-append run drop r.events (event.Stop None ∷ []) keeps.marked (tt, tt);
+  marked = marks_go_on (own_marks run) drop r.events (event.Stop None ∷ []) keeps.marked (tt, tt);
   unstopped = λ none. absurd (let both : true ≡ false = sym allowed ∙ none in cc both);
   set_up = other_alone r.events;
 }
@@ -94,7 +96,7 @@ wants_once true (Some round) is = absurd (by_flag round.restart is)
     by_flag true is = absurd (cc is)
     by_flag false is = absurd (cc is)
 
-module _ {H X : Type 0} (script : ScriptModel) (told : Bool) (run drop : ℕ → ℕ) (named : ℕ) (outside : Bool)
+module _ {H X : Type 0} (script : ScriptModel) (told : Bool) (run : ℕ → Call → ℕ) (drop : ℕ → ℕ) (named : ℕ) (outside : Bool)
     (marks : H → Marks) (state : X → ReactorState) (tells_of : X → Option Outside) (faults : X → ℕ) (r : Recording)
     (hands : Held H) (view : ProactorView X)
     (book : IsBook script told run drop named outside marks state tells_of faults r hands view) where
@@ -127,7 +129,7 @@ module _ {H X : Type 0} (script : ScriptModel) (told : Bool) (run drop : ℕ →
   stops_works failed = book.history.recorded.stopped ∙ book.reactor.stopped failed
 
   closed_by : (event : Event) (stopped : Bool) → EventIsRecorded told r event (with_closing event stopped r) →
-      IsPlain run drop (event ∷ []) → is_fault event ≡ false →
+      IsPlain run drop (r.events ++ event ∷ []) (event ∷ []) → is_fault event ≡ false →
       reactor_after r.script told (recorded_half told r) event ≡ recorded_half told r →
       (view.tables.failed ≡ true → stopped ≡ true) →
       IsBook script told run drop named outside marks state tells_of faults (with_closing event stopped r) hands view

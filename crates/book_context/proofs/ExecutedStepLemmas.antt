@@ -8,6 +8,7 @@ use Rattle.std.proofs.lemmas.List.{get_or-set_other, get_or-set_same, get_or_pas
 use Rattle.asio_types.specs.Code.{class_of_code}
 use Rattle.asio_types.specs.declared.code.Code.{Code}
 use Rattle.asio_types.specs.declared.code.Code.TheVariants as code
+use Rattle.op_handlers.specs.declared.call.Call.{Call}
 use Rattle.session_script.specs.Script.{ScriptModel, is_op, parent_of}
 use Rattle.session_script.specs.Lanes.{is_inline}
 use Rattle.strand_core.specs.Execution.{AnyMark, AreCalls, IsWholeExecution, no_act, outside, inside, events_of, execution_of}
@@ -90,7 +91,7 @@ inside_by false false true false first second is one two = ap (λ b. b || second
 inside_by false false false false first second is one two = ap (λ b. b || second) one ∙ two
 
 -- what begins among calls is what is called and executes inside its call
-pub begins-calls : (script : ScriptModel) {HasMark : ℕ → ℕ → Type 0} {acts : List ℕ} {calls : List Posted} (n : ℕ) →
+pub begins-calls : (script : ScriptModel) {HasMark : Call → ℕ → Type 0} {acts : List ℕ} {calls : List Posted} (n : ℕ) →
     AreCalls script HasMark acts calls → begins_among n calls ≡ (is_called n calls && is_inline script n)
 begins-calls script n no_act = refl
 begins-calls script n (outside {act} {acts} {calls} isnt more) =

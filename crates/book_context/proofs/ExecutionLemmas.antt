@@ -1,123 +1,115 @@
 -- What the execution of the oldest ready operation makes of what a book keeps.
-use Rattle.std.proofs.Common.{◌≡◌, ℕ, Bool, true, false, not, cond, List, [], ◌∷◌, ◌++◌, Option, Some, None, IsSome, inl, refl, sym, ap, subst, ◌∙◌}
+use Rattle.std.proofs.Common.{◌≡◌, ℕ, ◌+◌, Bool, true, false, not, List, [], ◌∷◌, ◌++◌, Option, Some, None, IsSome, inl, length, refl, slice_get, sym, ap, subst, ◌∙◌, arith, length-append}
 use Rattle.std.specs.Prelude.{◌||◌}
 use Rattle.std.specs.Option.{option_map}
-use Rattle.std.proofs.lemmas.List.Folds.{list_any-append}
+use Rattle.std.proofs.lemmas.List.{append_assoc}
+use Rattle.std.proofs.lemmas.List.Folds.{list_any_none}
 use Rattle.asio_types.specs.declared.code.Code.{Code}
 use Rattle.asio_types.specs.declared.code.Code.TheVariants as code
 use Rattle.asio_types.specs.declared.event.Event.{Event}
 use Rattle.asio_types.specs.declared.event.Event.TheVariants as event
-use Rattle.op_handlers.specs.Marks.{Marks}
-use Rattle.session_script.specs.Script.{ScriptModel, is_op, stops}
+use Rattle.op_handlers.specs.declared.call.Call.{Call}
+use Rattle.op_handlers.specs.Marks.{Marks, call_of}
+use Rattle.session_script.specs.Script.{ScriptModel, is_op}
 use Rattle.session_script.specs.Lanes.{is_inline}
-use Rattle.history_rules.specs.FromOutside.{has_fault, has_outside_stop, is_outside_stop}
+use Rattle.history_rules.specs.FromOutside.{has_fault, is_fault, is_outside_stop}
+use Rattle.execution_laws.specs.Marks.{BeginsAt}
 use Rattle.strand_core.specs.declared.posted.Posted.{Posted}
 use Rattle.strand_core.specs.declared.posted.Posted.TheVariants as posted
 use Rattle.strand_core.specs.Answer.{CanExecute}
-use Rattle.strand_core.specs.Execution.{AnyMark, AreCalls, no_act, outside, inside, IsWholeExecution, events_of, execution_of}
+use Rattle.strand_core.specs.Execution.{AnyMark, AreCalls, no_act, outside, inside, IsWholeExecution, events_of}
 use Rattle.strand_core.specs.Hands.{Held, begins_among, held_at, left_at}
+use Rattle.execution_laws.specs.Shown.{EachBegin, IsRunMark}
+use Rattle.execution_laws.proofs.EventLemmas.{events-append}
+use Rattle.execution_laws.proofs.ShownLemmas.{marked_execution, of_calls}
 use Rattle.book_context.specs.Book.{HoldsUnspent, KeepsHistory, unless_spent}
 use Rattle.book_context.specs.BookSteps.{HasGoneOn}
 use Rattle.book_context.specs.InTurn.{KeepsFaults}
 use Rattle.book_context.specs.Oldest.{with_ready}
 use Rattle.book_context.specs.Recorded.{is_spent_at, recorded_half}
-use Rattle.book_context.specs.Recording.{HasRecorded, HasRoomForCalls, Recording, with_calls}
+use Rattle.book_context.specs.Recording.{ArePlaced, HasRecorded, HasRoomForCalls, Recording, with_calls}
 use Rattle.book_context.specs.Steps.{ExecutionsAreRecorded, ExecutionIsRecorded, IsRoundOpen, MayExecute, OldestMayExecute}
-use Rattle.book_context.proofs.BookHistoryLemmas.{IsPlain, faults-plain, history-plain}
+use Rattle.book_context.proofs.BookHistoryLemmas.{IsPlain, faults-plain, history-plain, no_fault, no_stop}
 
 -- calls with other marks
-pub other_marks : {script : ScriptModel} {One Two : ℕ → ℕ → Type 0} → ((n mark : ℕ) → One n mark → Two n mark) →
-    {acts : List ℕ} {calls : List Posted} → AreCalls script One acts calls → AreCalls script Two acts calls
+pub other_marks : {script : ScriptModel} {One Two : Call → ℕ → Type 0} →
+    ((call : Call) (mark : ℕ) → One call mark → Two call mark) → {acts : List ℕ} {calls : List Posted} →
+    AreCalls script One acts calls → AreCalls script Two acts calls
 other_marks gives no_act = no_act
 other_marks gives (outside isnt more) = outside isnt (other_marks gives more)
 other_marks gives (inside {act} {begun} {mark} is has inner more) =
-    inside is (gives act mark has) (other_marks gives inner) (other_marks gives more)
+    inside is (gives (call_of act code.Ok 0 begun) mark has) (other_marks gives inner) (other_marks gives more)
 
-pub whole_marks : {script : ScriptModel} {One Two : ℕ → ℕ → Type 0} → ((n mark : ℕ) → One n mark → Two n mark) →
-    (op : ℕ) (code : Code) (size : ℕ) (calls : List Posted) → IsWholeExecution script One op code size calls →
+pub whole_marks : {script : ScriptModel} {One Two : Call → ℕ → Type 0} →
+    ((call : Call) (mark : ℕ) → One call mark → Two call mark) → (op : ℕ) (code : Code) (size : ℕ)
+    (calls : List Posted) → IsWholeExecution script One op code size calls →
     IsWholeExecution script Two op code size calls
 whole_marks gives op code size calls whole = record {
   begun = whole.begun;
   mark = whole.mark;
   body = whole.body;
-  marked = gives op whole.mark whole.marked;
+  marked = gives (call_of op code size whole.begun) whole.mark whole.marked;
   acts = other_marks gives whole.acts;
   is = whole.is;
 }
 
--- each end shows its run mark
-abbrev ShowsRuns : (ℕ → ℕ) → List Posted → Type 0
-ShowsRuns run [] = Unit {0}
-ShowsRuns run (posted.End op ran ∷ calls) = (ran.mark ≡ run op) × ShowsRuns run calls
-ShowsRuns run (posted.Begin op code size begun ∷ calls) = ShowsRuns run calls
-ShowsRuns run (posted.Call act ∷ calls) = ShowsRuns run calls
-ShowsRuns run (posted.Back act ∷ calls) = ShowsRuns run calls
+slice_behind : {A : Type 0} (before rest : List A) (x : A) → slice_get (before ++ x ∷ rest) (length before) ≡ Some x
+slice_behind [] rest x = refl
+slice_behind (y ∷ before) rest x = slice_behind before rest x
 
-runs-append : (run : ℕ → ℕ) (xs ys : List Posted) → ShowsRuns run xs → ShowsRuns run ys → ShowsRuns run (xs ++ ys)
-runs-append run [] ys first rest = rest
-runs-append run (posted.End op ran ∷ xs) ys first rest = (first.0, runs-append run xs ys first.1 rest)
-runs-append run (posted.Begin op code size begun ∷ xs) ys first rest = runs-append run xs ys first rest
-runs-append run (posted.Call act ∷ xs) ys first rest = runs-append run xs ys first rest
-runs-append run (posted.Back act ∷ xs) ys first rest = runs-append run xs ys first rest
+-- a begin that has its position stands there
+begin_placed : (history before rest : List Event) (op : ℕ) (given : Code) (size begun position : ℕ) →
+    position ≡ length before → history ≡ before ++ event.Begin op given size ∷ rest → begun ≡ position →
+    BeginsAt history op given size begun
+begin_placed history before rest op given size begun position first is placed =
+    ap (λ xs. slice_get xs begun) is
+    ∙ (ap (slice_get (before ++ event.Begin op given size ∷ rest)) (placed ∙ first)
+    ∙ slice_behind before rest (event.Begin op given size))
 
-abbrev OwnMark : (ℕ → ℕ) → ℕ → ℕ → Type 0
-OwnMark run n mark = mark ≡ run n
+-- calls whose events come behind others, with each begin at its position, begin there
+module _ (script : ScriptModel) (history : List Event) where
+  abbrev Behind : List Posted → Type 0
+  Behind calls = (before : List Event) (position : ℕ) → position ≡ length before →
+      history ≡ before ++ events_of script calls → ArePlaced script position calls → EachBegin (BeginsAt history) calls
 
-runs_of : (run : ℕ → ℕ) {script : ScriptModel} {acts : List ℕ} {calls : List Posted} →
-    AreCalls script (OwnMark run) acts calls → ShowsRuns run calls
-runs_of run no_act = tt
-runs_of run (outside isnt more) = runs_of run more
-runs_of run (inside {act} {begun} {mark} {acts} {body} {calls} is has inner more) =
-    runs-append run (execution_of act code.Ok 0 begun mark body) (posted.Back act ∷ calls)
-    (runs-append run body (posted.End act _ ∷ []) (runs_of run inner) (has, tt)) (runs_of run more)
+  behind_one : (call : Posted) (calls : List Posted) → Behind calls → (before : List Event) (position : ℕ) →
+      position ≡ length before → history ≡ before ++ events_of script (call ∷ calls) →
+      ArePlaced script position (call ∷ calls) → EachBegin (BeginsAt history) calls
+  behind_one call calls later before position first is placed =
+      let own : List Event = events_of script (call ∷ []) in
+      later (before ++ own) (position + length own)
+      (let size = length-append before own in omega (arith, first, size))
+      (is
+      ∙ (ap (λ xs. before ++ xs) (events-append script (call ∷ []) calls)
+      ∙ sym (append_assoc before own (events_of script calls)))) placed.1
 
-plain_end : (run drop : ℕ → ℕ) (first : Event) (rest : List Event) → IsPlain run drop (first ∷ []) →
-    IsPlain run drop rest → IsPlain run drop (first ∷ rest)
-plain_end run drop first rest one others = record {
-  marked = (one.marked.0, others.marked);
-  working = faults-plain run drop (first ∷ []) rest others ∙ one.working;
-  inside =
-      list_any-append is_outside_stop (first ∷ []) rest
-      ∙ both_false (has_outside_stop (first ∷ [])) (has_outside_stop rest) one.inside others.inside;
-}
-  where
-    both_false : (a b : Bool) → a ≡ false → b ≡ false → (a || b) ≡ false
-    both_false true b isnt neither = absurd (cc isnt)
-    both_false false b isnt neither = neither
+  begins_placed : (calls : List Posted) (before : List Event) (position : ℕ) → position ≡ length before →
+      history ≡ before ++ events_of script calls → ArePlaced script position calls → EachBegin (BeginsAt history) calls
+  begins_placed [] before position first is placed = tt
+  begins_placed (posted.Begin op given size begun ∷ calls) before position first is placed = (
+    begin_placed history before (events_of script calls) op given size begun position first is placed.0,
+    behind_one (posted.Begin op given size begun) calls (begins_placed calls) before position first is placed,
+  )
+  begins_placed (posted.Call act ∷ calls) before position first is placed =
+      behind_one (posted.Call act) calls (begins_placed calls) before position first is placed
+  begins_placed (posted.Back act ∷ calls) before position first is placed =
+      behind_one (posted.Back act) calls (begins_placed calls) before position first is placed
+  begins_placed (posted.End op ran ∷ calls) before position first is placed =
+      behind_one (posted.End op ran) calls (begins_placed calls) before position first is placed
 
-plain_call : (run drop : ℕ → ℕ) (act : ℕ) (stopping : Bool) (rest : List Event) → IsPlain run drop rest →
-    IsPlain run drop (cond stopping (event.Call act ∷ event.Stop (Some act) ∷ rest) (event.Call act ∷ rest))
-plain_call run drop act true rest others =
-    plain_end run drop (event.Call act) (event.Stop (Some act) ∷ rest)
-    (record { marked = (tt, tt); working = refl; inside = refl })
-    (plain_end run drop (event.Stop (Some act)) rest (record { marked = (tt, tt); working = refl; inside = refl }) others)
-plain_call run drop act false rest others =
-    plain_end run drop (event.Call act) rest (record { marked = (tt, tt); working = refl; inside = refl }) others
-
-plain_calls : (run drop : ℕ → ℕ) (script : ScriptModel) (calls : List Posted) → ShowsRuns run calls →
-    IsPlain run drop (events_of script calls)
-plain_calls run drop script [] shows = record { marked = tt; working = refl; inside = refl }
-plain_calls run drop script (posted.Begin op code size begun ∷ calls) shows =
-    plain_end run drop (event.Begin op code size) (events_of script calls)
-    (record { marked = (tt, tt); working = refl; inside = refl }) (plain_calls run drop script calls shows)
-plain_calls run drop script (posted.Call act ∷ calls) shows =
-    plain_call run drop act (stops script act) (events_of script calls) (plain_calls run drop script calls shows)
-plain_calls run drop script (posted.Back act ∷ calls) shows =
-    plain_end run drop (event.Back act) (events_of script calls)
-    (record { marked = (tt, tt); working = refl; inside = refl }) (plain_calls run drop script calls shows)
-plain_calls run drop script (posted.End op ran ∷ calls) shows =
-    plain_end run drop (event.End op ran.mark) (events_of script calls)
-    (record { marked = (shows.0, tt); working = refl; inside = refl }) (plain_calls run drop script calls shows.1)
-
-pub plain_opening : (run drop : ℕ → ℕ) (script : ScriptModel) (acts : List ℕ) (calls : List Posted) →
-    AreCalls script (OwnMark run) acts calls → IsPlain run drop (events_of script calls)
-plain_opening run drop script acts calls are = plain_calls run drop script calls (runs_of run are)
-
-plain_whole : (run drop : ℕ → ℕ) (script : ScriptModel) (op : ℕ) (code : Code) (size : ℕ) (calls : List Posted) →
-    IsWholeExecution script (OwnMark run) op code size calls → IsPlain run drop (events_of script calls)
-plain_whole run drop script op code size calls whole =
-    plain_calls run drop script calls (subst (ShowsRuns run) (sym whole.is)
-    (runs-append run whole.body (posted.End op _ ∷ []) (runs_of run whole.acts) (whole.marked, tt)))
+-- an execution behind some events, with each begin at its position
+plain_whole : (run : ℕ → Call → ℕ) (drop : ℕ → ℕ) (script : ScriptModel) (before : List Event) (op : ℕ) (code : Code)
+    (size : ℕ) (calls : List Posted) → IsWholeExecution script (IsRunMark run) op code size calls →
+    ArePlaced script (length before) calls → IsPlain run drop (before ++ events_of script calls) (events_of script calls)
+plain_whole run drop script before op code size calls whole placed =
+    let shown = of_calls script calls in
+    record {
+      marked =
+          marked_execution script run drop (BeginsAt (before ++ events_of script calls)) op code size calls whole
+          (begins_placed script (before ++ events_of script calls) calls before (length before) refl refl placed);
+      working = list_any_none is_fault (events_of script calls) (λ k d less. no_fault _ (shown k d less));
+      inside = list_any_none is_outside_stop (events_of script calls) (λ k d less. no_stop _ (shown k d less));
+    }
 
 -- what is held after some handlers were spent
 held_after : {H : Type 0} (marks : H → Marks) (begun : Bool) (handler : Option H) (x y : Bool) (m : Marks) →
@@ -131,14 +123,15 @@ held_after marks false handler false true m is = is
 held_after marks false handler false false m is = is
 
 -- a handler that is held has the marks that are named
-mark_held : {H : Type 0} (marks : H → Marks) (handler : Option H) (spent : Bool) (m : Marks) (mark : ℕ) →
-    option_map marks handler ≡ unless_spent spent m → option_map (λ h. (marks h).run) handler ≡ Some mark → mark ≡ m.run
-mark_held marks None spent m mark is has = absurd (cc has)
-mark_held marks (Some h) true m mark is has = absurd (cc is)
-mark_held marks (Some h) false m mark is has =
+mark_held : {H : Type 0} (marks : H → Marks) (handler : Option H) (spent : Bool) (m : Marks) (call : Call) (mark : ℕ) →
+    option_map marks handler ≡ unless_spent spent m → option_map (λ h. (marks h).run call) handler ≡ Some mark →
+    mark ≡ m.run call
+mark_held marks None spent m call mark is has = absurd (cc has)
+mark_held marks (Some h) true m call mark is has = absurd (cc is)
+mark_held marks (Some h) false m call mark is has =
     let named : marks h ≡ m = cc is in
-    let run : (marks h).run ≡ mark = cc has in
-    sym run ∙ ap (λ (n : Marks). n.run) named
+    let run : (marks h).run call ≡ mark = cc has in
+    sym run ∙ ap (λ (n : Marks). n.run call) named
 
 some_held : {H : Type 0} (marks : H → Marks) (handler : Option H) (spent : Bool) (m : Marks) →
     option_map marks handler ≡ unless_spent spent m → spent ≡ false → IsSome handler
@@ -150,7 +143,7 @@ either_false : (a b : Bool) → a ≡ true → b ≡ false → (not a || b) ≡ 
 either_false true b is isnt = isnt
 either_false false b is isnt = absurd (cc is)
 
-module _ {H : Type 0} (marks : H → Marks) (script : ScriptModel) (told : Bool) (run drop : ℕ → ℕ) (from_outside : Bool)
+module _ {H : Type 0} (marks : H → Marks) (script : ScriptModel) (told : Bool) (run : ℕ → Call → ℕ) (drop : ℕ → ℕ) (from_outside : Bool)
     (r : Recording) (op : ℕ) (code : Code) (size : ℕ) (held : Held H)
     (keeps : KeepsHistory script told run drop from_outside (with_ready (op, code, size) r))
     (holds : HoldsUnspent marks told run drop (with_ready (op, code, size) r) held) (going : r.stopped ≡ false)
@@ -180,21 +173,21 @@ module _ {H : Type 0} (marks : H → Marks) (script : ScriptModel) (told : Bool)
 
   module _ (law : ExecutionsAreRecorded) (t : Recording) (left : Held H)
       (did : HasRecorded marks op code size r t held left) where
-    own : IsWholeExecution r.script (OwnMark run) op code size did.calls
+    own : IsWholeExecution r.script (IsRunMark run) op code size did.calls
     own =
         whole_marks
-        (λ n mark has.
-        mark_held marks (held_at held n)
-        (not (is_op r.script n) || is_spent_at told (with_ready (op, code, size) r) n) _ mark (holds.each n) has)
-        op code size did.calls did.whole
+        (λ call mark has.
+        mark_held marks (held_at held call.op)
+        (not (is_op r.script call.op) || is_spent_at told (with_ready (op, code, size) r) call.op) _ call mark
+        (holds.each call.op) has) op code size did.calls did.whole
 
     executed : ExecutionIsRecorded told (with_ready (op, code, size) r) r.ready did.calls
     executed =
         law told (with_ready (op, code, size) r) op code size r.ready did.calls keeps.recorded refl going old_round
-        (whole_marks (λ n mark has. tt) op code size did.calls did.whole)
+        (whole_marks (λ call mark has. tt) op code size did.calls did.whole)
 
-    plain : IsPlain run drop (events_of r.script did.calls)
-    plain = plain_whole run drop r.script op code size did.calls own
+    plain : IsPlain run drop (r.events ++ events_of r.script did.calls) (events_of r.script did.calls)
+    plain = plain_whole run drop r.script r.events op code size did.calls own did.placed
 
     pub executed_history : KeepsHistory script told run drop from_outside t
     executed_history =
@@ -240,6 +233,7 @@ module _ {H : Type 0} (marks : H → Marks) (script : ScriptModel) (told : Bool)
                 oldest = refl;
                 calls = did.calls;
                 whole = own;
+                placed = did.placed;
                 is = refl;
               });
         })

@@ -10,7 +10,8 @@ use Rattle.std.proofs.lemmas.Option.{slice_get_past}
 use Rattle.std.proofs.lemmas.List.Folds.{Any-from_list_any, list_all-append}
 use Rattle.asio_types.specs.declared.event.Event.{Event}
 use Rattle.asio_types.specs.declared.event.Event.TheVariants as event
-use Rattle.op_handlers.specs.Marks.{Marks, drop_mark_of}
+use Rattle.op_handlers.specs.declared.call.Call.{Call}
+use Rattle.op_handlers.specs.Marks.{Marks, drop_mark_of, own_marks}
 use Rattle.op_handlers.specs.Rack.{drop_marks}
 use Rattle.op_handlers.proofs.DiscardLemmas.{by_numbers, taken_same}
 use Rattle.session_script.specs.Lanes.{is_inline}
@@ -21,6 +22,7 @@ use Rattle.execution_laws.specs.Kinds.{was_called as called_by}
 use Rattle.execution_laws.specs.LetGo.{let_go_mark, let_go_marks}
 use Rattle.execution_laws.proofs.LetGoLemmas.{no_op_beyond, sums_below, sums_far}
 use Rattle.history_rules.specs.FromOutside.{has_fault, has_outside_stop, is_fault, is_outside_stop}
+use Rattle.execution_laws.proofs.ShownLemmas.{marks_go_on}
 use Rattle.book_context.specs.Book.{unless_spent}
 use Rattle.book_context.specs.DropSteps.{DropsGoOn, HasDropped, InlineAreSpent, SpentArePassed, UnspentAreCalled, is_unspent_at}
 use Rattle.book_context.specs.Finish.{GoesOnByDrops, IsEnding, is_drop}
@@ -28,7 +30,7 @@ use Rattle.book_context.specs.InTurn.{KeepsFaults}
 use Rattle.book_context.specs.Recorded.{is_spent_at, recorded_half, recorded_state}
 use Rattle.book_context.specs.Recording.{Recording, with_event}
 use Rattle.book_context.proofs.DropStepLemmas.{never_spent}
-use Rattle.book_context.proofs.BookHistoryLemmas.{IsPlain, contains_any, faults-plain, marked-append, stops-plain}
+use Rattle.book_context.proofs.BookHistoryLemmas.{IsPlain, contains_any, faults-plain, stops-plain}
 
 -- of a list without a fault the test finds none
 is_the_fault : (e : Event) → is_fault e ≡ true → e ≡ event.Fault
@@ -56,7 +58,7 @@ none_else None others = refl
 none_else (Some x) others = absurd (others x refl)
 
 -- the drop mark of a handler whose two marks are these
-drop_mark : {H : Type 0} (marks : H → Marks) (is_spent : Bool) (run drop : ℕ) (held : Option H) (mark : ℕ) →
+drop_mark : {H : Type 0} (marks : H → Marks) (is_spent : Bool) (run : Call → ℕ) (drop : ℕ) (held : Option H) (mark : ℕ) →
     option_map marks held ≡ unless_spent is_spent (record { run = run; drop = drop }) →
     option_map (λ h. (marks h).drop) held ≡ Some mark → (mark ≡ drop) × (is_spent ≡ false)
 drop_mark marks is_spent run drop None mark has is = absurd (cc (is))
@@ -127,8 +129,9 @@ not_called_out true false spent isnt = refl
 not_called_out false called spent isnt = refl
 
 -- a drop that shows the mark of its operation
-pub plain_drop : (run drop : ℕ → ℕ) (op mark : ℕ) → mark ≡ drop op → IsPlain run drop (event.Dropped op mark ∷ [])
-plain_drop run drop op mark shows = record { marked = (shows, tt); working = refl; inside = refl }
+pub plain_drop : (run : ℕ → Call → ℕ) (drop : ℕ → ℕ) (history : List Event) (op mark : ℕ) →
+    mark ≡ drop op → IsPlain run drop history (event.Dropped op mark ∷ [])
+plain_drop run drop history op mark shows = record { marked = (shows, tt); working = refl; inside = refl }
 
 -- a history that ends so is no failure alone
 drop_behind : (xs : List Event) (op mark : ℕ) → xs ++ event.Dropped op mark ∷ [] ≡ event.Fault ∷ [] → ⊥
@@ -136,7 +139,7 @@ drop_behind [] op mark same = absurd (cc same)
 drop_behind (x ∷ []) op mark same = absurd (cc same)
 drop_behind (x ∷ y ∷ xs) op mark same = absurd (cc same)
 
-module _ {H : Type 0} {marks : H → Marks} {told : Bool} {run drop : ℕ → ℕ} {outside : Bool} {op : ℕ} {t : Recording}
+module _ {H : Type 0} {marks : H → Marks} {told : Bool} {run : ℕ → Call → ℕ} {drop : ℕ → ℕ} {outside : Bool} {op : ℕ} {t : Recording}
     {left : Held H} (ending : IsEnding marks told run drop outside op t left) where
   abbrev is_one : Bool
   is_one = is_op ending.last.script op
@@ -253,8 +256,8 @@ module _ {H : Type 0} {marks : H → Marks} {told : Bool} {run drop : ℕ → �
             let called_then = subst (λ called. slice_index_or called op false ≡ true) ending.dropping.called called in
             goes told ending.last op mark t ending.dropping (tests ∙ unspent_in is_one was_called was_spent shows.1 called_then)
 
-        plain : IsPlain run drop (event.Dropped op mark ∷ [])
-        plain = plain_drop run drop op mark shows.0
+        plain : IsPlain run drop (t.events ++ event.Dropped op mark ∷ []) (event.Dropped op mark ∷ [])
+        plain = plain_drop run drop (t.events ++ event.Dropped op mark ∷ []) op mark shows.0
 
         -- the handler is destroyed
         pub drop_next : IsEnding marks told run drop outside (op + 1) next after
@@ -264,7 +267,7 @@ module _ {H : Type 0} {marks : H → Marks} {told : Bool} {run drop : ℕ → �
           recorded = ending.recorded;
           holds = ending.holds;
           dropping = dropped.next;
-          marked = marked-append run drop t.events (event.Dropped op mark ∷ []) ending.marked plain.marked;
+          marked = marks_go_on (own_marks run) drop t.events (event.Dropped op mark ∷ []) ending.marked plain.marked;
           unstopped = λ none. stops-plain run drop t.events (event.Dropped op mark ∷ []) plain ∙ ending.unstopped none;
           set_up = drop_behind t.events op mark;
           script = script ∙ ending.script;
@@ -302,7 +305,7 @@ by_more old mid new first second = record {
 }
 
 -- the unspent handlers below a number are destroyed, and the reactor's half and its faults stay
-pub record EndsTo {H : Type 0} (marks : H → Marks) (told : Bool) (run drop : ℕ → ℕ) (outside : Bool) (n all : ℕ)
+pub record EndsTo {H : Type 0} (marks : H → Marks) (told : Bool) (run : ℕ → Call → ℕ) (drop : ℕ → ℕ) (outside : Bool) (n all : ℕ)
     (first t : Recording) (left : Held H) : Type 0 where
   pub ending : IsEnding marks told run drop outside n t left
   pub script : t.script ≡ first.script
@@ -311,14 +314,14 @@ pub record EndsTo {H : Type 0} (marks : H → Marks) (told : Bool) (run drop : �
   pub acts : all ≡ length first.script.acts
   pub goes_on : GoesOnByDrops first.events t.events
 
-pub ends_all : {H : Type 0} {marks : H → Marks} {told : Bool} {run drop : ℕ → ℕ} {outside : Bool} {n all : ℕ}
+pub ends_all : {H : Type 0} {marks : H → Marks} {told : Bool} {run : ℕ → Call → ℕ} {drop : ℕ → ℕ} {outside : Bool} {n all : ℕ}
     {first t : Recording} {left : Held H} → EndsTo marks told run drop outside n all first t left → n ≡ all →
     IsEnding marks told run drop outside (length first.script.acts) t left
 ends_all {marks} {told} {run} {drop} {outside} {t} {left} ends whole =
     subst (λ n. IsEnding marks told run drop outside n t left) (whole ∙ ends.acts) ends.ending
 
 -- what is held in the end are the handlers of the operations that were never initiated
-module _ {H : Type 0} {marks : H → Marks} {told : Bool} {run drop : ℕ → ℕ} {outside : Bool} {t : Recording}
+module _ {H : Type 0} {marks : H → Marks} {told : Bool} {run : ℕ → Call → ℕ} {drop : ℕ → ℕ} {outside : Bool} {t : Recording}
     {left : Held H} (n : ℕ) (ending : IsEnding marks told run drop outside n t left)
     (all : length ending.last.script.acts ≤ n) where
   abbrev mark : ℕ → ℕ

@@ -5,6 +5,7 @@ use Rattle.std.specs.List.{Contains}
 use Rattle.asio_types.specs.Faults.{Rose}
 use Rattle.asio_types.specs.declared.event.Event.{Event}
 use Rattle.asio_types.specs.declared.event.Event.TheVariants as event
+use Rattle.op_handlers.specs.declared.call.Call.{Call}
 use Rattle.op_handlers.specs.Marks.{Marks}
 use Rattle.session_script.specs.Script.{ScriptModel}
 use Rattle.history_rules.specs.Legal.{IsLegal, state_of}
@@ -42,7 +43,7 @@ abbrev SentAs : ReactorHalf → Outside → Type 0
 SentAs half outside = map sent_to_peer outside.streams ≡ map sent_to_peer half.streams
 
 module _ {X : Type 0} {state : X → ReactorState} {tells_of : X → Option Outside} {faults : X → ℕ}
-    {script : ScriptModel} {told : Bool} {run drop : ℕ → ℕ} {named : ℕ} {outside : Bool} {r : Recording} {view : ProactorView X}
+    {script : ScriptModel} {told : Bool} {run : ℕ → Call → ℕ} {drop : ℕ → ℕ} {named : ℕ} {outside : Bool} {r : Recording} {view : ProactorView X}
     (history : KeepsHistory script told run drop outside r) (reactor : KeepsReactor state tells_of faults told named r view) where
   done_with : IsBookOver script r → IsDoneWith told r
   done_with (inl closed) = inl (closed ∙ ap (λ (s : ScriptModel). length s.rounds) (sym history.is_script))

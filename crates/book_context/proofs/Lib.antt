@@ -4,6 +4,7 @@ pub mod TurnLemmas
 pub mod CompletionLemmas
 pub mod BoundLemmas
 pub mod RecordLemmas
+pub mod PostsLemmas
 pub mod LeftLemmas
 pub mod KindLemmas
 pub mod RecordedLemmas

@@ -7,7 +7,8 @@ use Rattle.asio_types.specs.declared.event.Event.{Event}
 use Rattle.asio_types.specs.declared.event.Event.TheVariants as event
 use Rattle.asio_types.specs.declared.outside.SetupFault.{SetupFault}
 use Rattle.asio_types.specs.declared.outside.SetupFault.TheVariants as setup_fault
-use Rattle.op_handlers.specs.Marks.{Marks}
+use Rattle.op_handlers.specs.declared.call.Call.{Call}
+use Rattle.op_handlers.specs.Marks.{Marks, own_marks}
 use Rattle.session_script.specs.Script.{ScriptModel, is_op}
 use Rattle.session_script.specs.WellFormed.{IsWellFormed}
 use Rattle.history_rules.specs.FromOutside.{has_fault, has_outside_stop, is_fault, is_outside_stop}
@@ -19,46 +20,12 @@ use Rattle.strand_core.specs.Hands.{Held, taken_at}
 use Rattle.execution_laws.specs.Shown.{CallsShowTheirEvents, OpeningsShowNoMarks, is_of_call}
 use Rattle.book_context.specs.Begun.{HoldsAll, IsStarted}
 use Rattle.reactor_turns.specs.Turned.{IsTurned}
+use Rattle.book_context.proofs.BookHistoryLemmas.{no_fault, no_stop}
 use Rattle.book_context.specs.Book.{HoldsUnspent, IsBook, KeepsHistory, KeepsReactor, unless_spent}
 use Rattle.book_context.specs.Left.{most_history}
 use Rattle.book_context.specs.Recorded.{recorded_half}
 use Rattle.book_context.specs.Recording.{HasCalledOpening, Recording, new_recording, with_calls}
 use Rattle.book_context.specs.Steps as steps
-
-no_fault : (e : Event) → is_of_call e ≡ true → is_fault e ≡ false
-no_fault event.Fault is = absurd (cc is)
-no_fault (event.Call a) is = refl
-no_fault (event.Back a) is = refl
-no_fault (event.Stop a) is = refl
-no_fault (event.Begin o code size) is = refl
-no_fault (event.End o mark) is = refl
-no_fault (event.Take a) is = refl
-no_fault (event.Done o code size) is = refl
-no_fault (event.Tick now) is = refl
-no_fault event.Last is = refl
-no_fault event.Ended is = refl
-no_fault event.Stopped is = refl
-no_fault event.Polled is = refl
-no_fault event.Restart is = refl
-no_fault (event.Dropped o mark) is = refl
-
-no_stop : (e : Event) → is_of_call e ≡ true → is_outside_stop e ≡ false
-no_stop (event.Stop None) is = absurd (cc is)
-no_stop (event.Stop (Some a)) is = refl
-no_stop event.Fault is = refl
-no_stop (event.Call a) is = refl
-no_stop (event.Back a) is = refl
-no_stop (event.Begin o code size) is = refl
-no_stop (event.End o mark) is = refl
-no_stop (event.Take a) is = refl
-no_stop (event.Done o code size) is = refl
-no_stop (event.Tick now) is = refl
-no_stop event.Last is = refl
-no_stop event.Ended is = refl
-no_stop event.Stopped is = refl
-no_stop event.Polled is = refl
-no_stop event.Restart is = refl
-no_stop (event.Dropped o mark) is = refl
 
 -- the handlers that were taken from a rack
 pub held_marks : {H : Type 0} (marks : H → Marks) (there : Bool) (handler : Option H) (m : Marks) →
@@ -82,7 +49,7 @@ or_none : (a : Bool) → (a || false) ≡ a
 or_none true = refl
 or_none false = refl
 
-module _ {H X : Type 0} (script : ScriptModel) (told : Bool) (run drop : ℕ → ℕ) (named : ℕ) (outside : Bool)
+module _ {H X : Type 0} (script : ScriptModel) (told : Bool) (run : ℕ → Call → ℕ) (drop : ℕ → ℕ) (named : ℕ) (outside : Bool)
     (marks : H → Marks) (state : X → ReactorState) (tells_of : X → Option Outside) (faults : X → ℕ) (old t : Recording)
     (hands : Held H) (view : ProactorView X) (well : IsWellFormed old.script) (is_script : script ≡ old.script)
     (new : old ≡ new_recording old.script (most_history old.script)) (holds : HoldsAll marks run drop old.script hands)
@@ -107,7 +74,7 @@ module _ {H X : Type 0} (script : ScriptModel) (told : Bool) (run drop : ℕ →
   history = record {
     recorded = opened.recorded;
     is_script = sym is_script;
-    marked = unmarked old.script run drop did.calls well did.are;
+    marked = unmarked old.script (own_marks run) drop events did.calls well did.are;
     unstopped = λ _. inside;
     set_up = λ alone. absurd (let failed : has_fault events ≡ true = ap has_fault alone in cc (working, failed));
   }

@@ -4,6 +4,7 @@ use Rattle.asio_types.specs.declared.code.Code.{Code}
 use Rattle.asio_types.specs.declared.event.Event.TheVariants as event
 use Rattle.reactor_trait.specs.Reactor.{Outside, ReactorState}
 use Rattle.proactor_core.specs.Proactor.{ProactorView}
+use Rattle.op_handlers.specs.declared.call.Call.{Call}
 use Rattle.op_handlers.specs.Marks.{Marks}
 use Rattle.session_script.specs.Script.{ScriptModel}
 use Rattle.strand_core.specs.Hands.{Held}
@@ -61,7 +62,7 @@ reactor_request state told faults telling named oldest old new view same keeps =
       rose = there.rose;
     }
 
-pub executed_next : {H : Type 0} (marks : H → Marks) (script : ScriptModel) (told : Bool) (run drop : ℕ → ℕ)
+pub executed_next : {H : Type 0} (marks : H → Marks) (script : ScriptModel) (told : Bool) (run : ℕ → Call → ℕ) (drop : ℕ → ℕ)
     (outside : Bool) (oldest : ℕ × Code × ℕ) (old new t : Recording) (hands : Held H) → with_ready oldest new ≡ old →
     KeepsHistory script told run drop outside t → HoldsUnspent marks told run drop t hands → t.script ≡ new.script →
     recorded_half told t ≡ recorded_half told new → KeepsFaults new t → HasGoneOn script run (with_ready oldest new) t →
@@ -93,7 +94,7 @@ turned_of turn.Stopped new old t before after same did = did
 turned_of turn.Idle new old t before after same did = did
 
 pub taken_next : {X : Type 0} (state : X → ReactorState) (told : X → Option Outside) (faults : X → ℕ)
-    (script : ScriptModel) (telling : Bool) (run drop : ℕ → ℕ) (named : ℕ) (outside : Bool) (answer : BookTurn)
+    (script : ScriptModel) (telling : Bool) (run : ℕ → Call → ℕ) (drop : ℕ → ℕ) (named : ℕ) (outside : Bool) (answer : BookTurn)
     (oldest : ℕ) (old new t : Recording) (view left : ProactorView X) → with_request oldest new ≡ old →
     KeepsHistory script telling run drop outside t → KeepsReactor state told faults telling named t left →
     t.script ≡ new.script → SpendsNone telling new t →

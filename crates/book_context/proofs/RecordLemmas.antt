@@ -6,6 +6,7 @@ use Rattle.asio_types.specs.declared.code.Code.{Code}
 use Rattle.asio_types.specs.declared.code.Code.TheVariants as code
 use Rattle.asio_types.specs.declared.event.Event.{Event}
 use Rattle.asio_types.specs.declared.event.Event.TheVariants as event
+use Rattle.op_handlers.specs.declared.call.Call.{Call}
 use Rattle.session_script.specs.Script.{Entry, ScriptModel, opening_of, parent_of, stops}
 use Rattle.session_script.specs.Lanes.{is_inline, is_inside, caller_lane, lanes_of}
 use Rattle.session_script.specs.WellFormed.{IsWellFormed}
@@ -93,7 +94,7 @@ module _ (script : ScriptModel) where
       ap count one ∙ sums (take i calls) (get_or calls i d ∷ []) in
       omega (arith, parted, first)
 
-  length-events : (xs ys : List Posted) →
+  pub length-events : (xs ys : List Posted) →
       length (events_of script (xs ++ ys)) ≡ length (events_of script xs) + length (events_of script ys)
   length-events xs ys =
       ap length (events-append script xs ys) ∙ length-append (events_of script xs) (events_of script ys)
@@ -340,7 +341,7 @@ module _ (script : ScriptModel) (well : IsWellFormed script) (bounded : Openings
   opening_calls = subst (AreCalls script AnyMark (opening_of script)) (sym are) (are_opened script well)
 
 -- a whole execution, whatever its marks
-pub any_mark : {script : ScriptModel} {HasMark : ℕ → ℕ → Type 0} {op size : ℕ} {given : Code} {calls : List Posted} →
+pub any_mark : {script : ScriptModel} {HasMark : Call → ℕ → Type 0} {op size : ℕ} {given : Code} {calls : List Posted} →
     IsWholeExecution script HasMark op given size calls → IsWholeExecution script AnyMark op given size calls
 any_mark {script} {HasMark} whole =
     record {

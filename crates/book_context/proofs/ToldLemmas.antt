@@ -5,6 +5,7 @@ use Rattle.std.proofs.lemmas.List.{append-nil, append_assoc}
 use Rattle.std.proofs.lemmas.List.Elements.{All-append, All-cons, All-nil}
 use Rattle.asio_types.specs.declared.code.Code.{Code}
 use Rattle.asio_types.specs.declared.event.Event.TheVariants as event
+use Rattle.op_handlers.specs.declared.call.Call.{Call}
 use Rattle.session_script.specs.Script.{ScriptModel}
 use Rattle.history_rules.specs.Requests.{MayTell, reactor_after_done}
 use Rattle.history_rules.specs.State.{ReactorHalf, State}
@@ -20,7 +21,7 @@ use Rattle.book_context.proofs.BookHistoryLemmas.{faults-plain, history-plain}
 use Rattle.reactor_turns.proofs.ClockLemmas.{time-done}
 
 module _ {X : Type 0} (state : X → ReactorState) (told : X → Option Outside) (telling : Bool) (script : ScriptModel)
-    (run drop : ℕ → ℕ) (outside : Bool) (r : Recording) (view : ProactorView X)
+    (run : ℕ → Call → ℕ) (drop : ℕ → ℕ) (outside : Bool) (r : Recording) (view : ProactorView X)
     (keeps : KeepsHistory script telling run drop outside r) (turn : IsInTurn state told telling r view) (op : ℕ)
     (code : Code) (size : ℕ) where
   half : ReactorHalf
@@ -57,7 +58,7 @@ module _ {X : Type 0} (state : X → ReactorState) (told : X → Option Outside)
       stopped = refl;
       spent = did.goes.spent;
       faults =
-          faults-plain run drop r.events (event.Done op code size ∷ [])
+          faults-plain run drop {history = r.events} r.events (event.Done op code size ∷ [])
           (record { marked = (tt, tt); working = refl; inside = refl });
     }
 
@@ -90,7 +91,7 @@ module _ {X : Type 0} (state : X → ReactorState) (told : X → Option Outside)
 
 -- of a turn so much was told
 pub record TellsOn {X : Type 0} (state : X → ReactorState) (told : X → Option Outside) (script : ScriptModel)
-    (telling : Bool) (run drop : ℕ → ℕ) (outside : Bool) (first r : Recording) (begun view : ProactorView X)
+    (telling : Bool) (run : ℕ → Call → ℕ) (drop : ℕ → ℕ) (outside : Bool) (first r : Recording) (begun view : ProactorView X)
     : Type 0 where
   pub history : KeepsHistory script telling run drop outside r
   pub turn : IsInTurn state told telling r view

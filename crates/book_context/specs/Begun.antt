@@ -1,6 +1,7 @@
 -- What a book is made of, before the calls of `open`.
 use Rattle.std.specs.Prelude.{◌≡◌, ℕ, Bool, false, [], Option, not}
 use Rattle.std.specs.Option.{option_map}
+use Rattle.op_handlers.specs.declared.call.Call.{Call}
 use Rattle.op_handlers.specs.Marks.{Marks}
 use Rattle.session_script.specs.Script.{ScriptModel, is_op}
 use Rattle.history_rules.specs.State.{first_reactor}
@@ -10,7 +11,7 @@ use Rattle.strand_core.specs.Hands.{Held, held_at}
 use Rattle.book_context.specs.Book.{unless_spent}
 
 -- the handler of each operation is held, with the marks that are named, and no other is
-pub record HoldsAll {H : Type 0} (marks : H → Marks) (run drop : ℕ → ℕ) (script : ScriptModel)
+pub record HoldsAll {H : Type 0} (marks : H → Marks) (run : ℕ → Call → ℕ) (drop : ℕ → ℕ) (script : ScriptModel)
     (hands : Held H) : Type 0 where
   pub same_script : hands.script ≡ script
   pub each : (n : ℕ) →

@@ -3,10 +3,11 @@ use Rattle.std.specs.Prelude.{◌≡◌, ◌≤◌, ℕ, Bool, true, false, [], 
 use Rattle.std.specs.Option.{option_map}
 use Rattle.asio_types.specs.Faults.{Rose}
 use Rattle.asio_types.specs.declared.event.Event.TheVariants as event
-use Rattle.op_handlers.specs.Marks.{Marks}
+use Rattle.op_handlers.specs.declared.call.Call.{Call}
+use Rattle.op_handlers.specs.Marks.{Marks, own_marks}
 use Rattle.session_script.specs.Script.{ScriptModel, is_op}
 use Rattle.history_rules.specs.FromOutside.{has_fault, has_outside_stop}
-use Rattle.history_rules.specs.Marks.{HasMarks}
+use Rattle.execution_laws.specs.Marks.{HasToldMarks}
 use Rattle.reactor_trait.specs.Reactor.{Outside, ReactorState}
 use Rattle.proactor_core.specs.Proactor.{ProactorView}
 use Rattle.reactor_turns.specs.Turned.{ReactorKeepsTime, IsTurned}
@@ -20,11 +21,11 @@ pub record BookView (X : Type 0) : Type 0 where
   pub reactor : X
 
 -- the history is of the session that is named, and shows the marks that are named
-pub record KeepsHistory (script : ScriptModel) (told : Bool) (run drop : ℕ → ℕ) (outside : Bool)
+pub record KeepsHistory (script : ScriptModel) (told : Bool) (run : ℕ → Call → ℕ) (drop : ℕ → ℕ) (outside : Bool)
     (r : Recording) : Type 0 where
   pub recorded : IsRecorded told r
   pub is_script : r.script ≡ script
-  pub marked : HasMarks run drop r.events
+  pub marked : HasToldMarks (own_marks run) drop r.events
   pub unstopped : outside ≡ false → has_outside_stop r.events ≡ false
   -- a reactor that fails when it is set up leaves no session
   pub set_up : r.events ≡ event.Fault ∷ [] → ⊥
@@ -36,7 +37,7 @@ unless_spent false marks = Some marks
 
 -- of each operation whose handler wasn't spent the handler is held, with the marks that are named,
 -- and no other is
-pub record HoldsUnspent {H : Type 0} (marks : H → Marks) (told : Bool) (run drop : ℕ → ℕ)
+pub record HoldsUnspent {H : Type 0} (marks : H → Marks) (told : Bool) (run : ℕ → Call → ℕ) (drop : ℕ → ℕ)
     (r : Recording) (hands : Held H) : Type 0 where
   pub script : hands.script ≡ r.script
   pub each : (n : ℕ) →
@@ -61,7 +62,7 @@ pub record KeepsReactor {X : Type 0} (state : X → ReactorState) (told : X → 
   pub rose : view.tables.failed ≡ true → Rose named (faults view.reactor)
 
 -- what a book keeps while its lock is free
-pub record IsBook {H X : Type 0} (script : ScriptModel) (told : Bool) (run drop : ℕ → ℕ) (named : ℕ)
+pub record IsBook {H X : Type 0} (script : ScriptModel) (told : Bool) (run : ℕ → Call → ℕ) (drop : ℕ → ℕ) (named : ℕ)
     (outside : Bool) (marks : H → Marks) (state : X → ReactorState) (tells_of : X → Option Outside)
     (faults : X → ℕ) (r : Recording) (hands : Held H) (view : ProactorView X) : Type 0 where
   pub history : KeepsHistory script told run drop outside r

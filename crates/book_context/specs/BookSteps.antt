@@ -6,6 +6,7 @@ use Rattle.asio_types.specs.declared.event.Event.{Event}
 use Rattle.asio_types.specs.declared.event.Event.TheVariants as event
 use Rattle.asio_types.specs.declared.outside.Point.{Point}
 use Rattle.asio_types.specs.declared.outside.Point.TheVariants as point
+use Rattle.op_handlers.specs.declared.call.Call.{Call}
 use Rattle.session_script.specs.Script.{ScriptModel}
 use Rattle.session_script.specs.declared.round.Round.{Round}
 use Rattle.history_rules.specs.FromOutside.{has_fault}
@@ -15,11 +16,12 @@ use Rattle.history_rules.specs.State.{State}
 use Rattle.history_rules.specs.Time.{pending_count}
 use Rattle.strand_core.specs.Execution.{IsWholeExecution, events_of}
 use Rattle.strand_core.specs.declared.posted.Posted.{Posted}
+use Rattle.execution_laws.specs.Shown.{IsRunMark}
 use Rattle.book_context.specs.declared.answer.BookTurn.{BookTurn}
 use Rattle.book_context.specs.declared.answer.BookTurn.TheVariants as turn
 use Rattle.book_context.specs.Book.{BookView}
 use Rattle.book_context.specs.Recorded.{recorded_state}
-use Rattle.book_context.specs.Recording.{Recording}
+use Rattle.book_context.specs.Recording.{ArePlaced, Recording}
 
 -- the round after those that are closed
 abbrev pub open_round : Recording → Option Round
@@ -69,8 +71,10 @@ pub record IsTurnOf (events : List Event) : Type 0 where
   pub begins : BeginsTurn first
   pub completes : All IsDone told
 
--- the oldest ready operation was executed as a whole, with the marks that are named
-pub record IsExecutionOf (script : ScriptModel) (run : ℕ → ℕ) (ready : List (ℕ × Code × ℕ))
+-- the oldest ready operation was executed as a whole, with the marks that are named, and each begin got
+-- its position; so many events were before
+pub record IsExecutionOf (script : ScriptModel) (run : ℕ → Call → ℕ) (first : ℕ)
+    (ready : List (ℕ × Code × ℕ))
     (events : List Event) : Type 0 where
   pub op : ℕ
   pub code : Code
@@ -78,14 +82,15 @@ pub record IsExecutionOf (script : ScriptModel) (run : ℕ → ℕ) (ready : Lis
   pub newer : List (ℕ × Code × ℕ)
   pub oldest : ready ≡ (op, code, size) ∷ newer
   pub calls : List Posted
-  pub whole : IsWholeExecution script (λ n mark. mark ≡ run n) op code size calls
+  pub whole : IsWholeExecution script (IsRunMark run) op code size calls
+  pub placed : ArePlaced script first calls
   pub is : events ≡ events_of script calls
 
 -- one whole execution or one whole turn of the reactor came behind the history
-pub record HasGoneOn (script : ScriptModel) (run : ℕ → ℕ) (old new : Recording) : Type 0 where
+pub record HasGoneOn (script : ScriptModel) (run : ℕ → Call → ℕ) (old new : Recording) : Type 0 where
   pub events : List Event
   pub is : new.events ≡ old.events ++ events
-  pub step : IsExecutionOf script run old.ready events ⊎ IsTurnOf events
+  pub step : IsExecutionOf script run (length old.events) old.ready events ⊎ IsTurnOf events
 
 -- so much of a turn as there was before the reactor failed, and the fault
 pub record HasFaulted (old new : Recording) : Type 0 where
@@ -106,7 +111,7 @@ pub record IsIdleRound (script : ScriptModel) (s : State) : Type 0 where
   pub no_tick : runs (this_round script s.context) ≡ true → pending_count s.reactor ≡ 0
 
 -- what a turn did, by what it answered
-abbrev pub TurnAnswers : {X : Type 0} → (X → ℕ) → ScriptModel → Bool → (ℕ → ℕ) → BookTurn →
+abbrev pub TurnAnswers : {X : Type 0} → (X → ℕ) → ScriptModel → Bool → (ℕ → Call → ℕ) → BookTurn →
     BookView X → BookView X → Type 0
 TurnAnswers faults script told run turn.Did old new =
     IsGoing script (recorded_state told old.recording)

@@ -3,10 +3,11 @@ use Rattle.std.specs.Prelude.{◌≡◌, ◌<◌, ◌≤◌, ℕ, Bool, true, fa
 use Rattle.std.specs.List.{list_all}
 use Rattle.asio_types.specs.declared.event.Event.{Event}
 use Rattle.asio_types.specs.declared.event.Event.TheVariants as event
-use Rattle.op_handlers.specs.Marks.{Marks, drop_mark_of}
+use Rattle.op_handlers.specs.declared.call.Call.{Call}
+use Rattle.op_handlers.specs.Marks.{Marks, drop_mark_of, own_marks}
 use Rattle.execution_laws.specs.LetGo.{let_go_mark}
 use Rattle.history_rules.specs.FromOutside.{has_outside_stop}
-use Rattle.history_rules.specs.Marks.{HasMarks}
+use Rattle.execution_laws.specs.Marks.{HasToldMarks}
 use Rattle.strand_core.specs.Hands.{Held, held_at}
 use Rattle.book_context.specs.Book.{HoldsUnspent}
 use Rattle.book_context.specs.DropSteps.{IsDropping}
@@ -25,7 +26,7 @@ pub record GoesOnByDrops (old new : List Event) : Type 0 where
 
 -- of a session that was over, the unspent handlers below a number are destroyed by now, and the
 -- others are held as then
-pub record IsEnding {H : Type 0} (marks : H → Marks) (told : Bool) (run drop : ℕ → ℕ)
+pub record IsEnding {H : Type 0} (marks : H → Marks) (told : Bool) (run : ℕ → Call → ℕ) (drop : ℕ → ℕ)
     (outside : Bool) (n : ℕ) (t : Recording) (left : Held H) : Type 0 where
   -- what was recorded and held when it was over
   pub last : Recording
@@ -33,7 +34,7 @@ pub record IsEnding {H : Type 0} (marks : H → Marks) (told : Bool) (run drop :
   pub recorded : IsRecorded told last
   pub holds : HoldsUnspent marks told run drop last held
   pub dropping : IsDropping told last n t
-  pub marked : HasMarks run drop t.events
+  pub marked : HasToldMarks (own_marks run) drop t.events
   pub unstopped : outside ≡ false → has_outside_stop t.events ≡ false
   pub set_up : t.events ≡ event.Fault ∷ [] → ⊥
   pub script : left.script ≡ held.script

@@ -4,6 +4,7 @@ use Rattle.asio_types.specs.Faults.{Rose}
 use Rattle.asio_types.specs.declared.event.Event.{Event}
 use Rattle.asio_types.specs.declared.event.Event.TheVariants as event
 use Rattle.asio_types.specs.declared.outside.Point.{Point}
+use Rattle.op_handlers.specs.declared.call.Call.{Call}
 use Rattle.op_handlers.specs.Marks.{Marks}
 use Rattle.session_script.specs.Script.{ScriptModel}
 use Rattle.history_rules.specs.FromOutside.{has_fault}
@@ -100,7 +101,7 @@ WaitsForOutside faults told answer old new view left =
 
 -- the oldest ready operation was executed
 pub record HasExecutedNext {H : Type 0} (marks : H → Marks) (script : ScriptModel) (told : Bool)
-    (run drop : ℕ → ℕ) (outside : Bool) (old new : Recording) (hands : Held H) : Type 0 where
+    (run : ℕ → Call → ℕ) (drop : ℕ → ℕ) (outside : Bool) (old new : Recording) (hands : Held H) : Type 0 where
   pub history : KeepsHistory script told run drop outside new
   pub holds : HoldsUnspent marks told run drop new hands
   pub same_script : new.script ≡ old.script
@@ -110,7 +111,7 @@ pub record HasExecutedNext {H : Type 0} (marks : H → Marks) (script : ScriptMo
 
 -- the reactor took the oldest request
 pub record HasTakenNext {X : Type 0} (state : X → ReactorState) (told : X → Option Outside)
-    (faults : X → ℕ) (script : ScriptModel) (tells_bytes : Bool) (run drop : ℕ → ℕ) (named : ℕ)
+    (faults : X → ℕ) (script : ScriptModel) (tells_bytes : Bool) (run : ℕ → Call → ℕ) (drop : ℕ → ℕ) (named : ℕ)
     (outside : Bool) (answer : BookTurn) (old new : Recording) (view left : ProactorView X)
     : Type 0 where
   pub history : KeepsHistory script tells_bytes run drop outside new

@@ -4,6 +4,7 @@ pub mod Next
 pub mod Turns
 pub mod Left
 pub mod Recording
+pub mod Posts
 pub mod Listed
 pub mod Recorded
 pub mod Steps

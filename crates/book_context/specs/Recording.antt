@@ -1,6 +1,6 @@
 -- What a context has recorded while its lock is free, and what each of its steps makes of that. A
 -- running context keeps this and no state of a history.
-use Rattle.std.specs.Prelude.{◌≡◌, ℕ, ◌+◌, ◌-◌, ◌≤◌, Bool, true, false, ◌||◌, List, [], ◌∷◌, ◌++◌, None, length, replicate, slice_set}
+use Rattle.std.specs.Prelude.{◌≡◌, ℕ, ◌+◌, ◌-◌, ◌≤◌, Bool, true, false, ◌||◌, List, [], ◌∷◌, ◌++◌, None, length, replicate, slice_set, ⊤}
 use Rattle.asio_types.specs.declared.code.Code.{Code}
 use Rattle.asio_types.specs.declared.event.Event.{Event}
 use Rattle.asio_types.specs.declared.event.Event.TheVariants as event
@@ -107,12 +107,25 @@ pub record HasCalledOpening (old new : Recording) : Type 0 where
   pub are : AreCalls old.script AnyMark (opening_of old.script) calls
   pub is : new ≡ with_calls calls old
 
+-- a begin has this position
+abbrev pub IsPlaced : ℕ → Posted → Type 0
+IsPlaced position (posted.Begin op code size begun) = begun ≡ position
+IsPlaced position _ = ⊤
+
+-- the events of these calls come from a position on, and each begin has its own
+abbrev pub ArePlaced : ScriptModel → ℕ → List Posted → Type 0
+ArePlaced script position [] = ⊤
+ArePlaced script position (call ∷ calls) =
+    IsPlaced position call
+    × ArePlaced script (position + length (events_of script (call ∷ []))) calls
+
 -- one whole execution was made with the handlers that were held, and those that began in it are
--- spent
+-- spent; a handler that begins is told the count of events before its begin
 pub record HasRecorded {H : Type 0} (marks : H → Marks) (op : ℕ) (code : Code) (size : ℕ)
     (old new : Recording) (held left : Held H) : Type 0 where
   pub calls : List Posted
   pub whole : IsWholeExecution old.script (HasRunMark marks held) op code size calls
+  pub placed : ArePlaced old.script (length old.events) calls
   pub script : left.script ≡ held.script
   pub spent : (n : ℕ) → held_at left n ≡ left_at (begins_among n calls) (held_at held n)
   pub is : new ≡ with_calls calls old

@@ -12,14 +12,15 @@ mod posts;
 use crate::law::executions_are_bounded;
 use crate::record::calls::record_calls;
 use crate::record::lists::Lists;
-use crate::record::posts::Posts;
+use crate::record::posts::{call_each, post_execution};
 use asio_types::{ActNo, Code, Event, NoMemory, OpNo};
 use history_book::History;
 use op_handlers::CompletionHandler;
 use session_script::{Script, scripts_are_well_formed};
 use std::alloc::Global;
 use std::marker::Model;
-use strand_core::{Execution, Hands, Poster, execute};
+use std::mem;
+use strand_core::{Hands, Posted};
 
 /// What a context keeps of its history: the events, what is ready and what waits for the reactor,
 /// and where the round stands. All room is made at first, so that no step takes memory.
@@ -31,7 +32,8 @@ pub(crate) struct Record<'a> {
     script: &'a Script,
     history: History,
     lists: Lists,
-    posts: Posts<'a>,
+    // the room for the calls of an execution, or of `open`
+    calls: Vec<Posted>,
     stopped: bool,
     restarted: bool,
     closings: u32,
@@ -58,7 +60,7 @@ impl<'a> Model for Record<'a> {
 
     ghost invariant = { λ r. record {
       room : r.lists.room ≡ length r.script.now.acts;
-      calls : most_events r.script.now ≤ vec_capacity r.posts.calls;
+      calls : most_events r.script.now ≤ vec_capacity r.calls;
       few : r.closings + r.history.spare < 2 ^ 32;
     } };
 }
@@ -84,7 +86,7 @@ impl<'a> Record<'a> {
             script,
             history: History::with_room(alloc, most_history(script))?,
             lists: Lists::make(alloc, acts)?,
-            posts: Posts::make(alloc, script, 4 * acts + 2)?,
+            calls: Vec::with_capacity(alloc, (4 * acts + 2) as usize)?,
             stopped: false,
             restarted: false,
             closings: 0,
@@ -99,11 +101,11 @@ impl<'a> Record<'a> {
     {
         scripts_are_well_formed(self.script);
         executions_are_bounded();
-        self.posts.clear(0);
-        self.posts.call_each(self.script.opening());
+        self.calls.clear();
+        call_each(&mut self.calls, self.script.opening());
         self.stopped |= record_calls(
             self.script,
-            self.posts.calls.as_slice(),
+            self.calls.as_slice(),
             &mut self.history,
             &mut self.lists,
         );
@@ -127,14 +129,14 @@ impl<'a> Record<'a> {
     {
         scripts_are_well_formed(self.script);
         executions_are_bounded();
-        self.posts.clear(self.history.events().len() as u64);
-        match execute(&mut self.posts, self.script, hands, op, code, size) {
-            Execution::Whole(_) => (),
-            Execution::Missing(_) => unreachable!(),
-        }
+        self.calls.clear();
+        let position = self.history.events().len() as u64;
+        let none = Vec::new(*self.calls.allocator());
+        let calls = mem::replace(&mut self.calls, none);
+        self.calls = post_execution(self.script, position, calls, hands, op, code, size);
         self.stopped |= record_calls(
             self.script,
-            self.posts.calls.as_slice(),
+            self.calls.as_slice(),
             &mut self.history,
             &mut self.lists,
         );

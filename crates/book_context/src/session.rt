@@ -1,4 +1,5 @@
 ghost use Rattle.std.specs.Prelude.{ℕ, Bool, false};
+ghost use Rattle.op_handlers.specs.declared.call.Call.{Call};
 ghost use Rattle.session_script.specs.Script.{ScriptModel};
 ghost use Rattle.book_context.specs.Names.{no_script};
 
@@ -14,8 +15,8 @@ pub trait Session {
     /// Whether its reactor tells its bytes.
     ghost told: { Bool };
 
-    /// The run mark of the handler of each operation.
-    ghost run: { ℕ → ℕ };
+    /// The run mark of the handler of each operation, by what it is called with.
+    ghost run: { ℕ → Call → ℕ };
 
     /// The drop mark of the handler of each operation.
     ghost drop: { ℕ → ℕ };
@@ -32,7 +33,7 @@ impl Session for Brand {
 
     ghost told = { false };
 
-    ghost run = { λ n. 0 };
+    ghost run = { λ n call. 0 };
 
     ghost drop = { λ n. 0 };
 

@@ -22,7 +22,7 @@ pub(crate) struct Numbered<'a> {
 impl<'a> CompletionHandler for Numbered<'a> {
     ghost use Rattle.std.specs.Prelude.{◌+◌};
 
-    ghost marks = { λ h. record { run = 1000 + h.number; drop = 1000 + h.number } };
+    ghost marks = { λ h. record { run = λ _. 1000 + h.number; drop = 1000 + h.number } };
 
     fn call(self, call: Call) -> Ran {
         if let Some(gate) = self.gate {

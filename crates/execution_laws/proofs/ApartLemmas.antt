@@ -9,6 +9,7 @@ use Rattle.session_script.specs.Script.{Entry, Place, ScriptModel, numbers_in, p
 use Rattle.session_script.specs.Lanes.{is_inline}
 use Rattle.session_script.specs.WellFormed.{HasParent, IsWellFormed}
 use Rattle.session_script.proofs.PlacingLemmas.{has_parent}
+use Rattle.op_handlers.specs.declared.call.Call.{Call}
 use Rattle.strand_core.specs.Execution.{AreCalls, no_act, outside, inside, execution_of}
 use Rattle.strand_core.specs.declared.posted.Posted.{Posted}
 use Rattle.strand_core.specs.declared.posted.Posted.TheVariants as posted
@@ -63,7 +64,7 @@ numbers_rise place n (entry ∷ entries) i j a b less first second =
     rise_by n (numbers_in place (n + 1) entries) (same_place place entry.parent) i j a b less (numbers_rise place (n + 1) entries)
     (λ j b at. let l = listed place (n + 1) b entries j at in omega (arith, l.is)) first second
 
-module _ (script : ScriptModel) (well : IsWellFormed script) (HasMark : ℕ → ℕ → Type 0) where
+module _ (script : ScriptModel) (well : IsWellFormed script) (HasMark : Call → ℕ → Type 0) where
   -- what is called is one of the acts, or stands under one that executes inside its call
   pub called_from : {acts : List ℕ} {calls : List Posted} → AreCalls script HasMark acts calls → (n : ℕ) →
       is_called n calls ≡ true → IsOf n acts ⊎ IsUnder script n calls

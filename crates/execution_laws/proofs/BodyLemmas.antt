@@ -9,6 +9,7 @@ use Rattle.asio_types.specs.declared.code.Code.TheVariants as code
 use Rattle.session_script.specs.Script.{Place, ScriptModel, parent_of}
 use Rattle.session_script.specs.WellFormed.{IsWellFormed}
 use Rattle.history_rules.specs.State.{ContextState, ReactorHalf}
+use Rattle.op_handlers.specs.declared.call.Call.{Call}
 use Rattle.strand_core.specs.Execution.{AreCalls, no_act, outside, inside, execution_of}
 use Rattle.strand_core.specs.declared.posted.Posted.{Posted}
 use Rattle.strand_core.specs.declared.posted.Posted.TheVariants as posted
@@ -77,7 +78,7 @@ module _ (script : ScriptModel) (well : IsWellFormed script) where
       omega (arith, less)
   not_again place k a acts n follows (suc i, is) again = absurd (cc)
 
-  module _ (told : Bool) (r : ReactorHalf) (HasMark : ℕ → ℕ → Type 0) where
+  module _ (told : Bool) (r : ReactorHalf) (HasMark : Call → ℕ → Type 0) where
     -- what holds between two calls of a body
     pub record Between (place : Place) (k : ℕ) (s : ContextState) : Type 0 where
       pub going : IsGoing r.failed place

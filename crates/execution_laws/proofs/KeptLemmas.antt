@@ -21,6 +21,7 @@ use Rattle.history_rules.specs.declared.phase.ActState.{ActState}
 use Rattle.history_rules.specs.declared.phase.CallPhase.{CallPhase}
 use Rattle.history_rules.specs.declared.phase.CallPhase.TheVariants as call
 use Rattle.history_rules.specs.declared.phase.Cause.TheVariants as cause
+use Rattle.op_handlers.specs.declared.call.Call.{Call}
 use Rattle.strand_core.specs.Execution.{AreCalls}
 use Rattle.strand_core.specs.declared.posted.Posted.{Posted}
 use Rattle.execution_laws.specs.Called.{IsBackSince, called_as, is_called, settled_phase}
@@ -105,7 +106,7 @@ record IsEnded (place : Place) (s t : ContextState) (n : ℕ) : Type 0 where
   ready : is_ready (phase_at s n) ≡ true
   isnt : IsElsewhere place n → ⊥
 
-module _ (script : ScriptModel) (well : IsWellFormed script) (HasMark : ℕ → ℕ → Type 0) (place : Place)
+module _ (script : ScriptModel) (well : IsWellFormed script) (HasMark : Call → ℕ → Type 0) (place : Place)
     (calls : List Posted) (acts : AreCalls script HasMark (acts_in script place) calls) (s : State)
     (orderly : IsOrderly script s) (unmade : (n : ℕ) → parent_of script n ≡ place → call_at s.context n ≡ call.Uncalled)
   where
@@ -128,7 +129,7 @@ module _ (script : ScriptModel) (well : IsWellFormed script) (HasMark : ℕ → 
     pub before_absent : (n : ℕ) → is_called n calls ≡ true → phase_at s.context n ≡ phase.Absent
     before_absent n is = orderly.uncalled n (before_uncalled n is)
 
-module _ (script : ScriptModel) (well : IsWellFormed script) (HasMark : ℕ → ℕ → Type 0) (place : Place)
+module _ (script : ScriptModel) (well : IsWellFormed script) (HasMark : Call → ℕ → Type 0) (place : Place)
     (calls : List Posted) (acts : AreCalls script HasMark (acts_in script place) calls) (r : ReactorHalf)
     (s t : ContextState) (leaves : Leaves script place calls s t)
     (orderly : IsOrderly script (record { context = s; reactor = r }))

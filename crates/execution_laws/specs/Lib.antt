@@ -10,6 +10,7 @@ pub mod Order
 pub mod Ready
 pub mod Rest
 pub mod Setup
+pub mod Marks
 pub mod Shown
 pub mod Standing
 pub mod Work

@@ -7,13 +7,15 @@ use Rattle.asio_types.specs.declared.outside.SetupFault.TheVariants as setup_fau
 use Rattle.session_script.specs.Script.{ScriptModel, is_op}
 use Rattle.op_handlers.specs.Marks.{Marks}
 use Rattle.op_handlers.specs.Rack.{handler_at, handlers_in}
+use Rattle.op_handlers.specs.declared.call.Call.{Call}
 use Rattle.op_handlers.specs.declared.rack.Rack.{Rack}
 use Rattle.reactor_trait.specs.Reactor.{Outside, ReactorState}
 use Rattle.strand_core.specs.Hands.{left_at}
 use Rattle.proactor_core.specs.Proactor.{CountsRefusal, tells}
 
 -- the rack holds a handler for each operation of the script, with these marks
-abbrev pub HoldsMarked : {H : Type 0} → (H → Marks) → ScriptModel → (ℕ → ℕ) → (ℕ → ℕ) → Rack H → Type 0
+abbrev pub HoldsMarked : {H : Type 0} → (H → Marks) → ScriptModel → (ℕ → Call → ℕ) → (ℕ → ℕ) →
+    Rack H → Type 0
 HoldsMarked marks script run drop rack =
     (n : ℕ) → is_op script n ≡ true →
     option_map marks (handler_at rack n) ≡ Some (record { run = run n; drop = drop n })

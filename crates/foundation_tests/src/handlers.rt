@@ -92,7 +92,7 @@ struct Counted<'a> {
 }
 
 impl<'a> CompletionHandler for Counted<'a> {
-    ghost marks = { λ _. record { run = 7; drop = 70 } };
+    ghost marks = { λ _. record { run = λ _. 7; drop = 70 } };
 
     fn call(self, call: Call) -> Ran {
         let Counted {

@@ -39,7 +39,7 @@ fn look(lookout: Lookout<'_>) {
 }
 
 impl<'w> CompletionHandler for Looking<'w> {
-    ghost marks = { λ h. record { run = h.number; drop = h.number } };
+    ghost marks = { λ h. record { run = λ _. h.number; drop = h.number } };
 
     fn call(self, call: Call) -> Ran {
         let Looking { number, lookout } = self;

@@ -23,7 +23,7 @@ use std::thread::Threads;
 struct Plain;
 
 impl CompletionHandler for Plain {
-    ghost marks = { λ _. record { run = 1; drop = 2 } };
+    ghost marks = { λ _. record { run = λ _. 1; drop = 2 } };
 
     fn call(self, call: Call) -> Ran {
         Ran {

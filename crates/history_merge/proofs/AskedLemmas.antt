@@ -7,6 +7,7 @@ use Rattle.asio_types.specs.Code.{class_of_code}
 use Rattle.asio_types.specs.declared.code.Class.TheVariants as class
 use Rattle.asio_types.specs.declared.code.Code.{Code}
 use Rattle.asio_types.specs.declared.code.Code.TheVariants as code
+use Rattle.op_handlers.specs.declared.call.Call.{Call}
 use Rattle.session_script.specs.Lanes.{is_inline}
 use Rattle.session_script.specs.Script.{ScriptModel, opening_of, stops}
 use Rattle.session_script.specs.WellFormed.{IsWellFormed}
@@ -131,7 +132,7 @@ module _ (script : ScriptModel) where
       (call_asked (acts_last calls (one ∷ []) acts) now)
 
   -- what a body calls are acts of the script
-  module _ (well : IsWellFormed script) (HasMark : ℕ → ℕ → Type 0) where
+  module _ (well : IsWellFormed script) (HasMark : Call → ℕ → Type 0) where
     body_acts : {acts : List ℕ} {calls : List Posted} → AreCalls script HasMark acts calls →
         ((i n : ℕ) → slice_get acts i ≡ Some n → n < length script.acts) → CallsActs script calls
     body_acts no_act each = tt

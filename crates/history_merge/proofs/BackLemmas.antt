@@ -11,6 +11,7 @@ use Rattle.asio_types.specs.declared.code.Code.{Code}
 use Rattle.asio_types.specs.declared.code.Code.TheVariants as code
 use Rattle.asio_types.specs.declared.event.Event.{Event}
 use Rattle.asio_types.specs.declared.event.Event.TheVariants as event
+use Rattle.op_handlers.specs.declared.call.Call.{Call}
 use Rattle.session_script.specs.Script.{ScriptModel, stops}
 use Rattle.session_script.specs.Lanes.{is_inline}
 use Rattle.strand_core.specs.Execution.{AnyMark, AreCalls, IsWholeExecution, inside, no_act, outside}
@@ -91,7 +92,7 @@ module _ (x : ℕ) where
   back-append [] ys = omega arith
   back-append (made ∷ xs) ys = let rest = back-append xs ys in omega (arith, rest)
 
-  module _ (script : ScriptModel) (HasMark : ℕ → ℕ → Type 0) where
+  module _ (script : ScriptModel) (HasMark : Call → ℕ → Type 0) where
     calls_backed : {acts : List ℕ} {calls : List Posted} → AreCalls script HasMark acts calls → Backed x 0 calls
     calls_backed no_act = tt
     calls_backed (outside {act} {acts} {calls} isnt more) = (

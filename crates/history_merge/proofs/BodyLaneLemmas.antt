@@ -12,6 +12,7 @@ use Rattle.asio_types.specs.declared.event.Event.{Event}
 use Rattle.asio_types.specs.declared.event.Event.TheVariants as event
 use Rattle.asio_types.specs.declared.number.Lane.{Lane}
 use Rattle.asio_types.specs.declared.number.Lane.TheVariants as lane
+use Rattle.op_handlers.specs.declared.call.Call.{Call}
 use Rattle.session_script.specs.Script.{Entry, Place, ScriptModel, branch_of, parent_of, stops}
 use Rattle.session_script.specs.Lanes.{caller_lane, is_inline, is_inside, lane_in, lane_of, lane_or_reactor, lanes_of}
 use Rattle.session_script.specs.WellFormed.{HasParent, IsWellFormed}
@@ -90,7 +91,7 @@ abbrev AreOwnCalls : ScriptModel → Lane → List Posted → Type 0
 AreOwnCalls script lane [] = Unit {0}
 AreOwnCalls script lane (made ∷ calls) = IsOwnCall script lane made × AreOwnCalls script lane calls
 
-module _ (script : ScriptModel) (well : IsWellFormed script) (HasMark : ℕ → ℕ → Type 0) (of : Lane) where
+module _ (script : ScriptModel) (well : IsWellFormed script) (HasMark : Call → ℕ → Type 0) (of : Lane) where
   own_both : (xs ys : List Posted) → AreOwnCalls script of xs → AreOwnCalls script of ys →
       AreOwnCalls script of (xs ++ ys)
   own_both [] ys first second = second

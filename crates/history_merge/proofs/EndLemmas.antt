@@ -17,7 +17,8 @@ use Rattle.history_rules.specs.declared.phase.ActPhase.TheVariants as phase
 use Rattle.history_rules.specs.declared.phase.ActState.{ActState}
 use Rattle.history_rules.specs.FromOutside.{has_fault, has_outside_stop, is_fault, is_outside_stop}
 use Rattle.history_rules.specs.Legal.{IsLegalSoFar, IsWhole, MayHappen, reactor_after, state_from, state_of}
-use Rattle.history_rules.specs.Marks.{HasMarks}
+use Rattle.execution_laws.specs.Marks.{AreMarked, BeginsAt, IsToldMark}
+use Rattle.op_handlers.specs.Marks.{own_marks}
 use Rattle.history_rules.specs.Rounds.{IsOver, is_running, is_unspent}
 use Rattle.history_rules.specs.State.{ReactorHalf, State, call_at, first_reactor, first_state, fresh, phase_at}
 use Rattle.history_rules.specs.Time.{at_last, at_time}
@@ -57,6 +58,7 @@ use Rattle.history_merge.proofs.MergedLemmas.{all_drawn, any_ordered, merged_is}
 use Rattle.history_merge.proofs.MissingLemmas.{none_missing}
 use Rattle.history_merge.proofs.PartLemmas.{all_made}
 use Rattle.history_merge.proofs.RestingLemmas.{either_false, take_works}
+use Rattle.history_merge.proofs.SaidLemmas.{begins_merged}
 use Rattle.history_merge.proofs.SinceLemmas.{labelled_at, legal_last, made_all}
 use Rattle.history_merge.proofs.SoLemmas.{IsSo, state_so}
 use Rattle.history_merge.proofs.StoodLemmas.{has_stand}
@@ -129,9 +131,10 @@ under_running (phase.Running class progress) isnt = absurd (cc)
 under_running other isnt = refl
 
 -- drops show the named drop marks, and no stop
-drops_marked : (run drop : ℕ → ℕ) (xs : List ℕ) → HasMarks run drop (map (λ op. event.Dropped op (drop op)) xs)
-drops_marked run drop [] = tt
-drops_marked run drop (x ∷ xs) = (refl, drops_marked run drop xs)
+drops_marked : (HasMark : ℕ → ℕ → Type 0) (drop : ℕ → ℕ) (xs : List ℕ) →
+    AreMarked HasMark drop (map (λ op. event.Dropped op (drop op)) xs)
+drops_marked HasMark drop [] = tt
+drops_marked HasMark drop (x ∷ xs) = (refl, drops_marked HasMark drop xs)
 
 drops_inner : (drop : ℕ → ℕ) (xs : List ℕ) → list_any is_outside_stop (map (λ op. event.Dropped op (drop op)) xs) ≡ false
 drops_inner drop [] = refl
@@ -304,9 +307,11 @@ module _ (names : SessionNames) (well : IsWellFormed names.script) (logs : LogsV
     merged_legal = record {
       legal = record { legal = legal_all; whole = subst (IsWhole script) (sym state_is) ends.whole };
       marked =
-          subst (HasMarks names.run names.drop) (sym are_all)
-          (marks-append names.run names.drop all_shown drops (has_marks names well logs labels are whole labelled)
-          (drops_marked names.run names.drop (filter test (range_with_len 0 (length script.acts)))));
+          let Said : ℕ → ℕ → Type 0 = IsToldMark (own_marks names.run) (BeginsAt events) in
+          subst (AreMarked Said names.drop) (sym are_all)
+          (marks-append Said names.drop all_shown drops
+          (has_marks names well logs labels are events (begins_merged logs events merging labels are.entries) whole labelled)
+          (drops_marked Said names.drop (filter test (range_with_len 0 (length script.acts)))));
       unstopped = λ quiet.
           ap has_outside_stop are_all
           ∙ (list_any-append is_outside_stop all_shown drops

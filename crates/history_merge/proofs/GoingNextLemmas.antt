@@ -4,6 +4,7 @@ use Rattle.std.proofs.lemmas.Bool.{cases_eq}
 use Rattle.asio_types.specs.declared.event.Event.{Event}
 use Rattle.asio_types.specs.declared.event.Event.TheVariants as event
 use Rattle.asio_types.specs.declared.number.Lane.{Lane}
+use Rattle.op_handlers.specs.declared.call.Call.{Call}
 use Rattle.session_script.specs.Script.{ScriptModel, is_op}
 use Rattle.session_script.specs.Lanes.{lane_of}
 use Rattle.session_script.specs.WellFormed.{IsWellFormed}
@@ -43,14 +44,14 @@ use Rattle.history_merge.proofs.StageLemmas.{left_at, left_behind, parts_of}
 use Rattle.history_merge.proofs.StagedLemmas.{IsNextOf, executing_op, label, next_of, off_others}
 
 -- whatever the marks, an execution is whole
-any_calls : (script : ScriptModel) (HasMark : ℕ → ℕ → Type 0) {acts : List ℕ} {calls : List Posted} →
+any_calls : (script : ScriptModel) (HasMark : Call → ℕ → Type 0) {acts : List ℕ} {calls : List Posted} →
     AreCalls script HasMark acts calls → AreCalls script AnyMark acts calls
 any_calls script HasMark no_act = no_act
 any_calls script HasMark (outside {act} {acts} {calls} isnt more) = outside isnt (any_calls script HasMark more)
 any_calls script HasMark (inside {act} {begun} {mark} {acts} {body} {calls} is marked inner more) =
     inside is tt (any_calls script HasMark inner) (any_calls script HasMark more)
 
-any_whole : (script : ScriptModel) (HasMark : ℕ → ℕ → Type 0) (op : ℕ) (given : Code) (size : ℕ) (calls : List Posted) →
+any_whole : (script : ScriptModel) (HasMark : Call → ℕ → Type 0) (op : ℕ) (given : Code) (size : ℕ) (calls : List Posted) →
     IsWholeExecution script HasMark op given size calls → IsWholeExecution script AnyMark op given size calls
 any_whole script HasMark op given size calls whole = record {
   begun = whole.begun;

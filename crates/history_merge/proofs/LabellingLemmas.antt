@@ -1,5 +1,5 @@
 -- The labels of the steps under each number, by the parts of its log.
-use Rattle.std.proofs.Common.{◌≡◌, ◌≢◌, ◌⊎◌, ℕ, ◌+◌, ◌<◌, ◌≤◌, Bool, List, [], ◌∷◌, inl, inr, length, map, refl, sym, ap, subst, ◌∙◌, arith}
+use Rattle.std.proofs.Common.{◌≡◌, ◌≢◌, ◌⊎◌, ℕ, ◌+◌, ◌<◌, ◌≤◌, Bool, List, [], ◌∷◌, ◌++◌, inl, inr, length, map, refl, sym, ap, subst, ◌∙◌, arith}
 use Rattle.std.proofs.lemmas.Bool.{cases_eq, cases_lt}
 use Rattle.std.proofs.lemmas.List.{get_or_past}
 use Rattle.std.proofs.lemmas.List.FromFn.{length-map-range_with_len}
@@ -22,7 +22,7 @@ use Rattle.lane_logs.specs.SeatNumbers.{IsWorkerSeat, lane_count, opener_seat, w
 use Rattle.lane_logs.specs.WorkerLog.{AreWorkerParts, MayFollowStopped, WorkerPart, labels_of_worker, stopped, waiting}
 use Rattle.history_merge.proofs.EachLabelLemmas.{HoldsOf, calls_each, empty_each, end_each, is_of_execution, is_of_turn, looks_each}
 use Rattle.history_merge.proofs.HistoryLemmas.{IsPlain}
-use Rattle.history_merge.proofs.PartLemmas.{Every, Follow, all_made, every-append, every_at, every_made, labels_worker, lane_made, opener_made, worker_made}
+use Rattle.history_merge.proofs.PartLemmas.{Every, Follow, all_made, every-append, every_among, every_at, labels_worker, lane_made, opener_made, worker_made}
 
 -- Steps by themselves neither draw nor get a place
 holds_plain : (test : Event → Bool) → HoldsOf test IsPlain
@@ -129,25 +129,32 @@ pub record AreLabels (names : SessionNames) (logs : LogsView) (labels : ℕ → 
   pub missed : (lane : ℕ) (within : lane < lane_count names.script) →
       missed_by logs lane ≡ first_missed (lanes lane within).parts
 
--- What holds of the labels of each part holds of each label
+-- What holds of the labels of each part among these holds of each label among all of its number
 module _ (names : SessionNames) (logs : LogsView) (labels : ℕ → List Labelled) (are : AreLabels names logs labels)
-    (Q : ℕ → Labelled → Type 0)
+    (Q : ℕ → List Labelled → Labelled → Type 0)
+    (more_behind : (n : ℕ) (xs ys : List Labelled) (label : Labelled) → Q n xs label → Q n (xs ++ ys) label)
+    (more_before : (n : ℕ) (xs ys : List Labelled) (label : Labelled) → Q n ys label → Q n (xs ++ ys) label)
     (of_lane : (lane : ℕ) → lane < lane_count names.script → (earlier : List Part) (part : Part) →
     MayFollow names (logs.lists (opener_seat names.script)) lane earlier part →
-    Every (Q lane) (labels_in names.script lane part))
+    Every (Q lane (labels_in names.script lane part)) (labels_in names.script lane part))
     (of_worker : (n : ℕ) → IsWorkerSeat names.script n → (earlier : List WorkerPart) (part : WorkerPart) →
-    MayFollowStopped names.script (logs.lists (opener_seat names.script)) earlier part → Every (Q n) (labels_worker part))
+    MayFollowStopped names.script (logs.lists (opener_seat names.script)) earlier part →
+    Every (Q n (labels_worker part)) (labels_worker part))
     (of_opener : (earlier : List OpenerPart) (part : OpenerPart) →
-    MayFollowOpened names.script logs.lists earlier part → Every (Q (opener_seat names.script)) (opener_labels part)) where
+    MayFollowOpened names.script logs.lists earlier part →
+    Every (Q (opener_seat names.script) (opener_labels part)) (opener_labels part)) where
   of_parts : (P : Type 0) (made : P → List Labelled) (May : List P → P → Type 0) (n : ℕ) →
-      ((earlier : List P) (part : P) → May earlier part → Every (Q n) (made part)) → AreMadeOf P made May (labels n) →
-      (i : ℕ) (label : Labelled) → get_elem? (labels n) i ≡ some label → Q n label
+      ((earlier : List P) (part : P) → May earlier part → Every (Q n (made part)) (made part)) →
+      AreMadeOf P made May (labels n) → (i : ℕ) (label : Labelled) → get_elem? (labels n) i ≡ some label →
+      Q n (labels n) label
   of_parts P made May n each parts i label at =
-      every_at (Q n) (all_made P made parts.parts) (every_made P made May (Q n) each parts.parts parts.follow) i label
-      (subst (λ xs. get_elem? xs i ≡ some label) parts.are at)
+      subst (λ xs. Q n xs label) (sym parts.are)
+      (every_at (Q n (all_made P made parts.parts)) (all_made P made parts.parts)
+      (every_among P made May (Q n) (more_behind n) (more_before n) each parts.parts parts.follow) i label
+      (subst (λ xs. get_elem? xs i ≡ some label) parts.are at))
 
-  pub each_seated : (n i : ℕ) (label : Labelled) → get_elem? (labels n) i ≡ some label → Q n label
-  each_seated n i label at = elim (cases_lt n (lane_count names.script)) [
+  pub each_among : (n i : ℕ) (label : Labelled) → get_elem? (labels n) i ≡ some label → Q n (labels n) label
+  each_among n i label at = elim (cases_lt n (lane_count names.script)) [
     | inl lane ↦
         of_parts Part (labels_in names.script n) (MayFollow names (logs.lists (opener_seat names.script)) n) n (of_lane n lane)
         (are.lanes n lane) i label at
@@ -158,7 +165,7 @@ module _ (names : SessionNames) (logs : LogsView) (labels : ℕ → List Labelle
           (are.workers n (record { behind = behind; before = before })) i label at
       | inr beyond ↦ elim (cases_eq n (opener_seat names.script)) [
         | inl is ↦
-            subst (λ n. Q n label) (sym is)
+            subst (λ n. Q n (labels n) label) (sym is)
             (of_parts OpenerPart opener_labels (MayFollowOpened names.script logs.lists) (opener_seat names.script) of_opener
             are.opener i label (subst (λ n. get_elem? (labels n) i ≡ some label) is at))
         | inr isnt ↦
@@ -167,6 +174,21 @@ module _ (names : SessionNames) (logs : LogsView) (labels : ℕ → List Labelle
       ]
     ]
   ]
+
+-- and so what holds of each by itself
+module _ (names : SessionNames) (logs : LogsView) (labels : ℕ → List Labelled) (are : AreLabels names logs labels)
+    (Q : ℕ → Labelled → Type 0)
+    (of_lane : (lane : ℕ) → lane < lane_count names.script → (earlier : List Part) (part : Part) →
+    MayFollow names (logs.lists (opener_seat names.script)) lane earlier part →
+    Every (Q lane) (labels_in names.script lane part))
+    (of_worker : (n : ℕ) → IsWorkerSeat names.script n → (earlier : List WorkerPart) (part : WorkerPart) →
+    MayFollowStopped names.script (logs.lists (opener_seat names.script)) earlier part → Every (Q n) (labels_worker part))
+    (of_opener : (earlier : List OpenerPart) (part : OpenerPart) →
+    MayFollowOpened names.script logs.lists earlier part → Every (Q (opener_seat names.script)) (opener_labels part)) where
+  pub each_seated : (n i : ℕ) (label : Labelled) → get_elem? (labels n) i ≡ some label → Q n label
+  each_seated =
+      each_among names logs labels are (λ n xs label. Q n label) (λ n xs ys label is. is) (λ n xs ys label is. is) of_lane
+      of_worker of_opener
 
 -- where that it is a worker's doesn't matter
 module _ (names : SessionNames) (logs : LogsView) (labels : ℕ → List Labelled) (are : AreLabels names logs labels)

@@ -71,6 +71,7 @@ pub mod LeftLemmas
 pub mod IdleLemmas
 pub mod TurnLemmas
 pub mod MergedLemmas
+pub mod SaidLemmas
 pub mod MarkedLemmas
 pub mod ExactLemmas
 pub mod FirstFaultLemmas

@@ -6,6 +6,7 @@ use lib.ListN.{get_elem?}
 use Rattle.asio_types.specs.declared.code.Code.{Code}
 use Rattle.asio_types.specs.declared.event.Event.{Event}
 use Rattle.asio_types.specs.declared.event.Event.TheVariants as event
+use Rattle.op_handlers.specs.declared.call.Call.{Call}
 use Rattle.session_script.specs.Script.{ScriptModel}
 use Rattle.strand_core.specs.Execution.{IsWholeExecution}
 use Rattle.strand_core.specs.declared.posted.Posted.{Posted}
@@ -60,7 +61,7 @@ module _ (script : ScriptModel) where
       first_more calls labels one made (first_label before) (first_alone now)
 
   -- an execution begins with the begin of its operation
-  pub execution_first : (HasMark : ℕ → ℕ → Type 0) (op : ℕ) (given : Code) (size : ℕ) (calls : List Posted)
+  pub execution_first : (HasMark : Call → ℕ → Type 0) (op : ℕ) (given : Code) (size : ℕ) (calls : List Posted)
       (labels : List Labelled) → IsWholeExecution script HasMark op given size calls → AreDrawn script calls labels →
       BeginsWith op given size labels
   execution_first HasMark op given size calls labels whole drawn =

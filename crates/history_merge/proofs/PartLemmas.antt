@@ -172,6 +172,21 @@ module _ (P : Type 0) (made : P → List Labelled) where
     every_made Q each (part ∷ parts) all =
         every-append Q (all_made parts) (made part) (every_made Q each parts all.0) (each parts part all.1)
 
+    -- also of what holds of a label among some, and so among more
+    module _ (Q : List Labelled → Labelled → Type 0)
+        (more_behind : (xs ys : List Labelled) (label : Labelled) → Q xs label → Q (xs ++ ys) label)
+        (more_before : (xs ys : List Labelled) (label : Labelled) → Q ys label → Q (xs ++ ys) label)
+        (each : (earlier : List P) (part : P) → May earlier part → Every (Q (made part)) (made part)) where
+      pub every_among : (parts : List P) → Follow parts → Every (Q (all_made parts)) (all_made parts)
+      every_among [] all = tt
+      every_among (part ∷ parts) all =
+          let whole : List Labelled = all_made parts ++ made part in
+          every-append (Q whole) (all_made parts) (made part)
+          (every_so (Q (all_made parts)) (Q whole) (more_behind (all_made parts) (made part)) (all_made parts)
+          (every_among parts all.0))
+          (every_so (Q (made part)) (Q whole) (more_before (all_made parts) (made part)) (made part)
+          (each parts part all.1))
+
 -- the labels of a lane, of a worker and of the opener are so
 pub lane_made : (script : ScriptModel) (lane : ℕ) (parts : List Part) →
     labels_of script lane parts ≡ all_made Part (labels_in script lane) parts

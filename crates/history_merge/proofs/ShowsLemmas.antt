@@ -10,6 +10,7 @@ use Rattle.asio_types.specs.declared.event.Event.TheVariants as event
 use Rattle.asio_types.specs.declared.number.Lane.{Lane}
 use Rattle.asio_types.specs.declared.outside.Point.{Point}
 use Rattle.asio_types.specs.declared.outside.Point.TheVariants as point
+use Rattle.op_handlers.specs.declared.call.Call.{Call}
 use Rattle.session_script.specs.Lanes.{lane_of}
 use Rattle.session_script.specs.Script.{Place, ScriptModel, parent_of}
 use Rattle.session_script.specs.WellFormed.{IsWellFormed}
@@ -82,7 +83,7 @@ holds_shown test P each = record {
 
 module _ (script : ScriptModel) where
   -- the labels of an execution
-  pub calls_show : (well : IsWellFormed script) (HasMark : ℕ → ℕ → Type 0) (op : ℕ) (given : Code) (size : ℕ)
+  pub calls_show : (well : IsWellFormed script) (HasMark : Call → ℕ → Type 0) (op : ℕ) (given : Code) (size : ℕ)
       (calls : List Posted) (labels : List Labelled) → IsWholeExecution script HasMark op given size calls →
       AreDrawn script calls labels → Every (Shows (IsOfExecution script op given size)) labels
   calls_show well HasMark op given size calls labels whole drawn =

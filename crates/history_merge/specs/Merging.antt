@@ -7,8 +7,9 @@ use Rattle.session_script.specs.Script.{ScriptModel}
 use Rattle.session_script.specs.WellFormed.{IsWellFormed}
 use Rattle.history_rules.specs.FromOutside.{has_outside_stop}
 use Rattle.history_rules.specs.Legal.{IsLegal, state_of}
-use Rattle.history_rules.specs.Marks.{HasMarks}
+use Rattle.execution_laws.specs.Marks.{HasToldMarks}
 use Rattle.history_rules.specs.Time.{IsIdle}
+use Rattle.op_handlers.specs.Marks.{own_marks}
 use Rattle.execution_laws.specs.LetGo.{is_uninitiated}
 use Rattle.lane_clock.specs.declared.step.ClockStep.TheVariants.{Place}
 use Rattle.lane_clock.specs.Rule.{StepAt}
@@ -59,7 +60,7 @@ MovesTimeIdly script told events =
 pub record IsLegalMerging (names : SessionNames) (logs : LogsView) (events : List Event)
     : Type 0 where
   pub legal : IsLegal names.script names.told events
-  pub marked : HasMarks names.run names.drop events
+  pub marked : HasToldMarks (own_marks names.run) names.drop events
   pub unstopped : NoWorkerStops names.script logs → has_outside_stop events ≡ false
   -- an operation that no log has called isn't initiated in it
   pub untouched : (n : ℕ) → n < length names.script.acts →

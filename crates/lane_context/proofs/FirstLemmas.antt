@@ -4,6 +4,7 @@ use Rattle.std.proofs.Common.{◌≡◌, ℕ, zero, suc, ◌+◌, ◌<◌, ◌�
 use Rattle.std.specs.Prelude.{◌&&◌, IsTrue, is_some}
 use Rattle.std.specs.Option.{option_map}
 use Rattle.op_handlers.specs.Marks.{Marks}
+use Rattle.op_handlers.specs.declared.call.Call.{Call}
 use Rattle.op_handlers.specs.Rack.{handler_at}
 use Rattle.op_handlers.specs.declared.rack.Rack.{Rack}
 use Rattle.session_script.specs.Script.{ScriptModel, is_op}
@@ -118,15 +119,15 @@ module _ {H : Type 0} (names : SessionNames) (marks : H → Marks) (lane : ℕ) 
   there n m true None held = absurd (let none = held refl in cc none)
   there n m false handler held = refl
 
-  run_by : (test : Bool) (handler : Option H) (m : Marks) (mark : ℕ) →
+  run_by : (test : Bool) (handler : Option H) (m : Marks) (call : Call) (mark : ℕ) →
       (test ≡ true → option_map marks handler ≡ Some m) →
-      option_map (λ h. (marks h).run) (taken_at test handler) ≡ Some mark → mark ≡ m.run
-  run_by true (Some handler) m mark held is =
+      option_map (λ h. (marks h).run call) (taken_at test handler) ≡ Some mark → mark ≡ m.run call
+  run_by true (Some handler) m call mark held is =
       let same : marks handler ≡ m = let held_so = held refl in cc held_so in
-      let one : (marks handler).run ≡ mark = cc is in
-      sym one ∙ ap (λ (x : Marks). x.run) same
-  run_by true None m mark held is = absurd (cc is)
-  run_by false handler m mark held is = absurd (cc is)
+      let one : (marks handler).run call ≡ mark = cc is in
+      sym one ∙ ap (λ (x : Marks). x.run call) same
+  run_by true None m call mark held is = absurd (cc is)
+  run_by false handler m call mark held is = absurd (cc is)
 
   drop_by : (test : Bool) (handler : Option H) (m : Marks) (mark : ℕ) →
       (test ≡ true → option_map marks handler ≡ Some m) →
@@ -150,10 +151,10 @@ module _ {H : Type 0} (names : SessionNames) (marks : H → Marks) (lane : ℕ) 
             ap is_some (taken op)
             ∙ there op (record { run = names.run op; drop = names.drop op }) (is_op_on names.script lane op)
             (handler_at rack op) (held_marks op);
-        run = λ op mark is.
-            run_by (is_op_on names.script lane op) (handler_at rack op)
-            (record { run = names.run op; drop = names.drop op }) mark (held_marks op)
-            (sym (ap (option_map (λ h. (marks h).run)) (taken op)) ∙ is);
+        run = λ call mark is.
+            run_by (is_op_on names.script lane call.op) (handler_at rack call.op)
+            (record { run = names.run call.op; drop = names.drop call.op }) call mark (held_marks call.op)
+            (sym (ap (option_map (λ h. (marks h).run call)) (taken call.op)) ∙ is);
         drop = λ op mark is.
             drop_by (is_op_on names.script lane op) (handler_at rack op)
             (record { run = names.run op; drop = names.drop op }) mark (held_marks op)

@@ -26,7 +26,7 @@ pub(crate) struct Noting<'a> {
 }
 
 impl<'a> CompletionHandler for Noting<'a> {
-    ghost marks = { λ h. record { run = h.run; drop = h.drop } };
+    ghost marks = { λ h. record { run = λ _. h.run; drop = h.drop } };
 
     fn call(self, call: Call) -> Ran {
         let Noting { run, drop: _, last } = self;

@@ -5,7 +5,7 @@ use Rattle.std.specs.Prelude.{◌&&◌, ◌||◌, ◌==◌, not, is_some, nat_lt
 use Rattle.std.proofs.lemmas.Bool.{cases_lt}
 use Rattle.std.proofs.lemmas.Option.{slice_get_past}
 use Rattle.std.specs.Option.{option_map}
-use Rattle.op_handlers.specs.Marks.{Marks}
+use Rattle.op_handlers.specs.Marks.{Marks, call_of}
 use Rattle.session_script.specs.Lanes.{is_inline}
 use Rattle.session_script.specs.Script.{ScriptModel, is_op}
 use Rattle.strand_core.specs.Answer.{CanExecute}
@@ -73,10 +73,10 @@ left_hands names marks lane log held left part hold script drawn spent =
           (sym (drawn_begun names.script op drawn))
           ∙ ap (λ b. is_op_on names.script lane op && not b) (sym (begun-append op log (entries_in part.labels)));
       run =
-          λ op mark is.
-          hold.run op mark
-          (mark_before (λ handler. (marks handler).run) (begins_among op part.calls) (held_at held op) mark
-          (ap (option_map (λ handler. (marks handler).run)) (sym (spent op)) ∙ is));
+          λ call mark is.
+          hold.run call mark
+          (mark_before (λ handler. (marks handler).run call) (begins_among call.op part.calls) (held_at held call.op) mark
+          (ap (option_map (λ handler. (marks handler).run call)) (sym (spent call.op)) ∙ is));
       drop =
           λ op mark is.
           hold.drop op mark
@@ -96,7 +96,7 @@ named_whole names marks lane log held part hold whole =
       begun = whole.begun;
       mark = whole.mark;
       body = whole.body;
-      marked = hold.run part.note.op whole.mark whole.marked;
+      marked = hold.run (call_of part.note.op part.note.code part.note.size whole.begun) whole.mark whole.marked;
       acts = with_marks held.script (HasRunMark marks held) (IsNamedMark names) hold.run whole.acts;
       is = whole.is;
     }

@@ -3,7 +3,7 @@ use Rattle.std.proofs.Common.{◌≡◌, ◌≢◌, ℕ, ◌+◌, Bool, true, fa
 use Rattle.std.specs.Option.{option_or}
 use Rattle.op_handlers.specs.Marks.{Marks}
 use Rattle.strand_core.specs.Answer.{CanExecute}
-use Rattle.strand_core.specs.Hands.{HasRunMark, Held}
+use Rattle.strand_core.specs.Hands.{Held}
 use Rattle.lane_clock.specs.declared.found.Found.{Found}
 use Rattle.lane_clock.specs.declared.note.Note.{Note}
 use Rattle.lane_clock.specs.declared.step.ClockStep.TheVariants.{Load, Look}
@@ -72,10 +72,10 @@ stopped_seen at note load a c held can differ gone =
 
 pub ran_seen : {H : Type 0} (marks : H → Marks) (mark : ℕ) (at to : LaneStanding) (note : Note) (load : Found)
     (a b c d : PenView) (held left : Held H) → to ≡ record at { place = at.place + 1 } →
-    HasRunMark marks held note.op mark → load.stops ≡ at.base → HasGone (looks_full at.lane at.place note) a b →
-    HasGone (silent (Load load) ∷ []) b c → HasExecutedNoted marks note c d held left → left.script ≡ held.script →
+    load.stops ≡ at.base → HasGone (looks_full at.lane at.place note) a b →
+    HasGone (silent (Load load) ∷ []) b c → HasExecutedNoted marks note mark c d held left → left.script ≡ held.script →
     RanNext marks note.op mark (standing at a) (standing to d) held left
-ran_seen marks mark at to note load a b c d held left moved marked going seen loaded did script =
+ran_seen marks mark at to note load a b c d held left moved going seen loaded did script =
     record {
       part = record {
         place = at.place;
@@ -86,9 +86,9 @@ ran_seen marks mark at to note load a b c d held left moved marked going seen lo
       };
       it = refl;
       at = refl;
-      marked = marked;
       going = going;
       whole = did.whole;
+      answered = did.answered;
       drawn = did.drawn.drawn;
       gone =
           gone_on (looks_full at.lane at.place note) (silent (Load load) ∷ did.drawn.labels) a b d seen

@@ -2,7 +2,8 @@
 use Rattle.std.proofs.Common.{◌≡◌, ℕ, ◌+◌, ◌<◌, ◌≤◌, Bool, true, false, List, [], ◌∷◌, ◌++◌, Option, Some, None, inl, inr, length, refl, sym, ap, subst, ◌∙◌, arith}
 use Rattle.std.specs.Prelude.{◌&&◌, not, is_some, IsSome}
 use Rattle.std.specs.Option.{option_map}
-use Rattle.op_handlers.specs.Marks.{Marks}
+use Rattle.op_handlers.specs.Marks.{Marks, call_of}
+use Rattle.op_handlers.specs.declared.call.Call.{Call}
 use Rattle.asio_types.specs.Code.{class_of_code}
 use Rattle.asio_types.specs.declared.code.Class.TheVariants as class
 use Rattle.asio_types.specs.declared.code.Code.{Code}
@@ -140,7 +141,7 @@ room_after script calls labels held left old new whole_labels of_left of_held en
     (omega (arith, draws, size.draws, kept, less, room_left, room_before))
     (omega (arith, places, size.places, kept, less, room_left, room_before))
 
-any_mark : (script : ScriptModel) (P : ℕ → ℕ → Type 0) (op : ℕ) (code : Code) (size : ℕ) (calls : List Posted) →
+any_mark : (script : ScriptModel) (P : Call → ℕ → Type 0) (op : ℕ) (code : Code) (size : ℕ) (calls : List Posted) →
     IsWholeExecution script P op code size calls → IsWholeExecution script AnyMark op code size calls
 any_mark script P op code size calls whole =
     record {
@@ -173,7 +174,9 @@ ran_room marks script ordered op mark old new held left same keeps known ran roo
     let drawn : AreDrawn script part.calls part.labels =
     subst (λ (s : ScriptModel). AreDrawn s part.calls part.labels) same ran.drawn in
     let some : IsSome (held_at held part.note.op) =
-    marked_some (λ handler. (marks handler).run) (held_at held part.note.op) ran.whole.mark ran.whole.marked in
+    marked_some
+    (λ handler. (marks handler).run (call_of part.note.op part.note.code part.note.size ran.whole.begun))
+    (held_at held part.note.op) ran.whole.mark ran.whole.marked in
     room_after script part.calls part.labels held left old.pen new.pen
     (labels_in held.script old.lane (executed part)) (ran.script ∙ same) same refl
     (two_more draw_count (Look old.lane part.place (Some part.note)) (Load part.load) (steps_in part.labels) refl refl)

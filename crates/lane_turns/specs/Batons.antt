@@ -2,6 +2,7 @@
 use Rattle.std.specs.Prelude.{◌≡◌, ℕ, ◌<◌, Bool, not, ◌&&◌, List, length, Option, Some, is_some}
 use Rattle.std.specs.Option.{option_map}
 use Rattle.op_handlers.specs.Marks.{Marks}
+use Rattle.op_handlers.specs.declared.call.Call.{Call}
 use Rattle.session_script.specs.Script.{ScriptModel}
 use Rattle.strand_core.specs.Hands.{HasRunMark, Held, held_at}
 use Rattle.strand_core.specs.Room.{room_for}
@@ -56,7 +57,7 @@ pub record HaveHands {H : Type 0} (names : SessionNames) (marks : H → Marks) (
   pub script : hands.script ≡ names.script
   pub held : (op : ℕ) → is_some (held_at hands op)
       ≡ (is_op_on names.script lane op && not (has_begun op (events_in entries)))
-  pub run : (op mark : ℕ) → HasRunMark marks hands op mark → IsNamedMark names op mark
+  pub run : (call : Call) (mark : ℕ) → HasRunMark marks hands call mark → IsNamedMark names call mark
   pub drop : (op mark : ℕ) →
       option_map (λ handler. (marks handler).drop) (held_at hands op) ≡ Some mark →
       mark ≡ names.drop op

@@ -64,16 +64,16 @@ looks_at script lane place (Some note) = looks_full lane place note
 abbrev pub left_labels : ℕ → ℕ → Note → Found → List Labelled
 left_labels lane place note load = looks_full lane place note ++ silent (Load load) ∷ []
 
--- the operation of the note at the next place executed
+-- the operation of the note at the next place executed, and its handler answered this mark
 pub record RanNext {H : Type 0} (marks : H → Marks) (op mark : ℕ) (old new : LaneView)
     (held left : Held H) : Type 0 where
   pub part : ExecutedPart
   pub it : part.note.op ≡ op
   pub at : part.place ≡ old.place
-  pub marked : HasRunMark marks held op mark
   pub going : part.load.stops ≡ old.base
   pub whole : IsWholeExecution held.script (HasRunMark marks held) part.note.op part.note.code
       part.note.size part.calls
+  pub answered : mark ≡ whole.mark
   pub drawn : AreDrawn held.script part.calls part.labels
   pub gone : HasGone (labels_in held.script old.lane (executed part)) old.pen new.pen
   pub moved : new ≡ place_on old new.pen

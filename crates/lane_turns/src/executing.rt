@@ -1,7 +1,6 @@
 //! One execution of a lane.
 ghost use Rattle.std.specs.Prelude.{◌≡◌, ◌-◌, ◌≤◌, [], vec_capacity, vec_len};
 ghost use Rattle.strand_core.specs.Answer.{CanExecute, TakesWhole};
-ghost use Rattle.strand_core.specs.Hands.{HasRunMark};
 ghost use Rattle.lane_turns.specs.Executing.{HasExecutedNoted};
 ghost use Rattle.lane_turns.specs.Polling.{most_made};
 ghost use Rattle.lane_turns.specs.Posting.{FitsClock, TakesNext};
@@ -49,8 +48,8 @@ fn execute_from<'a, H: CompletionHandler, S: PenStart>(
       spare = vec_capacity made - vec_len made;
     })) script.now note.op note.code note.size }
     ensures script { hands.new.script ≡ hands.old.script }
-    ensures executed { HasExecutedNoted H.marks note S.start result.pen hands.old hands.new }
-    ensures mark { HasRunMark H.marks hands.old note.op result.mark }
+    ensures executed { HasExecutedNoted H.marks note result.mark S.start result.pen hands.old
+        hands.new }
     ensures buffer { most_made script.now ≤ vec_capacity result.made }
 {
     let mut poster = LanePoster {
@@ -101,8 +100,7 @@ pub fn execute_noted<'a, H: CompletionHandler>(
       spare = vec_capacity made - vec_len made;
     })) script.now note.op note.code note.size }
     ensures script { hands.new.script ≡ hands.old.script }
-    ensures executed { HasExecutedNoted H.marks note pen result.pen hands.old hands.new }
-    ensures mark { HasRunMark H.marks hands.old note.op result.mark }
+    ensures executed { HasExecutedNoted H.marks note result.mark pen result.pen hands.old hands.new }
     ensures buffer { most_made script.now ≤ vec_capacity result.made }
 {
     execute_from::<H, Brand>(clock, script, map, pen, made, hands, note)

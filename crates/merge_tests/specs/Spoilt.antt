@@ -37,7 +37,7 @@ abbrev pub two_names : SessionNames
 two_names = record {
   script = two_postings;
   told = false;
-  run = λ op. 1000 + op;
+  run = λ op call. 1000 + op;
   drop = λ op. 1000 + op;
 }
 

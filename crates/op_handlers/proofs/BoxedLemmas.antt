@@ -6,7 +6,7 @@ use denote.Param.Object.{Made, read_made}
 use denote.Param.Members.{Mut}
 use borrow.Pointer.Called.{made_asks, made_tells}
 use borrow.Pointer.Entry.{sure}
-use Rattle.op_handlers.specs.Marks.{Marks}
+use Rattle.op_handlers.specs.Marks.{FixedMarks}
 use Rattle.op_handlers.specs.Job.{AnswersBy, answer}
 use Rattle.op_handlers.specs.declared.call.Spend.{Spend}
 use Rattle.op_handlers.specs.declared.call.Ran.{Ran}
@@ -17,7 +17,7 @@ Closures F = Mut F (Spend × Unit {0}) Ran
 
 module _ (T : Table Closures Dict) (e : Entry Closures Dict) (at : T.I) (same : e ≡ T.entry at) where
   -- the box y of a closure x that asks nothing, and answers by these marks alone
-  pub AnswersBy-boxed : (m : Marks) {i : T.I} {y : (T.entry i).0.Denot} {x : e.0.Denot}
+  pub AnswersBy-boxed : (m : FixedMarks) {i : T.I} {y : (T.entry i).0.Denot} {x : e.0.Denot}
       → Made (λ j. (T.entry j).0.coded.code) e.0.coded.code at i y x
       → ((s : Spend) → e.1.pre x (s, tt)) → ((s : Spend) (r : Ran) → e.1.post x (s, tt) r → r ≡ answer m s)
       → ((s : Spend) → e.1.post x (s, tt) (answer m s))

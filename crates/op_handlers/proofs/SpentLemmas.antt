@@ -1,8 +1,8 @@
 -- What the marks of a job say of its answers.
-use Rattle.std.proofs.Common.{◌≡◌}
+use Rattle.std.proofs.Common.{◌≡◌, ap}
 use Rattle.std.proofs.Props.{props}
 use Rattle.std.proofs.Math.Logic.{∥∥₁_elim}
-use Rattle.op_handlers.specs.Marks.{Marks}
+use Rattle.op_handlers.specs.Marks.{FixedMarks, fixed}
 use Rattle.op_handlers.specs.Job.{AnswersBy, AnswersMarks, IsSpend, answer, marks-unique, Marks-set}
 use Rattle.op_handlers.specs.declared.call.Spend.{Spend}
 use Rattle.op_handlers.specs.declared.call.Ran.{Ran}
@@ -16,6 +16,6 @@ pub answer-AnswersMarks : {pre : Spend → Type 0} {post : Spend → Ran → Typ
 answer-AnswersMarks h s r n p = ∥∥₁_elim h.1 (Ran-set r (answer h.0 s)) (λ a. a.only s r n p)
 
 -- the marks of a job are any by which it answers
-pub marks-AnswersMarks : {pre : Spend → Type 0} {post : Spend → Ran → Type 0} (h : AnswersMarks pre post) (m : Marks) →
-    AnswersBy pre post m → h.0 ≡ m
-marks-AnswersMarks h m b = ∥∥₁_elim h.1 (Marks-set h.0 m) (λ a. marks-unique h.0 m a b)
+pub marks-AnswersMarks : {pre : Spend → Type 0} {post : Spend → Ran → Type 0} (h : AnswersMarks pre post)
+    (m : FixedMarks) → AnswersBy pre post m → fixed h.0 ≡ fixed m
+marks-AnswersMarks h m b = ap fixed (∥∥₁_elim h.1 (Marks-set h.0 m) (λ a. marks-unique h.0 m a b))

@@ -8,14 +8,14 @@ use mathlib.Core.HLevel.{Σ_prop_path}
 use Rattle.asio_types.specs.Code.{class_of_code}
 use Rattle.asio_types.specs.declared.code.Class.TheVariants as class
 use Rattle.asio_types.specs.declared.code.Code.TheVariants as code
-use Rattle.op_handlers.specs.Marks.{Marks, marks_code}
+use Rattle.op_handlers.specs.Marks.{FixedMarks, marks_code}
 use Rattle.op_handlers.specs.declared.call.Spend.{Spend}
 use Rattle.op_handlers.specs.declared.call.Spend.TheVariants.{Execute, Discard}
 use Rattle.op_handlers.specs.declared.call.Ran.{Ran}
 
 -- what a job with these marks answers: executed, its run mark with the class of the code and the
 -- position of the begin; discarded, its drop mark
-abbrev pub answer : Marks → Spend → Ran
+abbrev pub answer : FixedMarks → Spend → Ran
 answer m (Execute c) = record { mark = m.run; class = class_of_code c.code; begun = c.begun }
 answer m Discard = record { mark = m.drop; class = class.Ok; begun = 0 }
 
@@ -26,21 +26,22 @@ IsSpend Discard = Unit {0}
 
 -- a job that may be called where `pre` holds, and may answer what `post` allows, has these marks:
 -- it may always be called, and it gives their answer and no other
-pub record AnswersBy (pre : Spend → Type 0) (post : Spend → Ran → Type 0) (m : Marks) : Type 0 where
+pub record AnswersBy (pre : Spend → Type 0) (post : Spend → Ran → Type 0) (m : FixedMarks)
+    : Type 0 where
   pub callable : (s : Spend) → IsSpend s → pre s
   pub only : (s : Spend) (r : Ran) → IsSpend s → post s r → r ≡ answer m s
   pub possible : (s : Spend) → IsSpend s → post s (answer m s)
 
 -- it has marks, and so one pair of them
 abbrev pub AnswersMarks : (Spend → Type 0) → (Spend → Ran → Type 0) → Type 0
-AnswersMarks pre post = (m : Marks) × ∥ AnswersBy pre post m ∥₁
+AnswersMarks pre post = (m : FixedMarks) × ∥ AnswersBy pre post m ∥₁
 
 -- a way to execute a handler
 abbrev first_call : Spend
 first_call = Execute (record { op = 0; code = code.Ok; size = 0; begun = 0 })
 
 -- no job has two pairs of marks
-pub marks-unique : {pre : Spend → Type 0} {post : Spend → Ran → Type 0} (m n : Marks) →
+pub marks-unique : {pre : Spend → Type 0} {post : Spend → Ran → Type 0} (m n : FixedMarks) →
     AnswersBy pre post m → AnswersBy pre post n → m ≡ n
 marks-unique m n a b =
     let c : IsSpend first_call = (lit< tt, lit< tt, lit< tt) in
@@ -49,7 +50,7 @@ marks-unique m n a b =
     λ i. record { run = run i; drop = drop i }
 
 -- two pairs of marks are equal in one way at most
-pub Marks-set : (m n : Marks) → IsProp (m ≡ n)
+pub Marks-set : (m n : FixedMarks) → IsProp (m ≡ n)
 Marks-set = Coded-set marks_code
 
 -- so a type may keep it as a fact

@@ -14,13 +14,13 @@ use crate::handler::Handler;
 /// ```rust
 /// impl<'a> CompletionHandler for Counter<'a> {
 /// ..
-///     ghost marks = { λ h. record { run = h.number; drop = h.number } };
+///     ghost marks = { λ h. record { run = told_mark h.number; drop = h.number } };
 /// ..
 ///     fn call(self, call: Call) -> Ran {
 ///         let Counter { number, sum } = self;
 /// ..
 ///         Ran {
-///             mark: u64::from(number),
+///             mark: mark_told(number, call),
 ///             class: class_of(call.code),
 ///             begun: call.begun,
 ///         }
@@ -32,12 +32,12 @@ use crate::handler::Handler;
 ///     }
 /// ```
 pub trait CompletionHandler {
-    /// The run mark and the drop mark.
+    /// The run mark, by the call that it gets, and the drop mark.
     ghost marks: { Self → Marks };
 
     /// Executes the handler.
     fn call(self, call: Call) -> Ran
-        ensures mark { result.mark ≡ (marks self).run }
+        ensures mark { result.mark ≡ (marks self).run call }
         ensures class { result.class ≡ class_of_code call.code }
         ensures begun { result.begun ≡ call.begun };
 

@@ -4,18 +4,22 @@ use Rattle.std.specs.Prelude.{Contains, None, Some}
 use Rattle.std.specs.List.{list_any}
 use Rattle.std.specs.Fmt.{decimal}
 use Rattle.std.proofs.lemmas.Fmt.{decimal_injective}
+use Rattle.asio_types.specs.declared.code.Code.{Code}
 use Rattle.asio_types.specs.declared.event.Event.{Event}
 use Rattle.asio_types.specs.declared.event.Event.TheVariants as event
-use Rattle.op_handlers.specs.Marks.{Marks}
+use Rattle.op_handlers.specs.Marks.{Marks, call_of, own_marks}
+use Rattle.op_handlers.specs.declared.call.Call.{Call}
 use Rattle.generated_session.specs.PlainSummary.{SummariesArePlain, plain_summary}
 use Rattle.generated_session.specs.Summary.{summary_of}
 use Rattle.session_run.specs.Answer.{Does, Says}
 use Rattle.session_run.specs.Form.{IsForm, IsGen}
 use Rattle.history_rules.specs.FromOutside.{is_fault, is_outside_stop}
 use Rattle.history_rules.specs.Legal.{IsLegal}
+use Rattle.history_rules.specs.Marks.{HasMarks}
+use Rattle.execution_laws.specs.Marks.{AreMarked, BeginsAt, IsToldMark}
 use Rattle.session_run.specs.Given.{Given, tells_bytes}
 use Rattle.session_run.specs.Origin.{HasOrigin}
-use Rattle.session_run.specs.RackMarks.{drop_mark, rack_run_mark}
+use Rattle.session_run.specs.RackMarks.{HasFixedRuns, drop_mark, rack_run_mark}
 use Rattle.session_run.specs.Run.{ShowsNoFault}
 use Rattle.session_run.specs.declared.form.Form.{Form}
 use Rattle.session_run.specs.declared.form.Form.TheVariants as forms
@@ -82,36 +86,50 @@ same_numbers start size other_start other_size words first second =
           other_size (omega (arith, first.1)) (omega (arith, second.1)) seconds,
     )
 
+-- the marks of handlers that have one run mark each
+fixed_marks : (run : ℕ → Call → ℕ) (one drop : ℕ → ℕ) (Begins : ℕ → Code → ℕ → ℕ → Type 0)
+    → ((n : ℕ) (call : Call) → run n call ≡ one n) → (events : List Event)
+    → AreMarked (IsToldMark (own_marks run) Begins) drop events → HasMarks one drop events
+fixed_marks run one drop Begins fixed [] all = tt
+fixed_marks run one drop Begins fixed (event.End o mark ∷ events) all = (
+  all.0.is ∙ fixed o (call_of o all.0.code all.0.size all.0.begun),
+  fixed_marks run one drop Begins fixed events all.1,
+)
+fixed_marks run one drop Begins fixed (event.Dropped o mark ∷ events) all =
+    (all.0, fixed_marks run one drop Begins fixed events all.1)
+fixed_marks run one drop Begins fixed (other ∷ events) all = (tt, fixed_marks run one drop Begins fixed events all.1)
+
 -- what was written of the session that two numbers made, where all went well
 plain_done : {H : Type 0} (marks : H → Marks) (given : Given H) (note : List ℕ) → Says marks given status.Done note
-    → SummariesArePlain → (start size : ℕ) → IsGen given.words start size
-    → Writes given.out (plain_summary start size (rack_run_mark marks given.rack_before))
-plain_done marks given note said law start size words = by_form said.0.form said.0.words said.0.origin said.0.work
+    → SummariesArePlain → (start size : ℕ) → IsGen given.words start size → (run : ℕ → ℕ)
+    → HasFixedRuns marks given.rack_before run → Writes given.out (plain_summary start size run)
+plain_done marks given note said law start size words run fixed =
+    by_form said.0.form said.0.words said.0.origin said.0.work
   where
     by_form : (form : Form) → IsForm given.words form → HasOrigin form given.source said.0.script
         → Does form marks said.0.script given.reactor given.rack_before given.rack_after ShowsNoFault (Writes given.out)
-        → Writes given.out (plain_summary start size (rack_run_mark marks given.rack_before))
+        → Writes given.out (plain_summary start size run)
     by_form forms.Run named origin work = absurd (cc (named.0, words.0))
     by_form forms.Net named origin work = absurd (cc (named.0, words.0))
     by_form forms.Upgrade named origin work = absurd (cc (named.0, words.0))
-    by_form (forms.Gen first second) named origin (events, run, quiet, wrote) =
+    by_form (forms.Gen first second) named origin (events, ran, quiet, wrote) =
         let same = same_numbers first second start size given.words named words in
-        let legal = subst (λ script. IsLegal script (tells_bytes given.reactor) events) origin run.legal in
-        let plain : summary_of first second events
-        ≡ plain_summary first second (rack_run_mark marks given.rack_before) =
+        let legal = subst (λ script. IsLegal script (tells_bytes given.reactor) events) origin ran.legal in
+        let plain : summary_of first second events ≡ plain_summary first second run =
         law first second (named.1.2) (tells_bytes given.reactor) events legal
         (none_passes is_fault event.Fault only_fault events quiet)
-        (none_passes is_outside_stop (event.Stop None) only_outside events run.unstopped)
-        (rack_run_mark marks given.rack_before) (drop_mark marks given.rack_before) run.marked in
-        let both : plain_summary first second (rack_run_mark marks given.rack_before) ≡ plain_summary start size
-        (rack_run_mark marks given.rack_before) =
-        λ i. plain_summary (same.0 i) (same.1 i) (rack_run_mark marks given.rack_before) in
+        (none_passes is_outside_stop (event.Stop None) only_outside events ran.unstopped) run
+        (drop_mark marks given.rack_before)
+        (fixed_marks (rack_run_mark marks given.rack_before) run (drop_mark marks given.rack_before) (BeginsAt events) fixed
+        events ran.marked) in
+        let both : plain_summary first second run ≡ plain_summary start size run =
+        λ i. plain_summary (same.0 i) (same.1 i) run in
         subst (Writes given.out) (plain ∙ both) wrote
 
 -- the same of an answer that is status 0
 pub plain_of : {H : Type 0} (marks : H → Marks) (given : Given H) (answer : Status) (note : List ℕ)
     → Says marks given answer note → answer ≡ status.Done → SummariesArePlain → (start size : ℕ)
-    → IsGen given.words start size
-    → Writes given.out (plain_summary start size (rack_run_mark marks given.rack_before))
+    → IsGen given.words start size → (run : ℕ → ℕ) → HasFixedRuns marks given.rack_before run
+    → Writes given.out (plain_summary start size run)
 plain_of marks given answer note said done law start size words =
     plain_done marks given note (subst (λ one. Says marks given one note) done said) law start size words

@@ -14,15 +14,14 @@ use Rattle.op_handlers.specs.Rack.{drop_marks, handler_at, handlers_in}
 use Rattle.op_handlers.specs.declared.rack.Rack.{Rack}
 use Rattle.op_handlers.proofs.DiscardLemmas.{by_numbers}
 use Rattle.strand_core.specs.Hands.{left_at}
-use Rattle.session_run.specs.RackMarks.{drop_mark, drop_marks_but, mark_by}
+use Rattle.session_run.specs.RackMarks.{drop_mark, drop_marks_but}
 
 module _ {H : Type 0} (marks : H → Marks) where
   -- what is left of a handler that may be spared
   left_mark : (spared : Bool) (handler : Option H) →
-      drop_mark_of marks (left_at spared handler) ≡ (if spared then 0 else mark_by (λ m. m.drop) marks handler)
+      drop_mark_of marks (left_at spared handler) ≡ (if spared then 0 else drop_mark_of marks handler)
   left_mark true handler = refl
-  left_mark false None = refl
-  left_mark false (Some handler) = refl
+  left_mark false handler = refl
 
   -- where a rack of the same size has what isn't spared
   pub marks_left : (spared : ℕ → Bool) (old made : Rack H) →

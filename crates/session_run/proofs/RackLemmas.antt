@@ -4,10 +4,11 @@ use Rattle.std.specs.Option.{option_flatten, option_map}
 use Rattle.std.specs.Prelude.{slice_get}
 use Rattle.std.proofs.lemmas.Option.{slice_get-get_or}
 use Rattle.session_script.specs.Script.{ScriptModel, is_op}
-use Rattle.op_handlers.specs.Marks.{Marks}
+use Rattle.op_handlers.specs.Marks.{Marks, drop_mark_of}
 use Rattle.op_handlers.specs.Rack.{AllTaken, IsWholeRack, handler_at, handlers_in}
+use Rattle.op_handlers.specs.declared.call.Call.{Call}
 use Rattle.op_handlers.specs.declared.rack.Rack.{Rack}
-use Rattle.session_run.specs.RackMarks.{drop_mark, mark_by, rack_run_mark}
+use Rattle.session_run.specs.RackMarks.{drop_mark, rack_run_mark, run_mark_of}
 
 -- the number of an operation is that of an act
 op_within : (script : ScriptModel) (n : ℕ) → is_op script n ≡ true → n < length script.acts
@@ -21,7 +22,7 @@ op_within script n = within script.acts n
 -- a handler that is there has its two marks
 marks_of_some : {H : Type 0} (marks : H → Marks) (handler : Option H) → IsSome handler
     → option_map marks handler
-    ≡ Some (record { run = mark_by (λ m. m.run) marks handler; drop = mark_by (λ m. m.drop) marks handler })
+    ≡ Some (record { run = run_mark_of marks handler; drop = drop_mark_of marks handler })
 marks_of_some marks None is = cc is
 marks_of_some marks (Some handler) is = refl
 
@@ -33,7 +34,8 @@ has_handler script rack whole long n is =
     subst IsSome (sym (ap option_flatten (slice_get-get_or (handlers_in rack) n None within))) (whole n None within)
 
 -- each operation of a script has the marks that a whole rack names for its handler
-pub named_marks : {H : Type 0} (marks : H → Marks) (script : ScriptModel) (rack : Rack H) (run drop : ℕ → ℕ)
+pub named_marks : {H : Type 0} (marks : H → Marks) (script : ScriptModel) (rack : Rack H) (run : ℕ → Call → ℕ)
+    (drop : ℕ → ℕ)
     → run ≡ rack_run_mark marks rack → drop ≡ drop_mark marks rack → IsWholeRack rack
     → length script.acts ≤ length (handlers_in rack)
     → (n : ℕ) → is_op script n ≡ true

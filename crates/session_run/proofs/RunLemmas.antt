@@ -14,6 +14,7 @@ use Rattle.execution_laws.specs.Finished.{IsFinished}
 use Rattle.execution_laws.specs.LetGo.{is_initiated}
 use Rattle.history_rules.specs.Legal.{IsLegal, state_of}
 use Rattle.history_rules.specs.State.{State}
+use Rattle.op_handlers.specs.declared.call.Call.{Call}
 use Rattle.op_handlers.specs.Marks.{Marks}
 use Rattle.op_handlers.specs.Rack.{AllTaken, let_go_of}
 use Rattle.op_handlers.specs.declared.rack.Rack.{Rack}
@@ -75,7 +76,7 @@ run_of marks script told before after events state first outside old new spent l
     }
 
 -- and so is its promise, whatever else comes back
-pub promised : {X E : Type 0} (script : ScriptModel) (told : Bool) (run drop : ℕ → ℕ) (before : ℕ) (after : X → ℕ)
+pub promised : {X E : Type 0} (script : ScriptModel) (told : Bool) (run : ℕ → Call → ℕ) (drop : ℕ → ℕ) (before : ℕ) (after : X → ℕ)
     (events : X → List Event) (state : X → ReactorState) (outside : X → Option Outside) (r : Result X E) →
     IsWellFormed script →
     IfOk r (λ ran. IsFinished script told run drop false before (after ran) (events ran) (state ran) (outside ran)) →

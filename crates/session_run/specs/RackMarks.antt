@@ -1,22 +1,27 @@
 -- The marks that the handlers of a rack have.
-use Rattle.std.specs.Prelude.{ℕ, Bool, Option, Some, None, length, if◌then◌else◌}
+use Rattle.std.specs.Prelude.{◌≡◌, ℕ, Bool, Option, Some, None, length, if◌then◌else◌}
 use Rattle.std.specs.List.{range_with_len, sum_by}
-use Rattle.op_handlers.specs.Marks.{Marks}
+use Rattle.op_handlers.specs.Marks.{Marks, drop_mark_of}
 use Rattle.op_handlers.specs.Rack.{handler_at, handlers_in}
+use Rattle.op_handlers.specs.declared.call.Call.{Call}
 use Rattle.op_handlers.specs.declared.rack.Rack.{Rack}
 
--- a mark of the handler, where there is one
-abbrev pub mark_by : {H : Type 0} → (Marks → ℕ) → (H → Marks) → Option H → ℕ
-mark_by pick marks None = 0
-mark_by pick marks (Some handler) = pick (marks handler)
+-- the run mark of a handler, by what it is called with, where there is one
+abbrev pub run_mark_of : {H : Type 0} → (H → Marks) → Option H → Call → ℕ
+run_mark_of marks None = λ call. 0
+run_mark_of marks (Some handler) = (marks handler).run
 
--- the run mark of the handler with a number
-abbrev pub rack_run_mark : {H : Type 0} → (H → Marks) → Rack H → ℕ → ℕ
-rack_run_mark marks rack n = mark_by (λ m. m.run) marks (handler_at rack n)
+-- the run mark of the handler with a number, by what it is called with
+abbrev pub rack_run_mark : {H : Type 0} → (H → Marks) → Rack H → ℕ → Call → ℕ
+rack_run_mark marks rack n = run_mark_of marks (handler_at rack n)
+
+-- each handler has one run mark whatever it is called with
+abbrev pub HasFixedRuns : {H : Type 0} → (H → Marks) → Rack H → (ℕ → ℕ) → Type 0
+HasFixedRuns marks rack run = (n : ℕ) (call : Call) → rack_run_mark marks rack n call ≡ run n
 
 -- the drop mark of the handler with a number
 abbrev pub drop_mark : {H : Type 0} → (H → Marks) → Rack H → ℕ → ℕ
-drop_mark marks rack n = mark_by (λ m. m.drop) marks (handler_at rack n)
+drop_mark marks rack n = drop_mark_of marks (handler_at rack n)
 
 -- the sum of the drop marks of the handlers of a rack, but for those whose numbers are spared
 abbrev pub drop_marks_but : {H : Type 0} → (H → Marks) → (ℕ → Bool) → Rack H → ℕ

@@ -8,9 +8,9 @@ use Rattle.execution_laws.specs.LetGo.{is_initiated}
 use Rattle.history_book.specs.Trace.{AreEvents}
 use Rattle.history_laws.specs.Promise.{KeepsPromise}
 use Rattle.history_rules.specs.Legal.{IsLegal, state_of}
-use Rattle.history_rules.specs.Marks.{HasMarks}
+use Rattle.execution_laws.specs.Marks.{HasToldMarks}
 use Rattle.history_rules.specs.State.{State}
-use Rattle.op_handlers.specs.Marks.{Marks}
+use Rattle.op_handlers.specs.Marks.{Marks, own_marks}
 use Rattle.op_handlers.specs.Rack.{AllTaken, let_go_of}
 use Rattle.op_handlers.specs.declared.rack.Rack.{Rack}
 use Rattle.session_run.specs.Given.{SeenReactor, tells_bytes}
@@ -40,8 +40,8 @@ pub record IsRunOf {H : Type 0} (marks : H → Marks) (script : ScriptModel) (re
   pub promise : KeepsPromise script (tells_bytes reactor) events
   -- their numbers fit their types, so that a trace of them fixes them
   pub numbers : AreEvents events
-  -- the events show the marks that the handlers had
-  pub marked : HasMarks (rack_run_mark marks old) (drop_mark marks old) events
+  -- the events show the marks that the handlers had, each called as its begin says
+  pub marked : HasToldMarks (own_marks (rack_run_mark marks old)) (drop_mark marks old) events
   -- every handler was spent
   pub spent : AllTaken old new
   -- every handler whose operation was never initiated was destroyed without a call

@@ -9,7 +9,7 @@ use Rattle.op_handlers.specs.Rack.{handlers_in}
 use Rattle.session_run.specs.Answer.{Answers, CountsReactor, CountsReads, CountsWrites, LeavesAll}
 use Rattle.session_run.specs.Form.{IsGen, IsUpgrade, Reads}
 use Rattle.session_run.specs.Given.{Given}
-use Rattle.session_run.specs.RackMarks.{rack_run_mark}
+use Rattle.session_run.specs.RackMarks.{HasFixedRuns}
 use Rattle.session_run.specs.declared.status.Status.{Status}
 use Rattle.session_run.specs.declared.status.Status.TheVariants as status
 use Rattle.text_io.specs.Counts.{Stood}
@@ -43,6 +43,8 @@ pub record IsSession {H : Type 0} (marks : H → Marks) (given : Given H) (notes
       (answer ≡ status.Done) ⊎ (answer ≡ status.NoMemory)
   pub complete_gen : (start size : ℕ) → IsGen given.words start size → Undisturbed given →
       (answer ≡ status.Done) ⊎ (answer ≡ status.NoMemory)
-  -- the summary of a session that numbers made is the same at each run
+  -- the summary of a session that numbers made is the same at each run, where each handler has one run
+  -- mark whatever it is called with; else its sum is the one that the history shows
   pub plain : (start size : ℕ) → IsGen given.words start size → answer ≡ status.Done →
-      Writes given.out (plain_summary start size (rack_run_mark marks given.rack_before))
+      (run : ℕ → ℕ) → HasFixedRuns marks given.rack_before run →
+      Writes given.out (plain_summary start size run)

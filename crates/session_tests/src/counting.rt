@@ -73,7 +73,7 @@ pub(crate) struct Counting<'a> {
 }
 
 impl<'a> CompletionHandler for Counting<'a> {
-    ghost marks = { λ h. record { run = h.number; drop = h.number } };
+    ghost marks = { λ h. record { run = λ _. h.number; drop = h.number } };
 
     fn call(self, call: Call) -> Ran {
         let Counting { number, executions } = self;

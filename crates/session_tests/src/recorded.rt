@@ -29,6 +29,7 @@ const FROM_7: Marks = Marks {
     run_step: 1,
     drop: 7,
     drop_step: 1,
+    tells: false,
 };
 
 #[test]

@@ -53,7 +53,7 @@ struct Noting<'a> {
 }
 
 impl<'a> CompletionHandler for Noting<'a> {
-    ghost marks = { λ h. record { run = h.number; drop = h.number } };
+    ghost marks = { λ h. record { run = λ _. h.number; drop = h.number } };
 
     fn call(self, call: op_handlers::Call) -> Ran {
         let Noting { number, last } = self;

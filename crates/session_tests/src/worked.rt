@@ -1,7 +1,7 @@
 //! Worked sessions: each of these scripts has one text that its trace may be, or some of which each
 //! is legal.
 
-use crate::marked::{Marks, PLAIN};
+use crate::marked::{Marks, PLAIN, TELLING};
 use crate::sessions::{BOTH, Call, is_legal, left_by, ran_well, writes, writes_by};
 use crate::wanted::{MEMORY, has, is_bytes, is_text, lacks, lines};
 use std::alloc::Global;
@@ -22,6 +22,30 @@ fn one_worker_goes_first_where_work_was_put_first(rt: HostRuntime) {
         writes_by(&rt, rt.alloc(), Call::Asio, script, PLAIN, IN_THEIR_ORDER);
     }
 }
+
+#[test]
+fn each_handler_is_called_with_what_its_begin_says(rt: HostRuntime) {
+    for &(script, trace) in TOLD {
+        writes(&rt, rt.alloc(), script, TELLING, trace);
+    }
+}
+
+/// The marks tell of each call its operation, the size, 1 where it was cancelled, and at which
+/// event it began.
+const TOLD: &[(&str, &str)] = &[
+    (
+        "session 1 strands 1 open { post 0 { dispatch 0 { } } } run 2",
+        "call 0 / back 0 / begin 0 ok 0 / call 1 / begin 1 ok 0 / end 1 100004 / back 1 / end 0 2 / ended",
+    ),
+    (
+        "session 1 slots 1 streams 1 at 4 feed 0 x6162 open { emit 0 1 read 0 2 - 0 { } emit 0 4 } run 1",
+        "call 0 / back 0 / call 1 / back 1 / call 2 / back 2 / take 0 / take 1 / take 2 / tick 4 / done 1 ok 2 / begin 1 ok 2 / end 1 102011 / ended",
+    ),
+    (
+        "session 1 slots 1 streams 1 at 4 feed 0 x6162 open { emit 0 1 read 0 2 - 0 { } emit 0 2 } run 1",
+        "call 0 / back 0 / call 1 / back 1 / call 2 / back 2 / take 0 / take 1 / take 2 / done 1 aborted 0 / begin 1 aborted 0 / end 1 100110 / ended",
+    ),
+];
 
 /// A handler posts to two strands: to the second one first, or to the first one.
 const PUT: &[&str] = &[
@@ -159,6 +183,7 @@ const APART: Marks = Marks {
     run_step: 2,
     drop: 70,
     drop_step: 20,
+    tells: false,
 };
 
 const SAME: Marks = Marks {
@@ -166,6 +191,7 @@ const SAME: Marks = Marks {
     run_step: 0,
     drop: 2,
     drop_step: 0,
+    tells: false,
 };
 
 /// Scripts with the marks of their handlers, and lines that show them.

@@ -3,6 +3,7 @@ use Rattle.std.proofs.Common.{◌≡◌, ℕ, ◌<◌, ◌≤◌, Bool, true, Li
 use Rattle.asio_types.specs.declared.code.Class.{Class}
 use Rattle.asio_types.specs.declared.code.Class.TheVariants as class
 use Rattle.asio_types.specs.declared.code.Code.TheVariants as code
+use Rattle.op_handlers.specs.declared.call.Call.{Call}
 use Rattle.session_script.specs.Script.{ScriptModel, branch_of, parent_of}
 use Rattle.session_script.specs.Lanes.{is_inline}
 use Rattle.session_script.specs.WellFormed.{HasParent}
@@ -84,7 +85,7 @@ module _ (script : ScriptModel) (ordered : IsOrdered script) where
       one_under op a b c d one other under
       (subst (IsUnder b) (sym (same_parent n n p q class class2 refl is at)) beneath)
 
-  module _ (P : ℕ → ℕ → Type 0) where
+  module _ (P : Call → ℕ → Type 0) where
     pub record Begun (acts : List ℕ) (n : ℕ) : Type 0 where
       pub act : ℕ
       pub among : Among act acts

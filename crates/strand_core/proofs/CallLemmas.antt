@@ -3,6 +3,7 @@ use Rattle.std.proofs.Common.{◌≡◌, ℕ, cond, List, [], ◌∷◌, ◌++�
 use Rattle.std.specs.Prelude.{◌==◌}
 use Rattle.std.proofs.lemmas.List.{append_assoc}
 use Rattle.asio_types.specs.declared.code.Code.TheVariants as code
+use Rattle.op_handlers.specs.declared.call.Call.{Call}
 use Rattle.session_script.specs.Script.{ScriptModel}
 use Rattle.strand_core.specs.Execution.{AreCalls, no_act, outside, inside, execution_of}
 use Rattle.strand_core.specs.Hands.{begins_among, left_at}
@@ -11,7 +12,7 @@ use Rattle.strand_core.specs.declared.posted.Posted.TheVariants as posted
 
 module _ (script : ScriptModel) where
   -- marks that are known for another reason
-  pub with_marks : (P Q : ℕ → ℕ → Type 0) → ((op mark : ℕ) → P op mark → Q op mark) →
+  pub with_marks : (P Q : Call → ℕ → Type 0) → ((call : Call) (mark : ℕ) → P call mark → Q call mark) →
       {acts : List ℕ} {calls : List Posted} → AreCalls script P acts calls → AreCalls script Q acts calls
   with_marks P Q f no_act = no_act
   with_marks P Q f (outside is more) = outside is (with_marks P Q f more)
@@ -19,7 +20,7 @@ module _ (script : ScriptModel) where
       inside is (f _ _ marked) (with_marks P Q f body) (with_marks P Q f more)
 
   -- acts after acts
-  pub calls-append : (P : ℕ → ℕ → Type 0) {some more : List ℕ} {xs ys : List Posted} → AreCalls script P some xs →
+  pub calls-append : (P : Call → ℕ → Type 0) {some more : List ℕ} {xs ys : List Posted} → AreCalls script P some xs →
       AreCalls script P more ys → AreCalls script P (some ++ more) (xs ++ ys)
   calls-append P no_act second = second
   calls-append P (outside is first) second = outside is (calls-append P first second)

@@ -9,6 +9,7 @@ use Rattle.asio_types.specs.declared.code.Class.TheVariants as class
 use Rattle.asio_types.specs.declared.code.Code.{Code}
 use Rattle.asio_types.specs.declared.code.Code.TheVariants as code
 use Rattle.asio_types.specs.declared.event.Event.TheVariants as event
+use Rattle.op_handlers.specs.declared.call.Call.{Call}
 use Rattle.session_script.specs.Script.{ScriptModel, branch_of, stops}
 use Rattle.strand_core.specs.Execution.{AnyMark, AreCalls, IsWholeExecution, no_act, outside, inside, events_of, execution_of}
 use Rattle.strand_core.specs.Room.{begun_in, shown_by_handler, shown_in}
@@ -71,7 +72,7 @@ branch_shown script op class.Ok = omega arith
 branch_shown script op class.Abort = omega arith
 branch_shown script op class.Other = omega arith
 
-module _ (script : ScriptModel) (P : ℕ → ℕ → Type 0) where
+module _ (script : ScriptModel) (P : Call → ℕ → Type 0) where
   abbrev shown : ℕ → ℕ
   shown act = 2 + (if stops script act then 1 else 0)
 

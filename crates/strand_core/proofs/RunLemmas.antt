@@ -9,7 +9,8 @@ use Rattle.asio_types.specs.declared.code.Class.{Class}
 use Rattle.asio_types.specs.declared.code.Class.TheVariants as class
 use Rattle.asio_types.specs.declared.code.Code.{Code}
 use Rattle.asio_types.specs.declared.code.Code.TheVariants as codes
-use Rattle.op_handlers.specs.Marks.{Marks}
+use Rattle.op_handlers.specs.Marks.{Marks, call_of}
+use Rattle.op_handlers.specs.declared.call.Call.{Call}
 use Rattle.op_handlers.specs.declared.call.Ran.{Ran}
 use Rattle.session_script.specs.Script.{Place, ScriptModel, branch_of, parent_of}
 use Rattle.session_script.specs.Lanes.{is_inline}
@@ -51,10 +52,11 @@ made_with now taken next act calls made more U V is_taken same itself did = reco
 }
 
 -- the mark of a handler that was left
-pub mark_left : {H : Type 0} (marks : H → Marks) (old now : Held H) (op mark : ℕ) (b : Bool) →
-    held_at now op ≡ left_at b (held_at old op) → HasRunMark marks now op mark → HasRunMark marks old op mark
-mark_left marks old now op mark true is marked = absurd (cc (ap (option_map (λ h. (marks h).run)) is, marked))
-mark_left marks old now op mark false is marked = ap (option_map (λ h. (marks h).run)) (sym is) ∙ marked
+pub mark_left : {H : Type 0} (marks : H → Marks) (old now : Held H) (call : Call) (mark : ℕ) (b : Bool) →
+    held_at now call.op ≡ left_at b (held_at old call.op) → HasRunMark marks now call mark →
+    HasRunMark marks old call mark
+mark_left marks old now call mark true is marked = absurd (cc (ap (option_map (λ h. (marks h).run call)) is, marked))
+mark_left marks old now call mark false is marked = ap (option_map (λ h. (marks h).run call)) (sym is) ∙ marked
 
 -- what is taken next, whatever the marks, where the body of a handler was executed up to its i-th act
 pub takes_rest : {H : Type 0} {script : ScriptModel} {marks : H → Marks} {op : ℕ} {code : Code} {size begun i : ℕ}
@@ -139,11 +141,12 @@ module _ {H : Type 0} {script : ScriptModel} {marks : H → Marks} {op : ℕ} {c
       (takes_rest here.far takes (posted.Call act ∷ (inner ++ posted.Back act ∷ rest.0)) acts 0))
 
   -- what is taken after the inner execution
-  pub takes_back : TakesWhole T script op code size → is_inline script act ≡ true → (mark : ℕ) (taken next : Held H) →
+  pub takes_back : TakesWhole T script op code size → is_inline script act ≡ true → {answers : Call → ℕ} (mark : ℕ)
+      (taken next : Held H) →
       taken.script ≡ now.script → (called ended : List Posted) (V W : List Posted → Type 0) →
       ((rest : List Posted) → U (posted.Call act ∷ rest) → V rest) →
-      HasRun marks mark act codes.Ok 0 taken next called ended V W → W (posted.Back act ∷ further)
-  takes_back takes is_in mark taken next same called ended V W after_call ran =
+      HasRun marks answers mark act codes.Ok 0 taken next called ended V W → W (posted.Back act ∷ further)
+  takes_back takes is_in {answers} mark taken next same called ended V W after_call ran =
       let calls : List Posted = execution_of act codes.Ok 0 ran.begun mark ran.body in
       let acts : AreCalls script AnyMark (branch_of script act class.Ok) ran.body =
       with_marks script (HasRunMark marks taken) AnyMark (λ o m known. tt)
@@ -198,19 +201,20 @@ module _ {H : Type 0} {script : ScriptModel} {marks : H → Marks} {op : ℕ} {c
       let begun_is : begins_among op (posted.Begin op code size begun ∷ here.far.done) ≡ true = rw (eq-eqb op op refl) refl in
       ap (held_at now) (sym number) ∙ here.far.did.spent op ∙ ap (λ b. left_at b (held_at old op)) begun_is
 
-  mark_before : (taken : Held H) → taken.handlers ≡ slice_set now.handlers act None → (o mark : ℕ) →
-      HasRunMark marks taken o mark → HasRunMark marks old o mark
-  mark_before taken is_taken o mark marked =
-      elim (same_or_not act o) [
+  mark_before : (taken : Held H) → taken.handlers ≡ slice_set now.handlers act None → (call : Call) (mark : ℕ) →
+      HasRunMark marks taken call mark → HasRunMark marks old call mark
+  mark_before taken is_taken call mark marked =
+      elim (same_or_not act call.op) [
         | inl same ↦
-            absurd (let none : held_at taken o ≡ None =
-            ap (λ hs. in_list hs o) is_taken ∙ ap (in_list (slice_set now.handlers act None)) (sym same)
+            absurd (let none : held_at taken call.op ≡ None =
+            ap (λ hs. in_list hs call.op) is_taken ∙ ap (in_list (slice_set now.handlers act None)) (sym same)
             ∙ taken_same now.handlers act in
-            cc (ap (option_map (λ h. (marks h).run)) none, marked))
+            cc (ap (option_map (λ h. (marks h).run call)) none, marked))
         | inr differ ↦
-            mark_left marks old now o mark (begins_among o (posted.Begin op code size begun ∷ here.far.done))
-            (here.far.did.spent o) (ap (option_map (λ h. (marks h).run))
-            (sym (ap (λ hs. in_list hs o) is_taken ∙ taken_other now.handlers act o differ)) ∙ marked)
+            mark_left marks old now call mark
+            (begins_among call.op (posted.Begin op code size begun ∷ here.far.done)) (here.far.did.spent call.op)
+            (ap (option_map (λ h. (marks h).run call))
+            (sym (ap (λ hs. in_list hs call.op) is_taken ∙ taken_other now.handlers act call.op differ)) ∙ marked)
       ]
 
   -- the act was called and is back
@@ -226,21 +230,21 @@ module _ {H : Type 0} {script : ScriptModel} {marks : H → Marks} {op : ℕ} {c
 
   -- and between it executed
   pub inside_more : is_inline script act ≡ true → (mark : ℕ) (inner : H) → held_at now act ≡ Some inner →
-      mark ≡ (marks inner).run → (taken next : Held H) → taken.handlers ≡ slice_set now.handlers act None →
-      taken.script ≡ now.script → (called ended more : List Posted) (V W X : List Posted → Type 0) →
+      (taken next : Held H) → taken.handlers ≡ slice_set now.handlers act None → taken.script ≡ now.script → (called ended more : List Posted) (V W X : List Posted → Type 0) →
       HasMade (posted.Call act ∷ []) now now made called U V →
-      HasRun marks mark act codes.Ok 0 taken next called ended V W →
+      HasRun marks (marks inner).run mark act codes.Ok 0 taken next called ended V W →
       HasMade (posted.Back act ∷ []) next next ended more W X →
       BodyTo script marks op code size begun (branch_of script op (class_of_code code)) (i + 1) old next old_made more T
       X
-  inside_more is_in mark inner there is_mark taken next is_taken same called ended more V W X first ran last =
+  inside_more is_in mark inner there taken next is_taken same called ended more V W X first ran last =
       let calls : List Posted = execution_of act codes.Ok 0 ran.begun mark ran.body in
       let itself : begins_among act calls ≡ true = rw (eq-eqb act act refl) refl in
       let script_is : taken.script ≡ script = same ∙ here.far.did.script ∙ here.same_script in
       let body : AreCalls script (HasRunMark marks taken) (branch_of script act class.Ok) ran.body =
       subst (λ (s : ScriptModel). AreCalls s (HasRunMark marks taken) (branch_of s act class.Ok) ran.body) script_is ran.acts in
-      let marked : HasRunMark marks old act mark =
-      ap (option_map (λ h. (marks h).run)) (sym still_held ∙ there) ∙ ap Some (sym is_mark) in
+      let call : Call = call_of act codes.Ok 0 ran.begun in
+      let marked : HasRunMark marks old call mark =
+      ap (option_map (λ h. (marks h).run call)) (sym still_held ∙ there) ∙ ap Some (sym ran.answered) in
       let acts : AreCalls script (HasRunMark marks old) (act ∷ []) (posted.Call act ∷ (calls ++ posted.Back act ∷ [])) =
       inside is_in marked
       (with_marks script (HasRunMark marks taken) (HasRunMark marks old) (mark_before taken is_taken) body) no_act in
@@ -253,15 +257,16 @@ module _ {H : Type 0} {script : ScriptModel} {marks : H → Marks} {op : ℕ} {c
       did here.far
 
 -- the body is whole, and its end was made
-pub whole_run : {H : Type 0} (script : ScriptModel) (marks : H → Marks) (op : ℕ) (code : Code) (size begun mark i : ℕ)
+pub whole_run : {H : Type 0} (script : ScriptModel) (marks : H → Marks) (answers : Call → ℕ) (op : ℕ) (code : Code) (size begun mark i : ℕ)
     (old now : Held H) (old_made made more : List Posted) (T U V : List Posted → Type 0) → old.script ≡ script →
     length (branch_of script op (class_of_code code)) ≤ i →
     BodyTo script marks op code size begun (branch_of script op (class_of_code code)) i old now old_made made T U →
     HasMade (posted.End op (record { mark = mark; class = class_of_code code; begun = begun }) ∷ []) now now made more U
-    V → HasRun marks mark op code size old now old_made more T V
-whole_run script marks op code size begun mark i old now old_made made more T U V same all far last = record {
+    V → mark ≡ answers (call_of op code size begun) → HasRun marks answers mark op code size old now old_made more T V
+whole_run script marks answers op code size begun mark i old now old_made made more T U V same all far last is = record {
   begun = begun;
   body = far.done;
+  answered = is;
   acts =
       subst (λ (s : ScriptModel). AreCalls s (HasRunMark marks old) (branch_of s op (class_of_code code)) far.done) (sym same)
       (subst (λ list. AreCalls script (HasRunMark marks old) list far.done)
@@ -312,26 +317,29 @@ pub same_held : {H : Type 0} (a b : Held H) → a.script ≡ b.script → a.hand
 same_held a b script handlers = λ i. record { script = script i; handlers = handlers i }
 
 mark_with : {H : Type 0} (marks : H → Marks) (old taken : Held H) (act : ℕ) →
-    taken.handlers ≡ slice_set old.handlers act None → (o mark : ℕ) → HasRunMark marks taken o mark →
-    HasRunMark marks old o mark
-mark_with marks old taken act is_taken o mark marked =
-    elim (same_or_not act o) [
+    taken.handlers ≡ slice_set old.handlers act None → (call : Call) (mark : ℕ) →
+    HasRunMark marks taken call mark → HasRunMark marks old call mark
+mark_with marks old taken act is_taken call mark marked =
+    elim (same_or_not act call.op) [
       | inl same ↦
-          absurd (let none : held_at taken o ≡ None =
-          ap (λ hs. in_list hs o) is_taken ∙ ap (in_list (slice_set old.handlers act None)) (sym same)
+          absurd (let none : held_at taken call.op ≡ None =
+          ap (λ hs. in_list hs call.op) is_taken ∙ ap (in_list (slice_set old.handlers act None)) (sym same)
           ∙ taken_same old.handlers act in
-          cc (ap (option_map (λ h. (marks h).run)) none, marked))
+          cc (ap (option_map (λ h. (marks h).run call)) none, marked))
       | inr differ ↦
-          ap (option_map (λ h. (marks h).run)) (sym (ap (λ hs. in_list hs o) is_taken ∙ taken_other old.handlers act o differ))
+          ap (option_map (λ h. (marks h).run call))
+          (sym (ap (λ hs. in_list hs call.op) is_taken ∙ taken_other old.handlers act call.op differ))
           ∙ marked
     ]
 
 -- a run of a handler that was taken is an execution of the hands before
 pub executed : {H : Type 0} (marks : H → Marks) (op : ℕ) (code : Code) (size mark : ℕ) (inner : H)
     (old taken next : Held H) (made more : List Posted) (T U : List Posted → Type 0) → held_at old op ≡ Some inner →
-    mark ≡ (marks inner).run → taken.handlers ≡ slice_set old.handlers op None → taken.script ≡ old.script →
-    HasRun marks mark op code size taken next made more T U → HasExecuted marks op code size old next made more T U
-executed marks op code size mark inner old taken next made more T U there is_mark is_taken same ran =
+    taken.handlers ≡ slice_set old.handlers op None → taken.script ≡ old.script →
+    HasRun marks (marks inner).run mark op code size taken next made more T U →
+    HasExecuted marks mark op code size old next made more T U
+executed marks op code size mark inner old taken next made more T U there is_taken same ran =
+    let call : Call = call_of op code size ran.begun in
     let calls : List Posted = execution_of op code size ran.begun mark ran.body in
     let itself : begins_among op calls ≡ true = rw (eq-eqb op op refl) refl in
     let body : AreCalls old.script (HasRunMark marks taken) (branch_of old.script op (class_of_code code)) ran.body =
@@ -343,10 +351,11 @@ executed marks op code size mark inner old taken next made more T U there is_mar
         begun = ran.begun;
         mark = mark;
         body = ran.body;
-        marked = ap (option_map (λ h. (marks h).run)) there ∙ ap Some (sym is_mark);
+        marked = ap (option_map (λ h. (marks h).run call)) there ∙ ap Some (sym ran.answered);
         acts =
             with_marks old.script (HasRunMark marks taken) (HasRunMark marks old) (mark_with marks old taken op is_taken) body;
         is = refl;
       };
+      answered = refl;
       did = made_with old taken next op calls made more T U is_taken same itself ran.did;
     }

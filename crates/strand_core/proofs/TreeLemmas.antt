@@ -6,6 +6,7 @@ use Rattle.std.proofs.lemmas.Option.{slice_get_within}
 use Rattle.asio_types.specs.declared.code.Class.{Class}
 use Rattle.asio_types.specs.declared.code.Class.TheVariants as class
 use Rattle.asio_types.specs.declared.code.Code.TheVariants as code
+use Rattle.op_handlers.specs.declared.call.Call.{Call}
 use Rattle.session_script.specs.Script.{Place, Entry, ScriptModel, same_place, numbers_in, branch_of, parent_of}
 use Rattle.session_script.specs.WellFormed.{HasParent}
 use Rattle.session_script.proofs.OrderLemmas.{same_place-true}
@@ -112,7 +113,7 @@ not_before (x ∷ xs) (suc i) rise less (inr among) = not_before xs i rise.1 (om
 pub rise_branch : (script : ScriptModel) (op : ℕ) (class : Class) → Rise (branch_of script op class)
 rise_branch script op class = rise_in (Some (op, class)) 0 script.acts
 
-module _ (script : ScriptModel) (ordered : (n : ℕ) → HasParent script.acts n (parent_of script n)) (P : ℕ → ℕ → Type 0)
+module _ (script : ScriptModel) (ordered : (n : ℕ) → HasParent script.acts n (parent_of script n)) (P : Call → ℕ → Type 0)
   where
     -- an operation whose parent comes after this one
     abbrev Below : ℕ → ℕ → Type 0

@@ -2,7 +2,8 @@
 use Rattle.std.specs.Prelude.{◌≡◌, ℕ, List, ◌++◌, false, IsSome, ⊤}
 use Rattle.asio_types.specs.Code.{class_of_code}
 use Rattle.asio_types.specs.declared.code.Code.{Code}
-use Rattle.op_handlers.specs.Marks.{Marks}
+use Rattle.op_handlers.specs.Marks.{Marks, call_of}
+use Rattle.op_handlers.specs.declared.call.Call.{Call}
 use Rattle.session_script.specs.Script.{ScriptModel, branch_of}
 use Rattle.session_script.specs.Lanes.{is_inline}
 use Rattle.strand_core.specs.Execution.{AreCalls, IsWholeExecution, AnyMark, execution_of}
@@ -40,20 +41,23 @@ pub record HasMade {H : Type 0} (calls : List Posted) (old new : Held H)
   pub spent : (n : ℕ) → held_at new n ≡ left_at (begins_among n calls) (held_at old n)
   pub rest : (rest : List Posted) → OldTakes (calls ++ rest) → NewTakes rest
 
--- one whole execution was made, with the marks of the handlers that were held
-pub record HasExecuted {H : Type 0} (marks : H → Marks) (op : ℕ) (code : Code) (size : ℕ)
+-- one whole execution was made, with the marks of the handlers that were held; the operation's own
+-- handler answered this one
+pub record HasExecuted {H : Type 0} (marks : H → Marks) (mark op : ℕ) (code : Code) (size : ℕ)
     (old new : Held H) (old_made new_made : List Posted) (OldTakes NewTakes : List Posted → Type 0)
     : Type 0 where
   pub calls : List Posted
   pub whole : IsWholeExecution old.script (HasRunMark marks old) op code size calls
+  pub answered : mark ≡ whole.mark
   pub did : HasMade calls old new old_made new_made OldTakes NewTakes
 
--- the same of an operation whose handler, with this mark, was taken before
-pub record HasRun {H : Type 0} (marks : H → Marks) (mark op : ℕ) (code : Code) (size : ℕ)
-    (old new : Held H) (old_made new_made : List Posted) (OldTakes NewTakes : List Posted → Type 0)
+-- the same of an operation whose handler, which answers so, was taken before
+pub record HasRun {H : Type 0} (marks : H → Marks) (answers : Call → ℕ) (mark op : ℕ) (code : Code)
+    (size : ℕ) (old new : Held H) (old_made new_made : List Posted) (OldTakes NewTakes : List Posted → Type 0)
     : Type 0 where
   pub begun : ℕ
   pub body : List Posted
+  pub answered : mark ≡ answers (call_of op code size begun)
   pub acts : AreCalls old.script (HasRunMark marks old)
       (branch_of old.script op (class_of_code code)) body
   pub did : HasMade (execution_of op code size begun mark body) old new old_made new_made OldTakes

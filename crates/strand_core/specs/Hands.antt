@@ -5,6 +5,7 @@ use Rattle.asio_types.specs.declared.code.Class.{Class}
 use Rattle.asio_types.specs.declared.number.Lane.{Lane}
 use Rattle.asio_types.specs.declared.number.Lane.TheVariants as lane
 use Rattle.op_handlers.specs.Marks.{Marks}
+use Rattle.op_handlers.specs.declared.call.Call.{Call}
 use Rattle.session_script.specs.Script.{ScriptModel, is_op, parent_of}
 use Rattle.session_script.specs.Lanes.{is_inline, lane_of}
 use Rattle.strand_core.specs.declared.posted.Posted.{Posted}
@@ -85,6 +86,7 @@ begins_among n (posted.Call act ∷ calls) = begins_among n calls
 begins_among n (posted.Back act ∷ calls) = begins_among n calls
 begins_among n (posted.End op ran ∷ calls) = begins_among n calls
 
--- the run mark of a handler that is held
-abbrev pub HasRunMark : {H : Type 0} → (H → Marks) → Held H → ℕ → ℕ → Type 0
-HasRunMark marks hands op mark = option_map (λ h. (marks h).run) (held_at hands op) ≡ Some mark
+-- what the handler that is held of the operation of a call answers to it
+abbrev pub HasRunMark : {H : Type 0} → (H → Marks) → Held H → Call → ℕ → Type 0
+HasRunMark marks hands call mark =
+    option_map (λ h. (marks h).run call) (held_at hands call.op) ≡ Some mark

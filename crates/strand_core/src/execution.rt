@@ -1,7 +1,7 @@
 ghost use Rattle.std.specs.Prelude.{◌≡◌, ◌<◌, length, None};
 ghost use Rattle.session_script.specs.Lanes.{is_inline};
 ghost use Rattle.strand_core.specs.Answer.{CanExecute, HasRun, HasExecuted, IfMissing, IfWhole, TakesWhole};
-ghost use Rattle.strand_core.specs.Hands.{HasInlineOf, HasRunMark, held_at};
+ghost use Rattle.strand_core.specs.Hands.{HasInlineOf, held_at};
 
 use crate::hands::Hands;
 use crate::poster::Poster;
@@ -49,9 +49,8 @@ fn run<P: Poster, H: CompletionHandler>(
     requires inside { HasInlineOf script.now hands.old.handlers completed.op }
     requires takes { TakesWhole (P.takes poster.old) script.now completed.op completed.code
         completed.size }
-    ensures mark { result ≡ (H.marks handler).run }
-    ensures ran { HasRun H.marks (H.marks handler).run completed.op completed.code completed.size
-        hands.old hands.new (P.made poster.old) (P.made poster.new) (P.takes poster.old)
+    ensures ran { HasRun H.marks (H.marks handler).run result completed.op completed.code
+        completed.size hands.old hands.new (P.made poster.old) (P.made poster.new) (P.takes poster.old)
         (P.takes poster.new) }
 {
     parents_come_first(script);
@@ -110,9 +109,8 @@ pub fn execute<P: Poster, H: CompletionHandler>(
         TakesWhole (P.takes poster.old) script.now op code size }
     ensures script { hands.new.script ≡ hands.old.script }
     ensures can { IfWhole result (λ mark. CanExecute hands.old op) }
-    ensures mark { IfWhole result (λ mark. HasRunMark H.marks hands.old op mark) }
     ensures executed { IfWhole result (λ mark.
-        HasExecuted H.marks op code size hands.old hands.new
+        HasExecuted H.marks mark op code size hands.old hands.new
         (P.made poster.old) (P.made poster.new) (P.takes poster.old) (P.takes poster.new)) }
     ensures missing { IfMissing result (λ missed. missed ≡ op) }
     ensures cannot { IfMissing result (λ missed. ¬ CanExecute hands.old op) }

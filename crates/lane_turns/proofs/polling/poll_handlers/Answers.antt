@@ -58,7 +58,7 @@ returns-clause-came g c =
     (ran_seen g.H.CompletionHandler.marks c.execute_noted-pen.result.mark c.state.inside.at c.one_place_on-at.result
     c.in-Some.note c.load-found.result c.state.inside.pen c.see_next.new.pen c.load-found.new.self
     c.execute_noted-pen.result.pen c.args.hands.now c.execute_noted-pen.new.hands c.one_place_on-at.ensures
-    c.execute_noted-pen.ensures.mark c.if-found-at.false c.in-Some.ensures.seen c.load-found.ensures.gone
+    c.if-found-at.false c.in-Some.ensures.seen c.load-found.ensures.gone
     c.execute_noted-pen.ensures.executed c.execute_noted-pen.ensures.script)
 
 pub returns-clause-room : goal.returns-clause-room
@@ -70,6 +70,6 @@ returns-clause-room g c =
     (ran_seen g.H.CompletionHandler.marks c.execute_noted-pen.result.mark c.state.inside.at c.one_place_on-at.result
     c.in-Some.note c.load-found.result c.state.inside.pen c.see_next.new.pen c.load-found.new.self
     c.execute_noted-pen.result.pen c.args.hands.now c.execute_noted-pen.new.hands c.one_place_on-at.ensures
-    c.execute_noted-pen.ensures.mark c.if-found-at.false c.in-Some.ensures.seen c.load-found.ensures.gone
+    c.if-found-at.false c.in-Some.ensures.seen c.load-found.ensures.gone
     c.execute_noted-pen.ensures.executed c.execute_noted-pen.ensures.script)
     (subst (λ (s : LaneView). HasRoom c.args.hands.now s.pen) (sym c.state.view_is) c.requires.room)

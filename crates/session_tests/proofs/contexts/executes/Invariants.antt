@@ -7,8 +7,8 @@ ghosts-executed_before_the_end g a =
     record {
       script = a.script.now;
       told = false;
-      run = rack_run_mark (λ h. record { run = h.number; drop = h.number }) a.rack.now;
-      drop = drop_mark (λ h. record { run = h.number; drop = h.number }) a.rack.now;
+      run = rack_run_mark (λ h. record { run = λ _. h.number; drop = h.number }) a.rack.now;
+      drop = drop_mark (λ h. record { run = λ _. h.number; drop = h.number }) a.rack.now;
       faults = 0;
       outside = false;
     }

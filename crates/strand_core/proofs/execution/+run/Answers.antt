@@ -89,8 +89,8 @@ loop-act-preserved g t c =
           (c.loop-act.act-index + 1) c.args.hands.now h (g.P.Poster.made c.args.poster.now) (g.P.Poster.made p)
           (g.P.Poster.takes c.args.poster.now) (g.P.Poster.takes p)) (sym w.hands-is) (sym w.poster-is)
           (inside_more (next g t (goal.at.loop-act-preserved g t c).After-is_inline)
-          (sym c.is_inline.ensures ∙ w.if-is_inline.true) (g.H.CompletionHandler.marks w.in-Some.inner).run
-          w.in-Some.inner (sym w.in-Some.ensures.taken) refl w.take.new.self w.run.new.hands w.take.ensures.after
+          (sym c.is_inline.ensures ∙ w.if-is_inline.true) w.run.result
+          w.in-Some.inner (sym w.in-Some.ensures.taken) w.take.new.self w.run.new.hands w.take.ensures.after
           w.take.ensures.script (g.P.Poster.made w.call.new.self) (g.P.Poster.made w.run.new.poster)
           (g.P.Poster.made w.back.new.self) (g.P.Poster.takes w.call.new.self) (g.P.Poster.takes w.run.new.poster)
           (g.P.Poster.takes w.back.new.self)
@@ -164,7 +164,7 @@ back-requires g t c =
     g.met.P.Poster.first_part c.run.new.poster
     (posted.Back (slice_index_or c.branch-act-items.result.now c.loop-act.act-index 0) ∷ []) _
     (takes_back (next g t (goal.at.back-requires g t c).After-is_inline) c.requires.takes
-    (sym c.is_inline.ensures ∙ c.if-is_inline.true) (g.H.CompletionHandler.marks c.in-Some.inner).run
+    (sym c.is_inline.ensures ∙ c.if-is_inline.true) c.run.result
     c.take.new.self c.run.new.hands c.take.ensures.script (g.P.Poster.made c.call.new.self)
     (g.P.Poster.made c.run.new.poster) (g.P.Poster.takes c.call.new.self) (g.P.Poster.takes c.run.new.poster)
     c.call.ensures.rest c.run.ensures.ran)
@@ -185,11 +185,11 @@ end-requires g t c =
     (takes_rest c.loop-act.invariant c.requires.takes []
     (subst (λ acts. AreCalls c.args.script.now AnyMark acts []) (sym done) no_act) c.call-ran.result.mark)
 
-pub returns-clause-ran : goal.returns-clause-ran
-returns-clause-ran g t c =
-    let mark : ℕ = (g.H.CompletionHandler.marks c.args.handler).run in
+pub returns : goal.returns
+returns g t c =
+    let mark : ℕ = c.call-ran.result.mark in
     let same =
-    ran_is c.call-ran.result mark (class_of_code c.args.completed.code) c.begin-begun.result c.call-ran.ensures.mark
+    ran_is c.call-ran.result mark (class_of_code c.args.completed.code) c.begin-begun.result refl
     c.call-ran.ensures.class c.call-ran.ensures.begun in
     let end : Posted =
     posted.End c.args.completed.op
@@ -201,15 +201,19 @@ returns-clause-ran g t c =
     g.P.Poster.takes c.end.new.self rest =
     λ rest taken.
     c.end.ensures.rest rest (subst (λ call. g.P.Poster.takes c.loop-act.poster (call ∷ rest)) (sym is_end) taken) in
-    whole_run c.args.script.now g.H.CompletionHandler.marks c.args.completed.op c.args.completed.code
-    c.args.completed.size c.begin-begun.result mark c.loop-act.act-index c.args.hands.now c.loop-act.hands
-    (g.P.Poster.made c.args.poster.now) (g.P.Poster.made c.loop-act.poster) (g.P.Poster.made c.end.new.self)
-    (g.P.Poster.takes c.args.poster.now) (g.P.Poster.takes c.loop-act.poster) (g.P.Poster.takes c.end.new.self)
-    c.requires.script
-    (omega (
-      arith,
-      c.loop-act-test.false,
-      ap length (c.branch-act-items.ensures
-          ∙ ap (branch_of c.args.script.now c.args.completed.op) c.call-ran.ensures.class),
-    )) c.loop-act.invariant
-    (has_called c.loop-act.hands end _ _ _ _ (λ n. refl) made rest)
+    record {
+      ran =
+          whole_run c.args.script.now g.H.CompletionHandler.marks (g.H.CompletionHandler.marks c.args.handler).run
+          c.args.completed.op c.args.completed.code
+          c.args.completed.size c.begin-begun.result mark c.loop-act.act-index c.args.hands.now c.loop-act.hands
+          (g.P.Poster.made c.args.poster.now) (g.P.Poster.made c.loop-act.poster) (g.P.Poster.made c.end.new.self)
+          (g.P.Poster.takes c.args.poster.now) (g.P.Poster.takes c.loop-act.poster) (g.P.Poster.takes c.end.new.self)
+          c.requires.script
+          (omega (
+            arith,
+            c.loop-act-test.false,
+            ap length (c.branch-act-items.ensures
+                ∙ ap (branch_of c.args.script.now c.args.completed.op) c.call-ran.ensures.class),
+          )) c.loop-act.invariant
+          (has_called c.loop-act.hands end _ _ _ _ (λ n. refl) made rest) c.call-ran.ensures.mark;
+    }

@@ -13,14 +13,14 @@ use Rattle.book_context.proofs.record.Record.open.Goals.{After-as_slice}
 posted_calls : (c : After-as_slice) → c.as_slice.result.now ≡ outside_calls (opening_of c.self.inside.script.now)
 posted_calls c =
     c.as_slice.ensures.value ∙ c.call_each.ensures.calls
-    ∙ ap (λ xs. xs ++ outside_calls c.opening.result.now) c.clear.ensures.calls ∙ ap outside_calls c.opening.ensures
+    ∙ ap (λ xs. xs ++ outside_calls c.opening.result.now) c.clear.ensures.items ∙ ap outside_calls c.opening.ensures
 
 pub call_each-requires : goal.call_each-requires
 call_each-requires c =
     omega (
       arith,
-      ap length c.clear.ensures.calls,
-      c.clear.ensures.room,
+      ap length c.clear.ensures.items,
+      c.clear.ensures.capacity,
       c.self.invariant.calls,
       ap length c.opening.ensures,
       few_in None 0 c.self.inside.script.now.acts,

@@ -1,0 +1,11 @@
+use Rattle.std.proofs.Common.{subst, sym}
+use Rattle.book_context.specs.Posts.{PostsView, TakesPosts}
+use Rattle.book_context.proofs.PostsLemmas.{rest_taken}
+use Rattle.book_context.proofs.record.posts.PostsPoster.begin.Goals as goal
+
+pub keep-requires-clause-takes : goal.keep-requires-clause-takes
+keep-requires-clause-takes g c = c.requires _
+
+pub returns-clause-rest : goal.returns-clause-rest
+returns-clause-rest g c rest taken =
+    subst (λ (v : PostsView). TakesPosts v rest) (sym c.keep.ensures) (rest_taken _ _ rest taken)
