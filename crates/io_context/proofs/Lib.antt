@@ -1,2 +1,3 @@
 mod InvokedLemmas
 mod LawLemmas
+mod SleepLemmas

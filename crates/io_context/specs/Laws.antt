@@ -1,5 +1,7 @@
 -- What is so of the history of a context that was finished.
 use Rattle.std.specs.Prelude.{◌≡◌, ◌≤◌, ℕ, ◌+◌, true, List, ◌∷◌, ◌++◌}
+use Rattle.asio_types.specs.declared.code.Code.{Code}
+use Rattle.asio_types.specs.declared.code.Code.TheVariants as code
 use Rattle.io_rules.specs.declared.event.Event.{Event}
 use Rattle.io_rules.specs.declared.event.Event.TheVariants as event
 use Rattle.io_rules.specs.declared.limits.Limits.{Limits}
@@ -9,6 +11,8 @@ use Rattle.io_rules.specs.declared.spares.Spares.{Spares}
 use Rattle.io_rules.specs.History.{begins, begun_in, calls, drops, ends, is_begin, is_over, is_restart, is_stop, lane_in, ready_in, times}
 use Rattle.io_rules.specs.InOrder.{strand_of}
 use Rattle.io_rules.specs.Legal.{state_of}
+use Rattle.io_rules.specs.Ops.{is_at, is_pending}
+use Rattle.io_timers.specs.DueFirst.{IsDueFirst}
 
 -- where a handler of a strand began, each handler of it that had begun had ended
 abbrev pub AreAlone : List Event → Type 0
@@ -30,6 +34,16 @@ NoneBeginsStopped past =
     (later since before : List Event) (stop : Event) → past ≡ later ++ (since ++ (stop ∷ before)) →
     is_stop stop ≡ true → times is_restart since ≡ 0 → times is_begin since ≡ 0
 
+-- a wait that wasn't cancelled completes with Ok, once it has expired, and before all that expire later or were
+-- accepted later
+abbrev pub WaitsAreDue : Limits → List Event → Type 0
+WaitsAreDue limits past =
+    (since before : List Event) (op size : ℕ) (given : Code) →
+    past ≡ since ++ (event.Done op given size ∷ before) →
+    is_at is_pending (state_of limits before).ops op ≡ true →
+    (given ≡ code.Ok)
+    × IsDueFirst (state_of limits before).timers (state_of limits before).now (state_of limits before).waits op
+
 pub record KeepsLaws (limits : Limits) (past : List Event) : Type 0 where
   -- each operation was initiated once, and its handler was executed to its end once or discarded once
   pub initiated_once : (op : ℕ) → times (calls op) past ≤ 1
@@ -39,3 +53,4 @@ pub record KeepsLaws (limits : Limits) (past : List Event) : Type 0 where
   pub alone : AreAlone past
   pub in_order : AreInOrder limits past
   pub stopped : NoneBeginsStopped past
+  pub waits : WaitsAreDue limits past

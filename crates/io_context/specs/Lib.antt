@@ -4,3 +4,4 @@ pub mod Laws
 pub mod Naming
 pub mod Refused
 pub mod Sleeping
+pub mod Timed

@@ -1,11 +1,12 @@
 -- Why a call from outside of all handlers is refused.
-use Rattle.std.specs.Prelude.{◌≡◌, ◌&&◌, nat_lt, false, true, List}
+use Rattle.std.specs.Prelude.{◌≡◌, ◌&&◌, ◌||◌, nat_lt, not, false, true, List}
 use Rattle.io_rules.specs.declared.event.Event.{Event}
 use Rattle.io_rules.specs.declared.limits.Limits.{Limits}
 use Rattle.io_rules.specs.declared.name.Lane.{Lane}
 use Rattle.io_rules.specs.Calls.{is_lane_gone}
 use Rattle.io_rules.specs.Legal.{state_of}
-use Rattle.io_rules.specs.Names.{any_free}
+use Rattle.io_rules.specs.declared.name.Name.{Name}
+use Rattle.io_rules.specs.Names.{any_free, is_alive}
 use Rattle.io_rules.specs.Room.{numbers_left}
 use Rattle.io_rules.specs.State.{ContextState}
 use Rattle.io_context.specs.declared.refused.Refusal.{Refusal}
@@ -23,3 +24,11 @@ WasRefused limits lane why told = MayRefuse (state_of limits told) lane why
 -- behind these events no strand was free
 abbrev pub NoStrandWasFree : Limits → List Event → Type 0
 NoStrandWasFree limits told = any_free (state_of limits told).names.strands ≡ false
+
+-- a wait: its strand or its timer is gone, or they aren't and no place or no number is free
+abbrev pub MayRefuseWait : ContextState → Lane → Name → Refusal → Type 0
+MayRefuseWait s lane timer refusal.Gone = (is_lane_gone s.names lane || not (is_alive s.names.timers timer)) ≡ true
+MayRefuseWait s lane timer refusal.Full = (nat_lt 0 s.room && nat_lt 0 (numbers_left s)) ≡ false
+
+abbrev pub WaitWasRefused : Limits → Lane → Name → Refusal → List Event → Type 0
+WaitWasRefused limits lane timer why told = MayRefuseWait (state_of limits told) lane timer why

@@ -5,8 +5,10 @@ ghost use Rattle.io_rules.specs.Legal.{state_of};
 ghost use Rattle.io_context.specs.Naming.{most_parts};
 ghost use Rattle.io_scheduler.specs.Tallied.{is_idle};
 
+use crate::clock::ContextClock;
 use crate::new_context::NewContext;
 use crate::shared::Shared;
+use crate::sleepers::Wake;
 use crate::worker::Worker;
 use asio_types::NoMemory;
 use io_handlers::Handler;
@@ -16,21 +18,29 @@ use io_scheduler::{Scheduler, Section};
 use std::alloc::Global;
 use std::sync::ledger::Share;
 use std::sync::{Condvar, Mutex, Wait};
+use std::time::Clock;
 
 /// An `io_context`. It must be finished.
 pub struct Context<H: Handler, C: Named> {
     pub(crate) table: HistoryTable,
     pub(crate) limits: Limits,
     pub(crate) shared: Mutex<Shared<H, C>>,
+    pub(crate) clock: ContextClock,
     // where workers sleep
     pub(crate) more: Condvar,
+    // where the one sleeps that watches the clock
+    pub(crate) watch: Condvar,
     ghost named: { table ≡ C.table },
 }
 
 impl<H: Handler, C: Named> Context<H, C> {
-    /// A new context, and the share of which those of its workers are cut. Takes memory for all that the
-    /// context may ever keep; `NoMemory` where it is refused.
-    pub fn make(alloc: Global, new: NewContext) -> Result<(Context<H, C>, Share<C>), NoMemory>
+    /// A new context, whose clock begins, and the share of which those of its workers are cut. Takes memory
+    /// for all that the context may ever keep; `NoMemory` where it is refused.
+    pub fn make<R: Clock>(
+        rt: &R,
+        alloc: Global,
+        new: NewContext,
+    ) -> Result<(Context<H, C>, Share<C>), NoMemory>
         requires table { new.table ≡ C.table }
         requires limits { new.limits ≡ C.limits }
         requires name { new.name ≡ C.name }
@@ -51,8 +61,10 @@ impl<H: Handler, C: Named> Context<H, C> {
                 Context {
                     table,
                     limits,
+                    clock: ContextClock::start(rt),
                     shared: Mutex::new(Shared::new(scheduler)),
                     more: Condvar::new(),
+                    watch: Condvar::new(),
                 },
                 share,
             )),
@@ -72,6 +84,19 @@ impl<H: Handler, C: Named> Context<H, C> {
         Worker::with_room(alloc, self.limits.staged, share)
     }
 
+    /// Notifies these sleepers.
+    pub(crate) fn wake(&self, wake: Wake) {
+        match wake {
+            Wake::Nobody => {}
+            Wake::One => self.more.notify_one(),
+            Wake::Watcher => self.watch.notify_one(),
+            Wake::All => {
+                self.more.notify_all();
+                self.watch.notify_all();
+            }
+        }
+    }
+
     /// No handler begins any more, and calls of `run` return as soon as they can (`io_context::stop`).
     pub fn stop<R: Wait>(&self, rt: &R) -> Section<C>
         ensures { result.after ≡ event.Changed None control.Stop ∷ result.before }
@@ -79,7 +104,7 @@ impl<H: Handler, C: Named> Context<H, C> {
         let mut shared = self.shared.lock(rt);
         let (section, wake) = shared.stop(&self.table);
         drop(shared);
-        wake.send(&self.more);
+        self.wake(wake);
         section
     }
 
@@ -90,7 +115,7 @@ impl<H: Handler, C: Named> Context<H, C> {
         ensures noted { result.1.after ≡ (if result.0 then event.Restarted ∷ result.1.before else result.1.before) }
     {
         let (restarted, wake) = self.shared.get_mut().restart(&self.table);
-        wake.send(&self.more);
+        self.wake(wake);
         restarted
     }
 }

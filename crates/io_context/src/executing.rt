@@ -3,25 +3,30 @@ ghost use Rattle.std.specs.Prelude.{◌≡◌, ◌+◌};
 use crate::context::Context;
 use crate::invocation::{Invocation, Next, Pause, invoke};
 use crate::shared::Shared;
+use crate::sleepers::Rest;
 use crate::worker::Worker;
 use io_handlers::Handler;
 use io_history::Named;
-use std::sync::{MutexGuard, Wait};
+use std::sync::{CondvarTimeouts, MutexGuard, Wait};
+use std::time::{Clock, Duration};
 
 impl<H: Handler, C: Named> Context<H, C> {
     /// The first handler that a worker invokes.
-    pub(crate) fn first<R: Wait>(&self, rt: &R, waits: bool) -> Option<Invocation<H, C>> {
+    pub(crate) fn first<R: Wait + Clock>(&self, rt: &R, waits: bool) -> Option<Invocation<H, C>> {
+        let now = self.clock.read(rt);
         let mut shared = self.shared.lock(rt);
-        let next = shared.begin(&self.table, waits);
+        let next = shared.begin(&self.table, now, waits);
         self.go_on(rt, shared, next, waits)
     }
 
-    /// Invokes a handler with the lock free, ends it, and takes the next one.
-    pub(crate) fn execute<R: Wait>(
+    /// Invokes a handler with the lock free, ends it, and takes the next one, behind what is due if the
+    /// worker looks at the clock.
+    pub(crate) fn execute<R: Wait + Clock>(
         &self,
         rt: &R,
         invocation: Invocation<H, C>,
         worker: &mut Worker<H, C>,
+        looks: bool,
         waits: bool,
     ) -> Option<Invocation<H, C>>
         ensures { worker.new.executed ≡ worker.old.executed + 1 }
@@ -39,9 +44,19 @@ impl<H: Handler, C: Named> Context<H, C> {
         let mut io = staging.begin(running.places());
         let (mark, state) = invoke(handler, done, state, &mut io);
         staging = io.returned();
+        let now = if looks { self.clock.read(rt) } else { None };
         let mut shared = self.shared.lock(rt);
         let by = &mut worker.share;
-        let next = shared.end(&self.table, running, state, mark, &mut staging, by, waits);
+        let next = shared.end(
+            &self.table,
+            running,
+            state,
+            mark,
+            &mut staging,
+            by,
+            now,
+            waits,
+        );
         match worker.staging.replace(staging) {
             None => {}
             Some(_) => unreachable!(),
@@ -50,7 +65,7 @@ impl<H: Handler, C: Named> Context<H, C> {
     }
 
     /// Invokes what begins, with the lock free.
-    fn go_on<'a, R: Wait>(
+    fn go_on<'a, R: Wait + Clock>(
         &'a self,
         rt: &R,
         shared: MutexGuard<'a, Shared<H, C>>,
@@ -60,15 +75,34 @@ impl<H: Handler, C: Named> Context<H, C> {
         match next {
             Next::Invoke(invocation, wake) => {
                 drop(shared);
-                wake.send(&self.more);
+                self.wake(wake);
                 Some(invocation)
             }
             Next::Pause(pause) => self.pause(rt, shared, pause, waits),
         }
     }
 
+    /// Sleeps until it is called, or until this time.
+    fn sleep<'a, R: Wait + Clock>(
+        &'a self,
+        rt: &R,
+        shared: MutexGuard<'a, Shared<H, C>>,
+        rest: Rest,
+    ) -> MutexGuard<'a, Shared<H, C>> {
+        match rest {
+            Rest::Sleep => self.more.wait(rt, shared),
+            Rest::Watch(expiry) => match self.clock.read(rt) {
+                None => self.watch.wait(rt, shared),
+                Some(now) => {
+                    let left = Duration::from_nanos(expiry.saturating_sub(now));
+                    self.watch.wait_timeout(rt, shared, left).0
+                }
+            },
+        }
+    }
+
     /// Waits until a handler begins, if the worker waits; `None` where its call of `run` is to return.
-    fn pause<'a, R: Wait>(
+    fn pause<'a, R: Wait + Clock>(
         &'a self,
         rt: &R,
         shared: MutexGuard<'a, Shared<H, C>>,
@@ -79,30 +113,29 @@ impl<H: Handler, C: Named> Context<H, C> {
         let mut pause = pause;
         for _ in rt.forever() {
             let next = match pause {
-                Pause::Over(wake) => {
+                Pause::Over(wake) | Pause::Nothing(wake) => {
                     drop(shared);
-                    wake.send(&self.more);
+                    self.wake(wake);
                     return None;
                 }
                 Pause::Retire(state, wake) => {
                     drop(shared);
-                    wake.send(&self.more);
+                    self.wake(wake);
                     H::retire(state);
+                    let now = self.clock.read(rt);
                     shared = self.shared.lock(rt);
-                    shared.begin(&self.table, waits)
+                    shared.begin(&self.table, now, waits)
                 }
-                Pause::Nothing => {
-                    if !waits {
-                        return None;
-                    }
-                    shared = self.more.wait(rt, shared);
-                    shared.begin_awake(&self.table)
+                Pause::Rest(rest, wake) => {
+                    self.wake(wake);
+                    shared = self.sleep(rt, shared, rest);
+                    shared.begin_awake(&self.table, self.clock.read(rt), rest)
                 }
             };
             match next {
                 Next::Invoke(invocation, wake) => {
                     drop(shared);
-                    wake.send(&self.more);
+                    self.wake(wake);
                     return Some(invocation);
                 }
                 Next::Pause(rest) => pause = rest,

@@ -14,6 +14,7 @@ use io_rules::{
     handlers_of_a_strand_begin_in_order, nothing_begins_while_stopped,
 };
 use io_scheduler::{Remains, Scheduler, States};
+use io_timers::waits_complete_by_expiry;
 use std::sync::Wait;
 use std::sync::ledger::Share;
 
@@ -72,6 +73,7 @@ fn history<C: Named>(table: HistoryTable, keeper: Keeper<C>, executed: Share<C>)
     handlers_of_a_strand_are_alone();
     handlers_of_a_strand_begin_in_order();
     nothing_begins_while_stopped();
+    waits_complete_by_expiry();
     History { table, keeper }
 }
 
@@ -89,8 +91,10 @@ impl<H: Handler, C: Named> Context<H, C> {
         let Context {
             table,
             limits: _,
+            clock: _,
             shared,
             more: _,
+            watch: _,
         } = self;
         let Shared {
             scheduler,

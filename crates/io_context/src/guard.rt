@@ -28,7 +28,7 @@ impl<H: Handler, C: Named> Context<H, C> {
         let mut shared = self.shared.lock(rt);
         let ((held, section), wake) = shared.hold(&self.table);
         drop(shared);
-        wake.send(&self.more);
+        self.wake(wake);
         if held {
             (Some(WorkGuard { of: PhantomData }), section)
         } else {
@@ -45,7 +45,7 @@ impl<H: Handler, C: Named> Context<H, C> {
         let mut shared = self.shared.lock(rt);
         let (section, wake) = shared.release(&self.table);
         drop(shared);
-        wake.send(&self.more);
+        self.wake(wake);
         section
     }
 }

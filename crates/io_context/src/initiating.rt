@@ -33,7 +33,7 @@ impl<H: Handler, C: Named> Context<H, C> {
         let mut shared = self.shared.lock(rt);
         let (called, wake) = shared.initiate(&self.table, lane, kind, handler);
         drop(shared);
-        wake.send(&self.more);
+        self.wake(wake);
         called
     }
 

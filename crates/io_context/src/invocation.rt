@@ -4,7 +4,7 @@ ghost use Rattle.io_context.specs.Invoked.{IsHandlerOf, IsInvoked};
 ghost use Rattle.io_context.specs.Sleeping.{SleepWhileIdle};
 ghost use Rattle.io_scheduler.specs.Told.{IsOnLane};
 
-use crate::sleepers::{Sleepers, Wake};
+use crate::sleepers::{Rest, Sleepers, Wake};
 use io_handlers::{Completion, Handler, Initiator};
 use io_history::{HistoryTable, Named};
 use io_scheduler::{Begun, Running, Scheduler};
@@ -41,8 +41,10 @@ pub(crate) enum Next<H: Handler, C: Named> {
 pub(crate) enum Pause<S> {
     /// It retires the state of a strand that is gone.
     Retire(S, Wake),
-    /// Nothing, for now.
-    Nothing,
+    /// It sleeps.
+    Rest(Rest, Wake),
+    /// Nothing for now, and it doesn't wait.
+    Nothing(Wake),
     /// Nothing more: its call of `run` returns.
     Over(Wake),
 }
@@ -66,16 +68,32 @@ fn to_invoke<H: Handler, C: Named>(begun: Begun<H, C>) -> Invocation<H, C>
     }
 }
 
-/// The next handler begins, if one may; else a worker that waits is to sleep, unless it is to return.
+/// The clock was read, unless it can't be, and all waits that are due complete.
+fn look<H: Handler, C: Named>(
+    scheduler: &mut Scheduler<H, C>,
+    table: &HistoryTable,
+    now: Option<u64>,
+)
+    requires { table.now ≡ C.table }
+{
+    if let Some(now) = now {
+        scheduler.pass(table, now);
+    }
+}
+
+/// All waits that are due complete, if the clock was read. Then the next handler begins,
+/// if one may; else a worker that waits is to sleep, unless it is to return.
 pub(crate) fn take_next<H: Handler, C: Named>(
     scheduler: &mut Scheduler<H, C>,
     sleepers: &mut Sleepers,
     table: &HistoryTable,
+    now: Option<u64>,
     waits: bool,
 ) -> Next<H, C>
     requires table { table.now ≡ C.table }
     ensures sleepers { SleepWhileIdle sleepers.new scheduler.new }
 {
+    look(scheduler, table, now);
     match scheduler.begin(table) {
         Some(begun) => Next::Invoke(to_invoke(begun), sleepers.call(scheduler)),
         None => {
@@ -83,10 +101,11 @@ pub(crate) fn take_next<H: Handler, C: Named>(
                 scheduler.returned(table);
                 return Next::Pause(Pause::Over(sleepers.call(scheduler)));
             }
-            if waits {
-                sleepers.sleep();
+            if !waits {
+                return Next::Pause(Pause::Nothing(sleepers.call(scheduler)));
             }
-            Next::Pause(Pause::Nothing)
+            let rest = sleepers.rest(scheduler.next_expiry());
+            Next::Pause(Pause::Rest(rest, sleepers.call(scheduler)))
         }
     }
 }

@@ -3,6 +3,7 @@
 //! whenever the lock is free and whole at its end, in which the laws of the rules hold. Programs stand on it.
 #![tactic(auto)]
 
+mod clock;
 mod context;
 mod executing;
 mod finishing;
@@ -16,6 +17,7 @@ mod running;
 mod shared;
 mod sleepers;
 mod strands;
+mod timers;
 mod worker;
 
 pub use context::Context;

@@ -1,12 +1,13 @@
 ghost use Rattle.std.specs.Prelude.{◌≡◌, false};
-ghost use Rattle.io_context.specs.Refused.{NoStrandWasFree, WasRefused};
+ghost use Rattle.io_context.specs.Refused.{NoStrandWasFree, WaitWasRefused, WasRefused};
 ghost use Rattle.io_rules.specs.Names.{any_free};
+ghost use Rattle.io_scheduler.specs.Accepted.{may_wait};
 ghost use Rattle.io_scheduler.specs.Counted.{may_post};
 ghost use Rattle.io_scheduler.specs.Sections.{NotesNothing};
 
 use io_handlers::Handler;
 use io_history::{HistoryTable, Named};
-use io_rules::Lane;
+use io_rules::{Lane, Name};
 use io_scheduler::{Scheduler, Section};
 
 /// Why a call from outside of all handlers is refused.
@@ -14,7 +15,7 @@ use io_scheduler::{Scheduler, Section};
 pub enum Refusal {
     /// No place for one more is free.
     Full,
-    /// Its strand is gone.
+    /// Its strand is gone, or its timer.
     Gone,
 }
 
@@ -45,6 +46,31 @@ pub(crate) fn refuse<H: Handler, C: Named>(
 {
     let section = scheduler.look(table);
     if scheduler.has_lane(lane) {
+        let why = Refusal::Full;
+        Refused { back, why, section }
+    } else {
+        let why = Refusal::Gone;
+        Refused { back, why, section }
+    }
+}
+
+/// A handler of a wait that isn't accepted.
+pub(crate) fn refuse_wait<H: Handler, C: Named>(
+    scheduler: &mut Scheduler<H, C>,
+    table: &HistoryTable,
+    lane: Lane,
+    timer: Name,
+    back: H,
+) -> Refused<H, C>
+    requires table { table.now ≡ C.table }
+    requires may { may_wait scheduler.old lane timer ≡ false }
+    ensures same { scheduler.new ≡ scheduler.old }
+    ensures refused { WaitWasRefused C.limits lane timer result.why result.section.after }
+    ensures nothing { NotesNothing C.limits result.section.before result.section.after scheduler.old }
+    ensures back { result.back ≡ back }
+{
+    let section = scheduler.look(table);
+    if scheduler.has_lane(lane) && scheduler.has_timer(timer) {
         let why = Refusal::Full;
         Refused { back, why, section }
     } else {

@@ -1,26 +1,30 @@
-ghost use Rattle.std.specs.Prelude.{◌≡◌, ◌<◌, ◌+◌, nat_lt, [], true, IfErr, IfOk, None, OnErr, Some};
+ghost use Rattle.std.specs.Prelude.{◌≡◌, ◌<◌, ◌+◌, nat_lt, [], false, true, IfErr, IfOk, None, OnErr, Some};
 ghost use Rattle.std.specs.Option.{is_some};
 ghost use Rattle.io_rules.specs.declared.control.Control.TheVariants as control;
 ghost use Rattle.io_rules.specs.declared.event.Event.TheVariants as event;
 ghost use Rattle.io_rules.specs.declared.name.Kind.TheVariants as kind;
 ghost use Rattle.io_rules.specs.declared.request.Gone.TheVariants as gone;
-ghost use Rattle.io_rules.specs.Names.{is_alive};
+ghost use Rattle.io_rules.specs.Legal.{state_of};
+ghost use Rattle.io_rules.specs.Names.{any_free, is_alive};
 ghost use Rattle.io_rules.specs.Operations.{is_posting};
-ghost use Rattle.io_context.specs.Refused.{NoStrandWasFree, WasRefused};
+ghost use Rattle.io_context.specs.Refused.{NoStrandWasFree, WaitWasRefused, WasRefused};
+ghost use Rattle.io_scheduler.specs.Accepted.{waiting_on};
 ghost use Rattle.io_scheduler.specs.Begun.{is_strand};
+ghost use Rattle.io_scheduler.specs.Come.{NotesAllIf, changes};
 ghost use Rattle.io_scheduler.specs.Ended.{mark_of};
 ghost use Rattle.io_scheduler.specs.Holding.{may_hold};
 ghost use Rattle.io_scheduler.specs.Posted.{posting};
 ghost use Rattle.io_scheduler.specs.Sections.{Notes, NotesIf, NotesNothing};
 ghost use Rattle.io_scheduler.specs.Tallied.{is_idle};
+ghost use Rattle.io_scheduler.specs.Timing.{control_of};
 
 use crate::invocation::{Next, Pause, take_next};
-use crate::refused::{Refused, refuse, refuse_strand};
-use crate::sleepers::{Sleepers, Wake};
+use crate::refused::{Refused, refuse, refuse_strand, refuse_wait};
+use crate::sleepers::{Rest, Sleepers, Wake};
 use io_handlers::{Handler, Staging};
 use io_history::{HistoryTable, Named};
 use io_rules::{Lane, Name, Operation};
-use io_scheduler::{Receipt, Running, Scheduler, Section};
+use io_scheduler::{Receipt, Running, Scheduler, Section, TimerChange};
 use std::marker::Model;
 use std::sync::ledger::Share;
 
@@ -81,18 +85,31 @@ impl<H: Handler, C: Named> Shared<H, C> {
     }
 
     /// The next handler begins, if one may; else a worker that waits is to sleep.
-    pub(crate) fn begin(&mut self, table: &HistoryTable, waits: bool) -> Next<H, C>
+    pub(crate) fn begin(
+        &mut self,
+        table: &HistoryTable,
+        now: Option<u64>,
+        waits: bool,
+    ) -> Next<H, C>
         requires { table.now ≡ C.table }
     {
-        take_next(&mut self.scheduler, &mut self.sleepers, table, waits)
+        take_next(&mut self.scheduler, &mut self.sleepers, table, now, waits)
     }
 
     /// Likewise, by a worker that slept.
-    pub(crate) fn begin_awake(&mut self, table: &HistoryTable) -> Next<H, C>
+    pub(crate) fn begin_awake(
+        &mut self,
+        table: &HistoryTable,
+        now: Option<u64>,
+        rest: Rest,
+    ) -> Next<H, C>
         requires { table.now ≡ C.table }
     {
-        self.sleepers.awake();
-        take_next(&mut self.scheduler, &mut self.sleepers, table, true)
+        match rest {
+            Rest::Sleep => self.sleepers.awake(),
+            Rest::Watch(_) => self.sleepers.watched(),
+        }
+        take_next(&mut self.scheduler, &mut self.sleepers, table, now, true)
     }
 
     /// A handler has returned this mark, which counts in the share of its worker, and what it initiated takes
@@ -105,6 +122,7 @@ impl<H: Handler, C: Named> Shared<H, C> {
         mark: u64,
         staging: &mut Staging<H>,
         by: &mut Share<C>,
+        now: Option<u64>,
         waits: bool,
     ) -> Next<H, C>
         requires table { table.now ≡ C.table }
@@ -118,7 +136,7 @@ impl<H: Handler, C: Named> Shared<H, C> {
     {
         match self.scheduler.end(table, running, state, mark, staging, by) {
             Some(state) => Next::Pause(Pause::Retire(state, self.sleepers.call(&self.scheduler))),
-            None => take_next(&mut self.scheduler, &mut self.sleepers, table, waits),
+            None => take_next(&mut self.scheduler, &mut self.sleepers, table, now, waits),
         }
     }
 
@@ -200,6 +218,68 @@ impl<H: Handler, C: Named> Shared<H, C> {
     {
         let freed = self.scheduler.free_strand(table, name);
         (freed, self.sleepers.call(&self.scheduler))
+    }
+
+    /// Makes a timer.
+    pub(crate) fn make_timer(
+        &mut self,
+        table: &HistoryTable,
+    ) -> (Result<(Name, Section<C>), Section<C>>, Wake)
+        requires { table.now ≡ C.table }
+        ensures made { IfOk result.0 (λ made. Notes C.limits
+            (event.Changed None (control.Make kind.Timer made.0)) made.1.before made.1.after self.old self.new) }
+        ensures refused { IfErr result.0 (λ section. any_free (state_of C.limits section.after).names.timers ≡ false) }
+        ensures nothing { IfErr result.0 (λ section. NotesNothing C.limits section.before section.after self.old) }
+    {
+        match self.scheduler.make_timer(table) {
+            Some(made) => (Ok(made), self.sleepers.call(&self.scheduler)),
+            None => (
+                Err(self.scheduler.look(table)),
+                self.sleepers.call(&self.scheduler),
+            ),
+        }
+    }
+
+    /// Changes a timer.
+    pub(crate) fn change_timer(
+        &mut self,
+        table: &HistoryTable,
+        timer: Name,
+        change: TimerChange,
+    ) -> (Section<C>, Wake)
+        requires { table.now ≡ C.table }
+        ensures { NotesAllIf (is_alive self.old.names.timers timer) C.limits
+            (changes None (control_of timer change) self.old) result.0.before result.0.after self.old self.new }
+    {
+        let section = self.scheduler.change_timer(table, timer, change);
+        (section, self.sleepers.call(&self.scheduler))
+    }
+
+    /// Waits for a timer.
+    pub(crate) fn wait(
+        &mut self,
+        table: &HistoryTable,
+        lane: Lane,
+        timer: Name,
+        handler: H,
+    ) -> (Result<Receipt<C>, Refused<H, C>>, Wake)
+        requires table { table.now ≡ C.table }
+        ensures called { IfOk result.0 (λ receipt. Notes C.limits
+            (event.Called receipt.op None (waiting_on lane timer (H.marks handler)) gone.Nothing)
+            receipt.section.before receipt.section.after self.old self.new) }
+        ensures refused { IfErr result.0 (λ refused.
+            WaitWasRefused C.limits lane timer refused.why refused.section.after) }
+        ensures nothing { IfErr result.0 (λ refused.
+            NotesNothing C.limits refused.section.before refused.section.after self.old) }
+        ensures back { IfErr result.0 (λ refused. refused.back ≡ handler) }
+    {
+        match self.scheduler.wait(table, lane, timer, handler) {
+            Ok(receipt) => (Ok(receipt), self.sleepers.call(&self.scheduler)),
+            Err(back) => (
+                Err(refuse_wait(&mut self.scheduler, table, lane, timer, back)),
+                self.sleepers.call(&self.scheduler),
+            ),
+        }
     }
 }
 

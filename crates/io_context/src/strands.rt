@@ -30,7 +30,7 @@ impl<H: Handler, C: Named> Context<H, C> {
         let mut shared = self.shared.lock(rt);
         let (made, wake) = shared.make_strand(&self.table, state);
         drop(shared);
-        wake.send(&self.more);
+        self.wake(wake);
         made
     }
 
@@ -43,7 +43,7 @@ impl<H: Handler, C: Named> Context<H, C> {
         let mut shared = self.shared.lock(rt);
         let ((freed, section), wake) = shared.free_strand(&self.table, name);
         drop(shared);
-        wake.send(&self.more);
+        self.wake(wake);
         match freed {
             None => {}
             Some(state) => H::retire(state),

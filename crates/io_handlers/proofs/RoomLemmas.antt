@@ -8,8 +8,7 @@ use Rattle.io_handlers.specs.declared.staged.Initiating.{Initiating}
 use Rattle.io_handlers.specs.declared.staged.Staged.{Staged}
 use Rattle.io_handlers.specs.declared.staged.Staged.TheVariants as staged
 use Rattle.io_rules.specs.declared.control.Control.{Control}
-use Rattle.io_rules.specs.declared.control.Control.TheVariants as control
-use Rattle.io_handlers.specs.Initiated.{AreOffered, HasRoom, Initiated, IsOffered, IsPosting, IsRoomFor, MayChange, MayInitiate, called, changed, operations_in, operations_of, room_after}
+use Rattle.io_handlers.specs.Initiated.{AreOffered, HasRoom, Initiated, IsOffered, IsPosting, IsRoomFor, MayChange, MayInitiate, called, changed, is_offered_change, operations_in, operations_of, room_after}
 
 pub operations_in-last : {H : Type 0} (calls : List (Staged H)) (call : Staged H) →
     operations_in (calls ++ call ∷ []) ≡ operations_in calls + operations_of call
@@ -43,7 +42,7 @@ has_room-called capacity i call has may is =
     }
 
 pub has_room-changed : {H : Type 0} (capacity : ℕ) (i : Initiated H) (change : Control) →
-    HasRoom capacity i → MayChange i → change ≡ control.Stop → HasRoom capacity (changed change i)
+    HasRoom capacity i → MayChange i → is_offered_change change ≡ true → HasRoom capacity (changed change i)
 has_room-changed capacity i change has may is =
     let longer = length_push i.staged (staged.Changed change) in
     let counted = operations_in-last i.staged (staged.Changed change) in

@@ -3,6 +3,8 @@
 use Rattle.std.specs.Prelude.{◌≡◌, ◌<◌, ◌≤◌, ℕ, ◌+◌, ◌-◌, ◌||◌, nat_lt, Bool, true, false, List, [], ◌∷◌, ◌++◌, length, None}
 use Rattle.io_rules.specs.declared.control.Control.{Control}
 use Rattle.io_rules.specs.declared.control.Control.TheVariants as control
+use Rattle.io_rules.specs.declared.name.Kind.{Kind}
+use Rattle.io_rules.specs.declared.name.Kind.TheVariants as kind
 use Rattle.io_rules.specs.declared.name.Lane.{Lane}
 use Rattle.io_rules.specs.declared.operation.Operation.{Operation}
 use Rattle.io_rules.specs.declared.request.Marks.{Marks}
@@ -78,14 +80,27 @@ abbrev pub operations_in : {H : Type 0} → List (Staged H) → ℕ
 operations_in [] = 0
 operations_in (call ∷ calls) = operations_of call + operations_in calls
 
--- a posting, without a cancellation slot, or a stop
+-- a posting, without a cancellation slot
 pub record IsPosting {H : Type 0} (call : Initiating H) : Type 0 where
   pub posting : is_posting call.kind ≡ true
   pub unbound : call.binding ≡ None
 
+abbrev pub is_timer : Kind → Bool
+is_timer kind.Timer = true
+is_timer _ = false
+
+-- a stop, or what is done with a timer: a new expiry, a cancellation, its end
+abbrev pub is_offered_change : Control → Bool
+is_offered_change control.Stop = true
+is_offered_change (control.Expires timer at) = true
+is_offered_change (control.Cancel timer) = true
+is_offered_change (control.CancelOne timer) = true
+is_offered_change (control.Free of name) = is_timer of
+is_offered_change _ = false
+
 abbrev pub IsOffered : {H : Type 0} → Staged H → Type 0
 IsOffered (staged.Called call) = IsPosting call
-IsOffered (staged.Changed change) = change ≡ control.Stop
+IsOffered (staged.Changed change) = is_offered_change change ≡ true
 
 abbrev pub AreOffered : {H : Type 0} → List (Staged H) → Type 0
 AreOffered [] = Unit {0}

@@ -1,11 +1,12 @@
 ghost use Rattle.std.specs.Prelude.{◌≡◌, if◌then◌else◌, nat_lt, IfErr, OnErr, OnOk};
 ghost use Rattle.io_rules.specs.declared.control.Control.TheVariants as control;
+ghost use Rattle.io_rules.specs.declared.name.Kind.TheVariants as kind;
 ghost use Rattle.io_rules.specs.declared.operation.Operation.TheVariants as operation;
 ghost use Rattle.io_handlers.specs.Initiated.{MayInitiate, called, changed, initiating};
 
 use crate::staged::{Full, Initiating};
 use crate::staging::Staging;
-use io_rules::{Control, Lane, Operation};
+use io_rules::{Control, Kind, Lane, Name, Operation};
 use std::marker::Model;
 
 /// What a handler that executes initiates operations with. What it takes is accepted, and takes effect in
@@ -84,6 +85,43 @@ impl<H> Initiator<H> {
         ensures stopped { self.new ≡ (if result then changed control.Stop self.old else self.old) }
     {
         self.staging.change(Control::Stop)
+    }
+
+    /// `basic_waitable_timer::expires_at`: a timer's expiry, in nanoseconds since the context was made. What
+    /// waits on it completes with operation_aborted; no effect where its name is gone. Answers whether there
+    /// was room for the call, and where not nothing has changed.
+    pub fn expires_at(&mut self, timer: Name, at: u64) -> bool
+        ensures room { result ≡ nat_lt 0 self.old.room }
+        ensures changed { self.new ≡ (if result then changed (control.Expires timer at) self.old else self.old) }
+    {
+        self.staging.change(Control::Expires { timer, at })
+    }
+
+    /// `basic_waitable_timer::cancel`: likewise, and the expiry stays.
+    pub fn cancel(&mut self, timer: Name) -> bool
+        ensures room { result ≡ nat_lt 0 self.old.room }
+        ensures changed { self.new ≡ (if result then changed (control.Cancel timer) self.old else self.old) }
+    {
+        self.staging.change(Control::Cancel { timer })
+    }
+
+    /// `basic_waitable_timer::cancel_one`: likewise of the first that waits.
+    pub fn cancel_one(&mut self, timer: Name) -> bool
+        ensures room { result ≡ nat_lt 0 self.old.room }
+        ensures changed { self.new ≡ (if result then changed (control.CancelOne timer) self.old else self.old) }
+    {
+        self.staging.change(Control::CancelOne { timer })
+    }
+
+    /// Destroys a timer: its name is gone, and what waits on it completes with operation_aborted. Likewise.
+    pub fn free_timer(&mut self, timer: Name) -> bool
+        ensures room { result ≡ nat_lt 0 self.old.room }
+        ensures changed { self.new ≡ (if result then changed (control.Free kind.Timer timer) self.old else self.old) }
+    {
+        self.staging.change(Control::Free {
+            kind: Kind::Timer,
+            name: timer,
+        })
     }
 
     /// Its handler has returned: what it staged is to take effect.

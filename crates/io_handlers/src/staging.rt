@@ -1,6 +1,5 @@
-ghost use Rattle.std.specs.Prelude.{◌≡◌, ◌≤◌, ◌+◌, if◌then◌else◌, [], ◌∷◌, nat_lt, IfErr, IfNone, IfOk, IfSome, OnErr, OnOk, drop};
-ghost use Rattle.io_rules.specs.declared.control.Control.TheVariants as control;
-ghost use Rattle.io_handlers.specs.Initiated.{IsOffered, IsPosting, IsRoomFor, MayInitiate, called, changed, new_initiated, operations_in, renewed, room_after};
+ghost use Rattle.std.specs.Prelude.{◌≡◌, ◌≤◌, ◌+◌, if◌then◌else◌, [], ◌∷◌, nat_lt, true, IfErr, IfNone, IfOk, IfSome, OnErr, OnOk, drop};
+ghost use Rattle.io_handlers.specs.Initiated.{IsOffered, IsPosting, IsRoomFor, MayInitiate, called, changed, is_offered_change, new_initiated, operations_in, renewed, room_after};
 
 use crate::initiator::Initiator;
 use crate::staged::{Full, Initiating, Staged};
@@ -118,7 +117,7 @@ impl<H> Staging<H> {
 
     /// A call that has no handler, as far as there is room for it; answers whether there is.
     pub(crate) fn change(&mut self, change: Control) -> bool
-        requires { change ≡ control.Stop }
+        requires { is_offered_change change ≡ true }
         ensures room { result ≡ nat_lt 0 self.old.room }
         ensures changed { self.new ≡ (if result then changed change self.old else self.old) }
     {

@@ -215,6 +215,7 @@ others_begun marks s n spares it k c is other shows =
           (changed_leaves n (λ op. phase.Running true (grant_of s) spares) s.ops)
           (none_elsewhere marks s.ops (lane_of_place s.names.strands k) n it c.queue is other shows.ready) shows.ready;
       tied = shows.tied;
+      idle = shows.idle;
     })
 
 -- one without a strand begins
@@ -305,6 +306,7 @@ begun_strand marks limits counts names cells jobs s p op spares within listed is
           (record {
             ready = behind_first marks n s.ops new on old.queue op leaves first (shows.each p).ready;
             tied = (shows.each p).tied;
+            idle = λ isnt. absurd (true≢false isnt);
           }))))
           (λ other.
           subst (λ c. ShowsCell marks new s.next (lane_of_place (kept_for n spares s.names).strands k) c)

@@ -165,6 +165,7 @@ others_ended marks s n spares it k c is runs shows =
           (without_leaves n s.ops)
           (none_running marks s.ops (lane_of_place s.names.strands k) n it c.queue is runs shows.ready) shows.ready;
       tied = shows.tied;
+      idle = shows.idle;
     })
 
 -- without a strand
@@ -246,7 +247,7 @@ ended_strand marks limits counts names cells jobs s n it p places spares state i
           (sym (get_or-set_same cells p cell (vacant 0) on.within))
           (let same_place = others_ended marks s n spares it p old is runs (shows.each p) in
           let le = same_place.tied in
-          record { ready = same_place.ready; tied = omega (arith, le) })))
+          record { ready = same_place.ready; tied = omega (arith, le); idle = λ isnt. absurd (true≢false isnt) })))
           (λ other.
           subst (λ c. ShowsCell marks (without n s.ops) s.next (lane_of_place (given_back spares s.names).strands k) c)
           (sym (get_or-set_other cells p k cell (vacant 0) (apart p k other)))

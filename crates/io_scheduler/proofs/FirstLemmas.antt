@@ -6,11 +6,13 @@ use Rattle.std.specs.Prelude.{◌≡◌, ◌<◌, ◌≤◌, ℕ, zero, suc, fal
 use Rattle.io_rules.specs.declared.limits.Limits.{Limits}
 use Rattle.io_rules.specs.declared.request.Marks.{Marks}
 use Rattle.io_rules.specs.Names.{first_names, new_place}
-use Rattle.io_rules.specs.State.{first_state}
+use Rattle.io_rules.specs.State.{first_state, new_timer}
 use Rattle.io_strands.specs.Cell.{Cell, is_there, may_begin, vacant}
 use Rattle.io_strands.specs.Numbered.{numbered}
 use Rattle.io_jobs.specs.Listed.{no_jobs}
 use Rattle.io_scheduler.specs.Counted.{new_counts}
+use Rattle.io_timers.specs.Pending.{no_waits}
+use Rattle.io_scheduler.specs.Waits.{ShowsWaits}
 use Rattle.io_scheduler.specs.Shown.{Shows, ShowsCell, cell_at, is_used_place, lane_of_place, room_of}
 
 map-replicate : {A B : Type 0} (f : A → B) (n : ℕ) (x : A) → map f (replicate n x) ≡ replicate n (f x)
@@ -62,7 +64,7 @@ shows_first marks limits =
       there = map-replicate is_there n (vacant r) ∙ sym (map-replicate is_used_place n new_place);
       rooms = map-replicate room_of n (vacant r);
       each = λ k. vacant_at (λ c. ShowsCell marks [] 0 (lane_of_place (replicate n new_place) k) c) n r k
-          (λ m. record { ready = tt; tied = omega arith });
+          (λ m. record { ready = tt; tied = omega arith; idle = λ isnt. refl });
       listed = sym (map-replicate may_begin n (vacant r));
       own = tt;
       own_all = refl;
@@ -70,3 +72,15 @@ shows_first marks limits =
       settled = refl;
       going = refl;
     }
+
+pub waits_first : {H : Type 0} (marks : H → Marks) (limits : Limits) →
+    ShowsWaits marks limits (no_waits limits.timers limits.operations) (first_state limits)
+waits_first marks limits = record {
+  timers_are = refl;
+  places = length-replicate limits.timers new_timer ∙ sym (length-replicate limits.timers new_place);
+  waits_are = refl;
+  rises = tt;
+  each = tt;
+  all = refl;
+  room = omega arith;
+}

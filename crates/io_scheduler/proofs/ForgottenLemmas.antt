@@ -109,7 +109,7 @@ shows_without marks limits counts names cells jobs s name within empty shows =
           (equal p k here)
           (subst (λ c. ShowsCell marks s.ops s.next (lane_of_place new p) c)
           (sym (get_or-set_same cells p cell (vacant 0) within))
-          (record { ready = tt; tied = omega arith })))
+          (record { ready = tt; tied = omega arith; idle = λ isnt. refl })))
           (λ other.
           subst (λ c. ShowsCell marks s.ops s.next (lane_of_place new k) c)
           (sym (get_or-set_other cells p k cell (vacant 0) (apart p k other)))

@@ -40,7 +40,7 @@ use Rattle.io_scheduler.proofs.ListedLemmas.{cell_is}
 use Rattle.io_scheduler.proofs.SpaceLemmas.{living_used, there_is, within_cells}
 use Rattle.io_scheduler.proofs.SpareLemmas.{spares_less}
 
-living_not : (l : Life) → is_living l ≡ true → is_unused l ≡ false
+pub living_not : (l : Life) → is_living l ≡ true → is_unused l ≡ false
 living_not life.Alive is = refl
 living_not life.Free is = absurd (true≢false (sym is))
 living_not (life.Kept op) is = refl

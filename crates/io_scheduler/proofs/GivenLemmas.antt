@@ -90,6 +90,7 @@ cell_given marks s by k c shows = record {
   ready = ready-kept marks s.ops (place_given_by (Some by) s.ops) (lane_of_place s.names.strands k) c.queue
       (keeps_given by s.ops) shows.ready;
   tied = shows.tied;
+  idle = shows.idle;
 }
 
 pub shows_given : {H S : Type 0} (marks : H → Marks) (limits : Limits) (counts : Counts) (names : Names)

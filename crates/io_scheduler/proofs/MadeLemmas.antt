@@ -134,7 +134,11 @@ shows_made marks limits past counts names cells jobs name state legal may shows 
           (equal p k here)
           (subst (λ c. ShowsCell marks s.ops s.next (lane_of_place places p) c)
           (sym (get_or-set_same cells p cell (vacant 0) there.within))
-          (record { ready = (shows.each p).ready; tied = (shows.each p).tied })))
+          (record {
+            ready = (shows.each p).ready;
+            tied = (shows.each p).tied;
+            idle = λ isnt. absurd (true≢false isnt);
+          })))
           (λ other.
           subst (λ c. ShowsCell marks s.ops s.next (lane_of_place places k) c)
           (sym (get_or-set_other cells p k cell (vacant 0) (apart p k other))) (shows.each k)));

@@ -43,7 +43,7 @@ use Rattle.io_scheduler.specs.Shown.{AreBelow, Shows, ShowsCell, cell_at, lane_o
 use Rattle.io_scheduler.specs.Posted.{counts_posted, posting, ready_posting}
 use Rattle.io_scheduler.proofs.ListedLemmas.{cell_is, flag_is, listed-if, not_before, own-if, own-push, room-if}
 use Rattle.io_scheduler.proofs.SpareLemmas.{spares_push}
-use Rattle.io_scheduler.proofs.SpaceLemmas.{not_gone, there_if, three, within_cells}
+use Rattle.io_scheduler.proofs.SpaceLemmas.{living_used, not_gone, there_if, there_is, three, within_cells}
 use Rattle.io_scheduler.proofs.ReadyLemmas.{Keeps, at_new, below-push, none_next, ready-called, ready-kept, ready-push}
 
 -- the operation that is posted
@@ -68,7 +68,7 @@ posted first n on new settled waits s = record s {
   strands = on_lane on (called_on (entry_of_dispatch first) n) s.strands;
 }
 
-keeps_posted : (ops : List Op) (new : Op) → Keeps ops (ops ++ new ∷ [])
+pub keeps_posted : (ops : List Op) (new : Op) → Keeps ops (ops ++ new ∷ [])
 keeps_posted ops new n op is ready = at-push n ops new op is
 
 is_ready_new : {H : Type 0} (marks : H → Marks) (ops : List Op) (n : ℕ) (on : Lane) (kind : Operation) (code : Code)
@@ -83,12 +83,13 @@ is_ready_new marks ops n on kind code handler below = record {
 }
 
 -- what is ready elsewhere stays
-others_ready : {H S : Type 0} (marks : H → Marks) (ops : List Op) (new : Op) (n : ℕ) (on : Lane) (c : Cell H S) →
+pub others_ready : {H S : Type 0} (marks : H → Marks) (ops : List Op) (new : Op) (n : ℕ) (on : Lane) (c : Cell H S) →
     ShowsCell marks ops n on c → ShowsCell marks (ops ++ new ∷ []) (n + 1) on c
 others_ready marks ops new n on c shows =
     let le = shows.tied in record {
       ready = ready-kept marks ops (ops ++ new ∷ []) on c.queue (keeps_posted ops new) shows.ready;
       tied = omega (arith, le);
+      idle = shows.idle;
     }
 
 tied_called : {H S : Type 0} (first : Bool) (op : ReadyOp H) (c : Cell H S) →
@@ -108,10 +109,10 @@ room_called true op c = refl
 
 -- the strand of the new one
 here_ready : {H S : Type 0} (marks : H → Marks) (ops : List Op) (n : ℕ) (on : Lane) (kind : Operation) (code : Code)
-    (handler : H) (first : Bool) (c : Cell H S) → AreBelow n ops → ShowsCell marks ops n on c →
+    (handler : H) (first : Bool) (c : Cell H S) → is_there c ≡ true → AreBelow n ops → ShowsCell marks ops n on c →
     ShowsCell marks (ops ++ posted_op n on kind (marks handler) code ∷ []) (n + 1) on
     (called (entry_of_dispatch first) (ready_posting n code handler) c)
-here_ready marks ops n on kind code handler first c below shows =
+here_ready marks ops n on kind code handler first c there below shows =
     let new = posted_op n on kind (marks handler) code in
     let ready = ready_posting n code handler in
     let le = shows.tied in
@@ -121,9 +122,10 @@ here_ready marks ops n on kind code handler first c below shows =
           (ready-kept marks ops (ops ++ new ∷ []) on c.queue (keeps_posted ops new) shows.ready)
           (is_ready_new marks ops n on kind code handler below) (none_next marks n ops on c.queue below shows.ready);
       tied = omega (arith, le, tied);
+      idle = λ isnt. absurd (true≢false (sym there ∙ sym (there_called first (ready_posting n code handler) c) ∙ isnt));
     }
 
-own_count : (ops : List Op) (new : Op) → sum_by waits_own (ops ++ new ∷ []) ≡ sum_by waits_own ops + waits_own new
+pub own_count : (ops : List Op) (new : Op) → sum_by waits_own (ops ++ new ∷ []) ≡ sum_by waits_own ops + waits_own new
 own_count ops new =
     sum_by-total waits_own (ops ++ new ∷ []) ∙ total-push waits_own ops new
     ∙ ap (λ n. n + waits_own new) (sym (sum_by-total waits_own ops))
@@ -176,12 +178,13 @@ lane_current names name is =
 posted_strand : {H S : Type 0} (marks : H → Marks) (limits : Limits) (counts : Counts) (names : Names)
     (cells : List (Cell H S)) (jobs : JobList (ReadyOp H)) (s : ContextState) (first : Bool) (name : Name)
     (kind : Operation) (code : Code) (handler : H) (settled : List ℕ) (waits : List Wait) → settled ≡ [] →
-    is_current s.names.strands name ≡ true → name.place < length cells → Shows marks limits counts names cells jobs s →
+    is_current s.names.strands name ≡ true → name.place < length cells → is_there (cell_at cells name.place) ≡ true →
+    Shows marks limits counts names cells jobs s →
     Shows marks limits (counts_posted counts) names
     (entered_cells first (lane.Strand name) (ready_posting s.next code handler) cells)
     (entered_jobs first (lane.Strand name) (ready_posting s.next code handler) cells jobs)
     (posted first s.next (lane.Strand name) (posted_op s.next (lane.Strand name) kind (marks handler) code) settled waits s)
-posted_strand marks limits counts names cells jobs s first name kind code handler settled waits none current within shows =
+posted_strand marks limits counts names cells jobs s first name kind code handler settled waits none current within there shows =
     let n = s.next in
     let on = lane.Strand name in
     let new = posted_op n on kind (marks handler) code in
@@ -215,7 +218,7 @@ posted_strand marks limits counts names cells jobs s first name kind code handle
           (subst (λ c. ShowsCell marks (s.ops ++ new ∷ []) (n + 1) (lane_of_place s.names.strands p) c)
           (sym (get_or-set_same cells p cell (vacant 0) within))
           (subst (λ l. ShowsCell marks (s.ops ++ new ∷ []) (n + 1) l cell) (sym (lane_current s.names name current))
-          (here_ready marks s.ops n on kind code handler first old shows.below
+          (here_ready marks s.ops n on kind code handler first old there shows.below
           (subst (λ l. ShowsCell marks s.ops n l old) (lane_current s.names name current) (shows.each p))))))
           (λ other.
           subst (λ c. ShowsCell marks (s.ops ++ new ∷ []) (n + 1) (lane_of_place s.names.strands k) c)
@@ -257,7 +260,10 @@ shows_posted marks limits counts names cells jobs s first n (lane.Strand name) k
     (posted first k (lane.Strand name) (posted_op k (lane.Strand name) kind (marks handler) code) settled waits s)) (sym is)
     (posted_strand marks limits counts names cells jobs s first name kind code handler settled waits none
     (both (is_current s.names.strands name) (is_living (place_at s.names.strands name.place).life) alive).one
-    (within_cells cells s.names.strands name shows.there alive) shows)
+    (within_cells cells s.names.strands name shows.there alive)
+    (there_is cells s.names.strands name.place shows.there
+    ∙ living_used (place_at s.names.strands name.place).life
+    (both (is_current s.names.strands name) (is_living (place_at s.names.strands name.place).life) alive).other) shows)
 
 -- a number, a place and the strand are there: the call may come
 pub gone_posting : (s : ContextState) (on : Lane) (kind : Operation) (marks : Marks) (b : Bool) →

@@ -65,17 +65,17 @@ own_less (phase.Settled code size) = omega arith
 own_less (phase.Ready code size) = omega arith
 own_less (phase.Running own grant spares) = omega arith
 
-own_place : (on : Lane) (p : Phase) → waits_own_on on (is_ready p) ≤ places_in p
+pub own_place : (on : Lane) (p : Phase) → waits_own_on on (is_ready p) ≤ places_in p
 own_place lane.Own p = own_less p
 own_place (lane.Strand name) p = omega arith
 
-strand_place : (p : Phase) (b : Bool) → if_prepared (stage_of p) b ≤ places_in p
+pub strand_place : (p : Phase) (b : Bool) → if_prepared (stage_of p) b ≤ places_in p
 strand_place (phase.Pending moved cancelled) b = omega arith
 strand_place (phase.Settled code size) b = omega arith
 strand_place (phase.Ready code size) b = one_at_most b
 strand_place (phase.Running own grant spares) b = omega arith
 
-owns_are : {H : Type 0} (ring : List (Job (ReadyOp H))) → owns ring ≡ length (own_ops ring)
+pub owns_are : {H : Type 0} (ring : List (Job (ReadyOp H))) → owns ring ≡ length (own_ops ring)
 owns_are [] = refl
 owns_are (job.Strand strand ∷ ring) = let rest = owns_are ring in omega (arith, rest)
 owns_are (job.Own op ∷ ring) = let rest = owns_are ring in omega (arith, rest)
@@ -113,7 +113,7 @@ own_space marks limits counts names cells jobs s space shows =
     let room = space.room in
     omega (arith, less, places, waits, all, are, most, room)
 
-within_places : (places : List Place) (name : Name) → is_living (place_at places name.place).life ≡ true →
+pub within_places : (places : List Place) (name : Name) → is_living (place_at places name.place).life ≡ true →
     name.place < length places
 within_places places name is =
     ⊎_elim (λ (lt : name.place < length places). lt)

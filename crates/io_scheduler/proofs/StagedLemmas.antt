@@ -9,7 +9,8 @@ use Rattle.io_rules.specs.declared.request.Request.{Request}
 use Rattle.io_rules.specs.Calls.{gone_of}
 use Rattle.io_rules.specs.State.{ContextState}
 use Rattle.io_handlers.specs.declared.staged.Staged.{Staged}
-use Rattle.io_scheduler.specs.Staged.{AreStaged, IsCalled, MayCome, behind, done_at_once, staged_behind}
+use Rattle.io_scheduler.specs.Come.{MayCome, behind}
+use Rattle.io_scheduler.specs.Staged.{AreStaged, IsCalled, done_at_once, staged_behind}
 
 -- the events of a call, where so much is gone
 abbrev pub called_as : ℕ → Request → Gone → ContextState → List Event

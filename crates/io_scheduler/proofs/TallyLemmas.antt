@@ -1,8 +1,9 @@
 -- How many operations wait and execute, as events come.
 use Rattle.std.proofs.Common.{arith, ap, refl, subst, sym, ◌∙◌}
 use Rattle.std.proofs.lemmas.Bool.{ltb-true, true≢false}
-use Rattle.std.specs.Prelude.{◌≡◌, ◌<◌, ◌≤◌, ℕ, ◌+◌, ◌&&◌, not, Bool, true, false, List, [], ◌∷◌, ◌++◌, replicate, suc, zero, Option, Some, None, length, nat_lt}
+use Rattle.std.specs.Prelude.{◌≡◌, ◌<◌, ◌≤◌, ℕ, ◌+◌, ◌&&◌, not, Bool, true, false, List, [], ◌∷◌, ◌++◌, replicate, suc, zero, Option, Some, None, length, map, nat_lt}
 use Rattle.std.specs.List.{list_all}
+use Rattle.asio_types.specs.declared.code.Code.{Code}
 use Rattle.asio_types.specs.declared.code.Code.TheVariants as code
 use Rattle.io_rules.specs.declared.control.Control.{Control}
 use Rattle.io_rules.specs.declared.event.Event.TheVariants as event
@@ -12,7 +13,9 @@ use Rattle.io_rules.specs.declared.name.Lane.TheVariants as lane
 use Rattle.io_rules.specs.declared.op.Op.{Op}
 use Rattle.io_rules.specs.declared.op.Phase.{Phase}
 use Rattle.io_rules.specs.declared.op.Phase.TheVariants as phase
+use Rattle.io_rules.specs.declared.name.Name.{Name}
 use Rattle.io_rules.specs.declared.operation.Operation.{Operation}
+use Rattle.io_rules.specs.declared.operation.Operation.TheVariants as operation
 use Rattle.io_rules.specs.declared.request.Gone.TheVariants as gone
 use Rattle.io_rules.specs.declared.request.Marks.{Marks}
 use Rattle.io_rules.specs.declared.spares.Spares.{Spares}
@@ -20,28 +23,36 @@ use Rattle.io_rules.specs.Calls.{is_lane_gone}
 use Rattle.io_rules.specs.Changes.{is_out, streams_changed}
 use Rattle.io_rules.specs.Executions.{MayBegin, MayEnd}
 use Rattle.io_rules.specs.Legal.{after}
-use Rattle.io_rules.specs.Ops.{is_ready, is_running}
+use Rattle.io_rules.specs.Ops.{is_ready, is_running, op_at, with_phase}
 use Rattle.io_rules.specs.Operations.{is_posting}
 use Rattle.io_rules.specs.Room.{most_numbers, numbers_left, one_if, place_given, place_given_by}
-use Rattle.io_rules.specs.State.{ContextState, first_state, new_stream}
+use Rattle.io_rules.specs.State.{ContextState, TimerState, first_state, new_stream}
+use Rattle.io_rules.specs.Timers.{earliest}
+use Rattle.io_timers.specs.declared.pending.PendingWait.{PendingWait}
+use Rattle.io_timers.specs.Pending.{Entry, Timers, expiry_by, next_wait, wait_of}
+use Rattle.io_scheduler.specs.declared.waiting.Waiting.{Waiting}
 use Rattle.io_rules.specs.Stopping.{IsAtRest, has_no_ops}
 use Rattle.io_rules.specs.Strands.{entry_of_dispatch, entry_of_kind}
 use Rattle.io_rules.proofs.FitLemmas.{if_prepared}
 use Rattle.io_rules.proofs.MoveLemmas.{begun-moves, ended-leaves}
 use Rattle.io_rules.proofs.OnceLemmas.{if_executing}
-use Rattle.io_rules.proofs.StageLemmas.{Stage, give_keeps, kept_of, stage_of, staged, total-other}
-use Rattle.io_rules.proofs.TotalLemmas.{sum_by-total, total, total-push}
+use Rattle.io_rules.proofs.StageLemmas.{Executing, Idle, Prepared, Stage, give_keeps, kept_of, stage_of, staged, total-other}
+use Rattle.io_rules.proofs.TotalLemmas.{share, sum_by-total, total, total-changed, total-push}
 use Rattle.io_history.specs.declared.view.Held.{Held}
 use Rattle.io_scheduler.specs.declared.tally.Tally.{Tally}
+use Rattle.io_scheduler.specs.Accepted.{waiting_on}
 use Rattle.io_scheduler.specs.Counted.{may_post}
+use Rattle.io_scheduler.specs.Expired.{wait_done}
 use Rattle.io_scheduler.specs.Posted.{posting}
 use Rattle.io_scheduler.specs.Shown.{AreBelow}
 use Rattle.io_scheduler.proofs.CalledLemmas.{state_called}
 use Rattle.io_scheduler.proofs.EndedLemmas.{HeldOp}
+use Rattle.io_scheduler.proofs.IdleLemmas.{idles, incomplete_total}
 use Rattle.io_scheduler.proofs.PostedLemmas.{after_posting, called_state, outside_last, posted_op}
 use Rattle.io_scheduler.proofs.RefusedLemmas.{behind_refused}
 use Rattle.io_scheduler.proofs.SpaceLemmas.{three}
 use Rattle.io_scheduler.specs.Tallied.{IsTally, running_in, tally_begun, tally_called, tally_ended, waiting_in}
+use Rattle.io_scheduler.specs.Waits.{ShowsWaits, incomplete_in}
 
 abbrev one : ℕ → Lane → Stage → ℕ
 one n on stage = 1
@@ -68,7 +79,7 @@ executes_is (phase.Settled code size) = refl
 executes_is (phase.Ready code size) = refl
 executes_is (phase.Running own grant spares) = refl
 
--- the three counts, as sums over stages
+-- the counts, as sums over stages
 waiting_total : (ops : List Op) → waiting_in ops ≡ total (staged waits) ops
 waiting_total ops =
     sum_by-total (λ op. one_if (is_ready op.phase)) ops
@@ -83,15 +94,30 @@ length_total : (ops : List Op) → length ops ≡ total (staged one) ops
 length_total [] = refl
 length_total (op ∷ ops) = let rest = length_total ops in omega (arith, rest)
 
+one_of : (stage : Stage) → 1 ≡ if_prepared stage true + if_executing stage true + idles 0 lane.Own stage
+one_of Idle = refl
+one_of Prepared = refl
+one_of Executing = refl
+
+all_total : (ops : List Op) →
+    length ops ≡ total (staged waits) ops + total (staged executes) ops + total (staged idles) ops
+all_total [] = refl
+all_total (op ∷ ops) = let here = one_of (stage_of op.phase) in let rest = all_total ops in omega (arith, here, rest)
+
+-- they are all
+tally_all : (t : Tally) (s : ContextState) → IsTally t s → length s.ops ≡ t.waiting + t.running + incomplete_in s.ops
+tally_all t s tally =
+    let all = all_total s.ops in let none = incomplete_total s.ops in
+    let waiting = tally.waiting ∙ waiting_total s.ops in let running = tally.running ∙ running_total s.ops in
+    omega (arith, all, none, waiting, running)
+
 -- as events move them
 moved : (t : Tally) (s new : ContextState) (new_t : Tally) → IsTally t s →
     new_t.waiting ≡ total (staged waits) new.ops → new_t.running ≡ total (staged executes) new.ops →
-    total (staged one) new.ops ≡ new_t.waiting + new_t.running → length new.ops ≤ new.next →
-    new.streams ≡ s.streams → IsTally new_t new
-moved t s new new_t tally waiting running all few streams = record {
+    length new.ops ≤ new.next → new.streams ≡ s.streams → IsTally new_t new
+moved t s new new_t tally waiting running few streams = record {
   waiting = waiting ∙ sym (waiting_total new.ops);
   running = running ∙ sym (running_total new.ops);
-  all = length_total new.ops ∙ all;
   few = few;
   sockets = ap (list_all (λ stream. not (is_out stream.out))) streams ∙ tally.sockets;
 }
@@ -102,12 +128,12 @@ tally_pushed : (t : Tally) (s new : ContextState) (by : Option ℕ) (it : Op) �
     IsTally (tally_called t) new
 tally_pushed t s new by it tally ready ops next streams =
     let waiting = tally.waiting ∙ waiting_total s.ops in let running = tally.running ∙ running_total s.ops in
-    let all = tally.all in let few = tally.few in let many = length_total s.ops in let more = length_total new.ops in
+    let few = tally.few in let many = length_total s.ops in let more = length_total new.ops in
     let w = more_by waits in let x = more_by executes in let o = more_by one in
     let one_waits : if_prepared (stage_of it.phase) true ≡ 1 = sym (waits_is it.phase) ∙ ap one_if ready in
     let none_runs : if_executing (stage_of it.phase) true ≡ 0 = ready_idle it.phase ready in
     moved t s new (tally_called t) tally (omega (arith, waiting, w, one_waits)) (omega (arith, running, x, none_runs))
-    (omega (arith, all, many, o)) (omega (arith, many, more, o, few, next)) streams
+    (omega (arith, many, more, o, few, next)) streams
   where
     more_by : (h : ℕ → Lane → Stage → ℕ) →
         total (staged h) new.ops ≡ total (staged h) s.ops + h it.number it.lane (stage_of it.phase)
@@ -150,14 +176,61 @@ tally_refused t s n by on kind marks tally posts below =
     (ap (λ (x : ContextState). x.next) behind) (ap (λ (x : ContextState). x.streams) behind)
 
 pub tally_below : (t : Tally) (s : ContextState) → IsTally t s → t.waiting ≤ s.next
-tally_below t s tally = let all = tally.all in let few = tally.few in omega (arith, all, few)
+tally_below t s tally = let all = tally_all t s tally in let few = tally.few in omega (arith, all, few)
 
 pub tally_room : (t : Tally) (s : ContextState) (on : Lane) → IsTally t s → may_post s on ≡ true → t.waiting < most_numbers
 tally_room t s on tally may =
     let parts = three (nat_lt 0 s.room) (nat_lt 0 (numbers_left s)) (not (is_lane_gone s.names on)) may in
     let left = ltb-true 0 (numbers_left s) parts.two in
-    let all = tally.all in let few = tally.few in
+    let all = tally_all t s tally in let few = tally.few in
     omega (arith, left, all, few)
+
+-- a wait is accepted
+pub tally_waits : (t : Tally) (s : ContextState) (n : ℕ) (on : Lane) (timer : Name) (marks : Marks) → IsTally t s →
+    IsTally t (after (event.Called n None (waiting_on on timer marks) gone.Nothing) s)
+tally_waits t s n on timer marks tally =
+    let new = after (event.Called n None (waiting_on on timer marks) gone.Nothing) s in
+    let it : Op = record {
+      number = n;
+      lane = on;
+      binding = None;
+      kind = operation.Wait timer;
+      marks = marks;
+      phase = phase.Pending 0 false;
+    } in
+    let waiting = tally.waiting ∙ waiting_total s.ops in let running = tally.running ∙ running_total s.ops in
+    let many = length_total s.ops in let more = length_total new.ops in let few = tally.few in
+    let w = total-push (staged waits) s.ops it in let x = total-push (staged executes) s.ops it in
+    let o = total-push (staged one) s.ops it in
+    moved t s new t tally (omega (arith, waiting, w)) (omega (arith, running, x)) (omega (arith, many, more, o, few)) refl
+
+-- one that hadn't completed does
+pub tally_completes : (t : Tally) (s : ContextState) (n : ℕ) (given : Code) (on : Lane) (it : Op) → IsTally t s →
+    op_at s.ops n ≡ Some it → stage_of it.phase ≡ Idle → IsTally (tally_called t) (wait_done n given on s)
+tally_completes t s n given on it tally is idle =
+    let new = wait_done n given on s in
+    let waiting = tally.waiting ∙ waiting_total s.ops in let running = tally.running ∙ running_total s.ops in
+    let many = length_total s.ops in let more = length_total new.ops in let few = tally.few in
+    let w = come waits in let x = come executes in let o = come one in
+    moved t s new (tally_called t) tally (omega (arith, waiting, w)) (omega (arith, running, x))
+    (omega (arith, many, more, o, few)) refl
+  where
+    come : (h : ℕ → Lane → Stage → ℕ) →
+        total (staged h) (with_phase n (phase.Ready given 0) s.ops) + h it.number it.lane Idle
+        ≡ total (staged h) s.ops + h it.number it.lane Prepared
+    come h =
+        subst (λ stage. total (staged h) (with_phase n (phase.Ready given 0) s.ops) + h it.number it.lane stage
+        ≡ total (staged h) s.ops + h it.number it.lane Prepared) idle
+        (total-changed (staged h) n (λ o. phase.Ready given 0) s.ops it is)
+
+-- there is a number for it
+pub tally_incomplete : (t : Tally) (s : ContextState) (n : ℕ) (it : Op) → IsTally t s → op_at s.ops n ≡ Some it →
+    stage_of it.phase ≡ Idle → t.waiting < s.next
+tally_incomplete t s n it tally is idle =
+    let all = tally_all t s tally in let few = tally.few in let none = incomplete_total s.ops in
+    let own = share (staged idles) n s.ops it is in
+    let one : staged idles it ≡ 1 = ap (idles it.number it.lane) idle in
+    omega (arith, all, few, none, own, one)
 
 -- a handler begins
 pub tally_begins : (t : Tally) (s : ContextState) (op : ℕ) (spares : Spares) → IsTally t s → MayBegin s op spares →
@@ -165,20 +238,20 @@ pub tally_begins : (t : Tally) (s : ContextState) (op : ℕ) (spares : Spares) �
 tally_begins t s op spares tally may =
     let new = after (event.Begun op spares) s in
     let waiting = tally.waiting ∙ waiting_total s.ops in let running = tally.running ∙ running_total s.ops in
-    let all = tally.all in let many = length_total s.ops in let more = length_total new.ops in
+    let many = length_total s.ops in let more = length_total new.ops in
     let w = begun-moves waits op spares s may in
     let x = begun-moves executes op spares s may in
     let o = begun-moves one op spares s may in
     let few = tally.few in
     moved t s new (tally_begun t) tally (omega (arith, waiting, w)) (omega (arith, running, x))
-    (omega (arith, waiting, all, many, w, o)) (omega (arith, many, more, o, few)) refl
+    (omega (arith, many, more, o, few)) refl
 
 -- there is a number for it
 pub tally_more : (t : Tally) (s : ContextState) (op : ℕ) (spares : Spares) → IsTally t s → MayBegin s op spares →
     t.running < s.next
 tally_more t s op spares tally may =
     let waiting = tally.waiting ∙ waiting_total s.ops in
-    let all = tally.all in let few = tally.few in
+    let all = tally_all t s tally in let few = tally.few in
     let w = begun-moves waits op spares s may in
     omega (arith, waiting, all, few, w)
 
@@ -188,13 +261,13 @@ pub tally_ends : (t : Tally) (s : ContextState) (op mark : ℕ) → IsTally t s 
 tally_ends t s op mark tally may =
     let new = after (event.Ended op mark) s in
     let waiting = tally.waiting ∙ waiting_total s.ops in let running = tally.running ∙ running_total s.ops in
-    let all = tally.all in let many = length_total s.ops in let more = length_total new.ops in
+    let many = length_total s.ops in let more = length_total new.ops in
     let w = ended-leaves waits op mark s may in
     let x = ended-leaves executes op mark s may in
     let o = ended-leaves one op mark s may in
     let few = tally.few in
     moved t s new (tally_ended t) tally (omega (arith, waiting, w)) (omega (arith, running, x))
-    (omega (arith, running, all, many, x, o)) (omega (arith, many, more, o, few)) refl
+    (omega (arith, many, more, o, few)) refl
 
 -- a control call that leaves the streams
 pub tally_changes : (t : Tally) (s : ContextState) (by : Option ℕ) (change : Control) → IsTally t s →
@@ -202,12 +275,12 @@ pub tally_changes : (t : Tally) (s : ContextState) (by : Option ℕ) (change : C
 tally_changes t s by change tally streams =
     let new = after (event.Changed by change) s in
     let waiting = tally.waiting ∙ waiting_total s.ops in let running = tally.running ∙ running_total s.ops in
-    let all = tally.all in let many = length_total s.ops in let more = length_total new.ops in
+    let many = length_total s.ops in let more = length_total new.ops in
     let w = total-other waits (event.Changed by change) s refl in
     let x = total-other executes (event.Changed by change) s refl in
     let o = total-other one (event.Changed by change) s refl in
     let few = tally.few in
-    moved t s new t tally (omega (arith, waiting, w)) (omega (arith, running, x)) (omega (arith, all, many, o))
+    moved t s new t tally (omega (arith, waiting, w)) (omega (arith, running, x))
     (omega (arith, many, more, o, few)) streams
 
 none_here : (p : Phase) (b : Bool) (rest : ℕ) → one_if (is_running p) + rest ≡ 0 → (rest ≡ 0 → b ≡ true) →
@@ -248,15 +321,17 @@ tally_runs t s tally some =
     some_runs s.ops (omega (arith, sum, running, some))
 
 -- no operation is left
-pub tally_none : (t : Tally) (s : ContextState) → IsTally t s → t.waiting + t.running ≡ 0 → has_no_ops s.ops ≡ true
-tally_none t s tally none = by_ops s.ops (tally.all ∙ none)
+pub tally_none : (t : Tally) (s : ContextState) → IsTally t s → t.waiting + t.running + incomplete_in s.ops ≡ 0 →
+    has_no_ops s.ops ≡ true
+tally_none t s tally none = by_ops s.ops (tally_all t s tally ∙ none)
   where
     by_ops : (ops : List Op) → length ops ≡ 0 → has_no_ops ops ≡ true
     by_ops [] none = refl
     by_ops (op ∷ ops) none = absurd (omega (arith, none))
 
-pub tally_some : (t : Tally) (s : ContextState) → IsTally t s → 0 < t.waiting + t.running → has_no_ops s.ops ≡ false
-tally_some t s tally some = let all = tally.all in by_ops s.ops (omega (arith, all, some))
+pub tally_some : (t : Tally) (s : ContextState) → IsTally t s → 0 < t.waiting + t.running + incomplete_in s.ops →
+    has_no_ops s.ops ≡ false
+tally_some t s tally some = let all = tally_all t s tally in by_ops s.ops (omega (arith, all, some))
   where
     by_ops : (ops : List Op) → 0 < length ops → has_no_ops ops ≡ false
     by_ops [] some = absurd (omega (arith, some))
@@ -268,7 +343,7 @@ at_rest t s tally going none = record { going = going; handlers = tally_rests t 
 -- before the first event
 pub tally_first : (limits : Limits) → IsTally (record { waiting = 0; running = 0 }) (first_state limits)
 tally_first limits =
-    record { waiting = refl; running = refl; all = refl; few = omega arith; sockets = none_out limits.streams }
+    record { waiting = refl; running = refl; few = omega arith; sockets = none_out limits.streams }
   where
     none_out : (n : ℕ) → list_all (λ stream. not (is_out stream.out)) (replicate n new_stream) ≡ true
     none_out zero = refl
@@ -280,7 +355,36 @@ pub tally_stays : (t : Tally) (s : ContextState) (stopped : Bool) → IsTally t 
 tally_stays t s stopped tally = record {
   waiting = tally.waiting;
   running = tally.running;
-  all = tally.all;
   few = tally.few;
   sockets = tally.sockets;
 }
+
+-- nothing is left to do
+pub none_left : {H : Type 0} (marks : H → Marks) (limits : Limits) (timers : Timers (Waiting H)) (t : Tally)
+    (s : ContextState) → IsTally t s → ShowsWaits marks limits timers s → t.waiting + t.running ≡ 0 →
+    None ≡ expiry_by timers.timers (next_wait timers) → has_no_ops s.ops ≡ true
+none_left marks limits timers t s tally shows none no_expiry =
+    let all = shows.all in
+    let no_wait = no_waits_left timers.timers timers.waits no_expiry in
+    tally_none t s tally (omega (arith, none, all, no_wait))
+  where
+    no_waits_left : {H : Type 0} (ts : List TimerState) (waits : List (Entry (PendingWait (Waiting H)))) →
+        None ≡ expiry_by ts (earliest ts (map wait_of waits)) → length waits ≡ 0
+    no_waits_left ts [] none = refl
+    no_waits_left ts (wait ∷ waits) none = absurd (cc)
+
+pub some_left : {H : Type 0} (marks : H → Marks) (limits : Limits) (timers : Timers (Waiting H)) (t : Tally)
+    (s : ContextState) (expiry : ℕ) → IsTally t s → ShowsWaits marks limits timers s →
+    Some expiry ≡ expiry_by timers.timers (next_wait timers) → has_no_ops s.ops ≡ false
+some_left marks limits timers t s expiry tally shows some =
+    let all = shows.all in
+    let many = some_wait timers.timers timers.waits some in
+    tally_some t s tally (omega (arith, all, many))
+  where
+    some_wait : {H : Type 0} (ts : List TimerState) (waits : List (Entry (PendingWait (Waiting H)))) →
+        Some expiry ≡ expiry_by ts (earliest ts (map wait_of waits)) → 0 < length waits
+    some_wait ts [] some = absurd (cc)
+    some_wait ts (wait ∷ waits) some = omega arith
+
+pub one_left : (t : Tally) (s : ContextState) → IsTally t s → 0 < t.waiting + t.running → has_no_ops s.ops ≡ false
+one_left t s tally some = tally_some t s tally (omega (arith, some))

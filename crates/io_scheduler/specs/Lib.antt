@@ -1,7 +1,12 @@
+pub mod Aborting
+pub mod Accepted
 pub mod Begun
+pub mod Come
+pub mod Completed
 pub mod Counted
 pub mod Ended
 pub mod Entered
+pub mod Expired
 pub mod Holding
 pub mod Left
 pub mod Outside
@@ -15,4 +20,6 @@ pub mod Steps
 pub mod Stranded
 pub mod Taken
 pub mod Tallied
+pub mod Timing
 pub mod Told
+pub mod Waits

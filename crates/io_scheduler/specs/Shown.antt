@@ -71,6 +71,8 @@ pub record ShowsCell {H S : Type 0} (marks : H → Marks) (ops : List Op) (next 
     Type 0 where
   pub ready : AreReady marks ops on cell.queue
   pub tied : cell.tied ≤ next
+  -- where no strand is
+  pub idle : is_there cell ≡ false → cell.tied ≡ 0
 
 pub record Shows {H S : Type 0} (marks : H → Marks) (limits : Limits) (counts : Counts) (names : Names)
     (cells : List (Cell H S)) (jobs : JobList (ReadyOp H)) (s : ContextState) : Type 0 where

@@ -8,11 +8,12 @@ use Rattle.io_rules.specs.declared.request.Gone.TheVariants as gone
 use Rattle.io_rules.specs.declared.request.Marks.{Marks}
 use Rattle.io_rules.specs.declared.request.Request.{Request}
 use Rattle.io_rules.specs.Calls.{gone_of}
-use Rattle.io_rules.specs.Legal.{IsStep, MayHappen, after}
+use Rattle.io_rules.specs.Legal.{IsStep}
 use Rattle.io_rules.specs.State.{ContextState}
 use Rattle.io_handlers.specs.declared.staged.Staged.{Staged}
 use Rattle.io_handlers.specs.declared.staged.Staged.TheVariants as staged
 use Rattle.io_handlers.specs.Initiated.{request_of}
+use Rattle.io_scheduler.specs.Come.{MayCome, behind, changes}
 use Rattle.io_scheduler.specs.Ended.{mark_of}
 use Rattle.io_scheduler.specs.Running.{Execution}
 
@@ -29,17 +30,7 @@ called_by by request s =
 -- the events of a call by the handler of this operation, oldest first
 abbrev pub events_of : {H : Type 0} → (H → Marks) → ℕ → Staged H → ContextState → List Event
 events_of marks by (staged.Called call) s = called_by by (request_of marks call) s
-events_of marks by (staged.Changed change) s = event.Changed (Some by) change ∷ []
-
--- the state behind these events
-abbrev pub behind : List Event → ContextState → ContextState
-behind [] s = s
-behind (e ∷ events) s = behind events (after e s)
-
--- they may come, one after another
-abbrev pub MayCome : List Event → ContextState → Type 0
-MayCome [] s = Unit {0}
-MayCome (e ∷ events) s = MayHappen s e × MayCome events (after e s)
+events_of marks by (staged.Changed change) s = changes (Some by) change s
 
 -- the handler of this operation initiates another one
 pub record IsCalled (by : ℕ) (request : Request) (old new : ContextState) : Type 0 where

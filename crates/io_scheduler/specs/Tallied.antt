@@ -23,11 +23,10 @@ is_idle s = list_all (λ op. not (is_running op.phase)) s.ops
 abbrev pub is_over : ContextState → Bool
 is_over s = s.stopped || is_out_of_work s
 
--- these are all: each operation has completed, and no socket is in a system call
+-- these are all that have completed, and no socket is in a system call
 pub record IsTally (tally : Tally) (s : ContextState) : Type 0 where
   pub waiting : tally.waiting ≡ waiting_in s.ops
   pub running : tally.running ≡ running_in s.ops
-  pub all : length s.ops ≡ tally.waiting + tally.running
   pub few : length s.ops ≤ s.next
   pub sockets : list_all (λ stream. not (is_out stream.out)) s.streams ≡ true
 

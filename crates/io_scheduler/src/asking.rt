@@ -1,5 +1,6 @@
 ghost use Rattle.std.specs.Prelude.{◌≡◌, not, false, nat_lt};
 ghost use Rattle.io_rules.specs.Calls.{is_lane_gone};
+ghost use Rattle.io_rules.specs.Names.{is_alive};
 ghost use Rattle.io_scheduler.specs.Begun.{NoneMayBegin};
 ghost use Rattle.io_scheduler.specs.Sections.{NotesNothing};
 ghost use Rattle.io_scheduler.specs.Told.{IsOnLane};
@@ -10,7 +11,7 @@ use crate::scheduler::Scheduler;
 use crate::section::Section;
 use io_handlers::Handler;
 use io_history::{HistoryTable, Named};
-use io_rules::Lane;
+use io_rules::{Lane, Name};
 
 impl<H: Handler, C: Named> Scheduler<H, C> {
     /// Whether a handler may begin.
@@ -31,6 +32,13 @@ impl<H: Handler, C: Named> Scheduler<H, C> {
         ensures { result ≡ not (is_lane_gone self.now.names lane) }
     {
         is_there(&self.names, lane)
+    }
+
+    /// Whether a timer is there: its name isn't gone.
+    pub fn has_timer(&self, timer: Name) -> bool
+        ensures { result ≡ is_alive self.now.names.timers timer }
+    {
+        self.names.timers.is_alive(timer)
     }
 
     /// Whether a work guard is out.

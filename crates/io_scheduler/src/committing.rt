@@ -1,16 +1,18 @@
-ghost use Rattle.std.specs.Prelude.{◌≡◌, ◌<◌, ◌≤◌, true, []};
+ghost use Rattle.std.specs.Prelude.{◌≡◌, ◌<◌, ◌≤◌, true, [], Some};
 ghost use Rattle.io_rules.specs.Calls.{is_lane_gone};
 ghost use Rattle.io_rules.specs.Operations.{is_posting};
-ghost use Rattle.io_handlers.specs.Initiated.{IsOffered, operations_in, operations_of};
+ghost use Rattle.io_handlers.specs.Initiated.{IsOffered, is_offered_change, operations_in, operations_of};
+ghost use Rattle.io_scheduler.specs.Come.{IsChanged};
 ghost use Rattle.io_scheduler.specs.Posted.{posting};
 ghost use Rattle.io_scheduler.specs.Staged.{AreStaged, GoesOn, IsCalled, IsCommitted, staged_behind};
 
 use crate::initiating::is_there;
 use crate::running::Running;
 use crate::scheduler::Scheduler;
+use crate::timing::TimerChange;
 use io_handlers::{Handler, Initiating, Staged, Staging};
 use io_history::{HistoryTable, Named};
-use io_rules::{Lane, Operation};
+use io_rules::{Control, Lane, Operation};
 
 impl<H: Handler, C: Named> Scheduler<H, C> {
     /// Whether the strand of a lane is gone.
@@ -42,6 +44,35 @@ impl<H: Handler, C: Named> Scheduler<H, C> {
         }
     }
 
+    /// A handler that executes changes the context.
+    fn change_by(
+        &mut self,
+        table: &HistoryTable,
+        running: Running<C>,
+        change: Control,
+    ) -> Running<C>
+        requires table { table.now ≡ C.table }
+        requires offered { is_offered_change change ≡ true }
+        ensures changed { IsChanged (Some running.op) change self.old self.new }
+        ensures goes_on { GoesOn 0 running result }
+    {
+        match change {
+            Control::Expires { timer, at } => {
+                self.change_timer_by(table, running, timer, TimerChange::ExpiresAt { at })
+            }
+            Control::Cancel { timer } => {
+                self.change_timer_by(table, running, timer, TimerChange::Cancel)
+            }
+            Control::CancelOne { timer } => {
+                self.change_timer_by(table, running, timer, TimerChange::CancelOne)
+            }
+            Control::Free { kind: _, name } => {
+                self.change_timer_by(table, running, name, TimerChange::Free)
+            }
+            _ => self.stop_by(table, running),
+        }
+    }
+
     /// A call that a handler staged takes effect.
     fn commit_one(
         &mut self,
@@ -56,7 +87,7 @@ impl<H: Handler, C: Named> Scheduler<H, C> {
         ensures goes_on { GoesOn (operations_of call) running result }
     {
         match call {
-            Staged::Changed(_) => self.stop_by(table, running),
+            Staged::Changed(change) => self.change_by(table, running, change),
             Staged::Called(call) => {
                 let Initiating {
                     lane,

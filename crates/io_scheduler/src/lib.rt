@@ -3,13 +3,18 @@
 //! the history of the context is a legal one. The context stands on it.
 #![tactic(auto)]
 
+mod aborting;
+mod accepting;
 mod asking;
 mod beginning;
 mod calling;
+mod changing;
 mod committing;
+mod completing;
 mod counts;
 mod ending;
 mod entering;
+mod expiring;
 mod finishing;
 mod holding;
 mod initiating;
@@ -17,6 +22,7 @@ mod leaving;
 mod making;
 mod noting;
 mod outside;
+mod passing;
 mod receipt;
 mod remains;
 mod restarting;
@@ -28,6 +34,8 @@ mod stopping;
 mod stranding;
 mod taking;
 mod tally;
+mod timing;
+mod waiting;
 
 pub use beginning::Begun;
 pub use receipt::Receipt;
@@ -36,3 +44,5 @@ pub use running::Running;
 pub use scheduler::Scheduler;
 pub use section::Section;
 pub use states::States;
+pub use timing::TimerChange;
+pub use waiting::Waiting;

@@ -1,6 +1,7 @@
 ghost use Rattle.std.specs.Prelude.{◌≡◌, true};
 ghost use Rattle.io_rules.specs.declared.event.Event.TheVariants as event;
 ghost use Rattle.io_rules.specs.Legal.{IsStep};
+ghost use Rattle.io_rules.specs.Stopping.{has_no_ops};
 ghost use Rattle.io_scheduler.specs.Sections.{NotesIf};
 ghost use Rattle.io_scheduler.specs.Steps.{IsStepIf};
 ghost use Rattle.io_scheduler.specs.Tallied.{is_idle, is_over};
@@ -18,7 +19,20 @@ impl<H: Handler, C: Named> Scheduler<H, C> {
     pub fn is_over(&self) -> bool
         ensures { result ≡ is_over self.now }
     {
-        self.counts.stopped || (self.tally.is_none() && self.counts.holds == 0)
+        self.counts.stopped || (self.has_no_ops() && self.counts.holds == 0)
+    }
+
+    /// Whether no operation is left.
+    fn has_no_ops(&self) -> bool
+        ensures { result ≡ has_no_ops self.now.ops }
+    {
+        if !self.tally.is_none() {
+            return false;
+        }
+        match self.timers.next_expiry() {
+            None => true,
+            Some(_) => false,
+        }
     }
 
     /// A call of `run` returns: the context is stopped from now on (`io_context::run`).

@@ -2,14 +2,16 @@ ghost use Rattle.std.specs.Prelude.{◌≡◌, [], IfOk, None};
 ghost use Rattle.io_rules.specs.State.{first_state};
 
 use crate::counts::Counts;
-use crate::making::{destroy_all, make_strands};
+use crate::making::make_parts;
 use crate::tally::Tally;
+use crate::waiting::Waiting;
 use io_handlers::Handler;
 use io_history::{Keeper, Named};
 use io_jobs::Jobs;
 use io_names::NameTables;
 use io_rules::Limits;
 use io_strands::{ReadyOp, Strand};
+use io_timers::Timers;
 use std::alloc::Global;
 use std::marker::Model;
 
@@ -23,6 +25,8 @@ pub struct Scheduler<H: Handler, C: Named> {
     pub(crate) strands: Vec<Strand<H, H::State>>,
     // what may begin
     pub(crate) jobs: Jobs<ReadyOp<H>>,
+    // expiries, and the waits that are pending
+    pub(crate) timers: Timers<Waiting<H>>,
     pub(crate) tally: Tally,
 }
 
@@ -33,6 +37,7 @@ impl<H: Handler, C: Named> Model for Scheduler<H, C> {
     ghost use Rattle.io_names.specs.Tables.{names_of};
     ghost use Rattle.io_scheduler.specs.Shown.{Shows};
     ghost use Rattle.io_scheduler.specs.Tallied.{IsTally};
+    ghost use Rattle.io_scheduler.specs.Waits.{ShowsWaits};
 
     ghost Value = { ContextState };
 
@@ -40,7 +45,8 @@ impl<H: Handler, C: Named> Model for Scheduler<H, C> {
 
     ghost invariant = { λ s. (s.keeper.held ≡ None)
         × Shows H.marks C.limits s.counts (names_of s.names) s.strands.items s.jobs (state_of C.limits s.keeper.past)
-        × IsTally s.tally (state_of C.limits s.keeper.past) };
+        × IsTally s.tally (state_of C.limits s.keeper.past)
+        × ShowsWaits H.marks C.limits s.timers (state_of C.limits s.keeper.past) };
 }
 
 impl<H: Handler, C: Named> Scheduler<H, C> {
@@ -58,22 +64,17 @@ impl<H: Handler, C: Named> Scheduler<H, C> {
         let Ok(names) = NameTables::make(alloc, &limits) else {
             return Err(keeper);
         };
-        let Ok(strands) = make_strands(alloc, limits.strands, limits.operations) else {
-            return Err(keeper);
-        };
-        match Jobs::make(alloc, limits.strands, limits.operations) {
-            Ok(jobs) => Ok(Scheduler {
+        match make_parts(alloc, &limits) {
+            Ok((strands, jobs, timers)) => Ok(Scheduler {
                 keeper,
                 counts: Counts::new(limits),
                 names,
                 strands,
                 jobs,
+                timers,
                 tally: Tally::new(),
             }),
-            Err(_) => {
-                destroy_all(strands);
-                Err(keeper)
-            }
+            Err(_) => Err(keeper),
         }
     }
 }

@@ -7,6 +7,7 @@ use std::alloc::Global;
 use std::marker::Brand;
 use std::sync::Wait;
 use std::thread::Threads;
+use std::time::Clock;
 
 /// What is executed on one context.
 #[derive(Clone, Copy)]
@@ -76,7 +77,7 @@ fn post_all<R: Wait, C: Named>(rt: &R, context: &Context<Step, C>, lanes: &[Lane
 }
 
 /// A load on a context of this name.
-fn execute<R: Threads + Wait + Sync, C: Named + Send + Sync>(
+fn execute<R: Threads + Wait + Clock + Sync, C: Named + Send + Sync>(
     rt: &R,
     alloc: Global,
     new: NewContext,
@@ -87,7 +88,7 @@ fn execute<R: Threads + Wait + Sync, C: Named + Send + Sync>(
     requires name { new.name ≡ C.name }
     requires parts { new.parts ≡ C.parts }
 {
-    let (context, mut share) = Context::<Step, C>::make(alloc, new)?;
+    let (context, mut share) = Context::<Step, C>::make(rt, alloc, new)?;
     let lanes = make_lanes(rt, alloc, &context, load.strands);
     if let Ok(lanes) = &lanes {
         post_all(rt, &context, lanes.as_slice(), load);
@@ -99,7 +100,7 @@ fn execute<R: Threads + Wait + Sync, C: Named + Send + Sync>(
 }
 
 /// A load on a new context, from making it to destroying it.
-pub(crate) fn execute_new<R: Threads + Wait + Sync>(
+pub(crate) fn execute_new<R: Threads + Wait + Clock + Sync>(
     rt: &R,
     alloc: Global,
     load: Load,

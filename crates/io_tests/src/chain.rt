@@ -6,9 +6,10 @@ use std::process::Abort;
 use std::sync::Wait;
 use std::sync::atomic::Ordering;
 use std::thread::Threads;
+use std::time::Clock;
 
 /// A handler of a strand posts itself so many times, one after another, while four threads run.
-pub(crate) fn chain<'a, R: Abort + Threads + Wait + Sync, C: Named + Send + Sync>(
+pub(crate) fn chain<'a, R: Abort + Threads + Wait + Clock + Sync, C: Named + Send + Sync>(
     rt: &R,
     alloc: Global,
     case: Case<'a, C>,

@@ -7,9 +7,10 @@ use std::sync::Wait;
 use std::sync::atomic::Ordering;
 use std::thread;
 use std::thread::Threads;
+use std::time::Clock;
 
 /// While a handler executes, a thread posts till no place is free; then the handler posts four.
-pub(crate) fn grant<'a, R: Abort + Threads + Wait + Sync, C: Named + Send + Sync>(
+pub(crate) fn grant<'a, R: Abort + Threads + Wait + Clock + Sync, C: Named + Send + Sync>(
     rt: &R,
     alloc: Global,
     case: Case<'a, C>,

@@ -2,7 +2,8 @@
 
 ghost use Rattle.std.specs.Prelude.{◌≡◌};
 
-use io_context::{Completion, Full, Handler, Initiator, Lane};
+use asio_types::Code;
+use io_context::{Completion, Full, Handler, Initiator, Lane, Name};
 use std::sync::atomic::{AtomicU64, Ordering};
 use std::thread;
 
@@ -50,6 +51,10 @@ pub(crate) enum Task {
     Mark(u64),
     /// Posts 2 and dispatches 3 to this lane, its own, and then leaves its mark 1.
     Dispatch(Lane),
+    /// Leaves this mark where it waited for a timer until that had expired, and five more where it was cancelled.
+    Waited(u64),
+    /// Cancels what waits on this timer.
+    Cancel(Name),
     /// Waits for a word, and then posts so many.
     Initiate(u32),
 }
@@ -94,7 +99,7 @@ fn initiated<'a>(posted: Result<(), Full<Counting<'a>>>) {
 
 impl<'a> Counting<'a> {
     /// Counts its execution, and does its task.
-    fn perform(self, io: &mut Initiator<Counting<'a>>)
+    fn perform(self, code: Code, io: &mut Initiator<Counting<'a>>)
         ensures { io.new.granted ≡ io.old.granted }
     {
         let Counting { task, counts } = self;
@@ -112,6 +117,10 @@ impl<'a> Counting<'a> {
                 io.stop();
             }
             Task::Mark(number) => mark(&counts.order, number),
+            Task::Waited(number) => match code {
+                Code::Ok => mark(&counts.order, number),
+                _ => mark(&counts.order, number.saturating_add(5)),
+            },
             Task::Dispatch(lane) => {
                 initiated(io.post(
                     lane,
@@ -128,6 +137,9 @@ impl<'a> Counting<'a> {
                     },
                 ));
                 mark(&counts.order, 1);
+            }
+            Task::Cancel(timer) => {
+                io.cancel(timer);
             }
             Task::Initiate(many) => {
                 await_count(&counts.order, 1);
@@ -162,15 +174,13 @@ impl<'a> Handler for Counting<'a> {
         state: &mut &'a Counts,
         io: &mut Initiator<Counting<'a>>,
     ) -> u64 {
-        let _done = done;
         let _state = state;
-        self.perform(io);
+        self.perform(done.code, io);
         1
     }
 
     fn call_free(self, done: Completion, io: &mut Initiator<Counting<'a>>) -> u64 {
-        let _done = done;
-        self.perform(io);
+        self.perform(done.code, io);
         1
     }
 

@@ -16,3 +16,5 @@ mod meeting;
 mod order;
 #[cfg(test)]
 mod running;
+#[cfg(test)]
+mod timing;

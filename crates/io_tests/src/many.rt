@@ -10,6 +10,7 @@ use std::sync::atomic::Ordering;
 use std::sync::{Mutex, Wait};
 use std::thread;
 use std::thread::Threads;
+use std::time::Clock;
 
 /// How many handlers each outside thread posts.
 const EACH: u64 = 1_000;
@@ -50,11 +51,11 @@ fn release<'a, R: Wait, C: Named>(
 }
 
 /// Sixteen threads post to four strands and to none while four run; a guard keeps those in `run` till then.
-pub(crate) fn initiate_and_run<'a, R: Abort + Threads + Wait + Sync, C: Named + Send + Sync>(
-    rt: &R,
-    alloc: Global,
-    case: Case<'a, C>,
-) {
+pub(crate) fn initiate_and_run<
+    'a,
+    R: Abort + Threads + Wait + Clock + Sync,
+    C: Named + Send + Sync,
+>(rt: &R, alloc: Global, case: Case<'a, C>) {
     let lanes = [
         case.new_strand(rt),
         case.new_strand(rt),
@@ -102,7 +103,7 @@ fn each_handler_that_is_accepted_is_executed_once(rt: HostRuntime) {
 }
 
 /// Stopped by its third handler, restarted, stopped from outside and finished with handlers left.
-pub(crate) fn stop_and_finish<'a, R: Abort + Threads + Wait + Sync, C: Named + Send + Sync>(
+pub(crate) fn stop_and_finish<'a, R: Abort + Threads + Wait + Clock + Sync, C: Named + Send + Sync>(
     rt: &R,
     alloc: Global,
     case: Case<'a, C>,

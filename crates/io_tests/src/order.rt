@@ -6,9 +6,10 @@ use std::process::Abort;
 use std::sync::Wait;
 use std::sync::atomic::Ordering;
 use std::thread::Threads;
+use std::time::Clock;
 
 /// A handler of a strand posts 2, dispatches 3 and is 1; 4 is ready behind it.
-pub(crate) fn dispatch<'a, R: Abort + Threads + Wait + Sync, C: Named + Send + Sync>(
+pub(crate) fn dispatch<'a, R: Abort + Threads + Wait + Clock + Sync, C: Named + Send + Sync>(
     rt: &R,
     alloc: Global,
     case: Case<'a, C>,

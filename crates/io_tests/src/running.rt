@@ -8,6 +8,7 @@ use crate::handlers::{Counting, Counts, Task, count};
 use crate::many::{initiate_and_run, stop_and_finish};
 use crate::meeting::meet;
 use crate::order::dispatch;
+use crate::timing::{cancel, expire, wait_earlier, watch};
 use io_context::{
     Context, Handler, Lane, Limits, Named, NewContext, Refusal, Refused, run_on_threads,
 };
@@ -17,6 +18,7 @@ use std::process::Abort;
 use std::sync::Wait;
 use std::sync::ledger::Share;
 use std::thread::Threads;
+use std::time::Clock;
 
 pub(crate) const MEMORY: &str = "memory";
 
@@ -35,14 +37,22 @@ pub(crate) enum Scenario {
     Dispatch,
     /// A thread posts as much as it can while a handler executes.
     Grant,
+    /// Waits are due one after another.
+    Expire,
+    /// Waits are cancelled.
+    Cancel,
+    /// A wait is due before another one.
+    Earlier,
+    /// A handler executes until the next wait is due.
+    Watch,
 }
 
-/// Room for so many operations and strands.
+/// Room for so many operations and strands, and two timers.
 pub(crate) fn limits(operations: u32, strands: u32) -> Limits {
     Limits {
         operations,
         strands,
-        timers: 0,
+        timers: 2,
         slots: 0,
         streams: 0,
         grant: 2,
@@ -59,7 +69,7 @@ pub(crate) struct Part<C: Named> {
 
 impl<C: Named> Part<C> {
     /// Runs a context on so many threads.
-    pub(crate) fn run<'a, R: Abort + Threads + Wait + Sync>(
+    pub(crate) fn run<'a, R: Abort + Threads + Wait + Clock + Sync>(
         &mut self,
         rt: &R,
         alloc: Global,
@@ -105,7 +115,7 @@ impl<'a, C: Named> Case<'a, C> {
     }
 
     /// Runs the context on so many threads.
-    pub(crate) fn run<R: Abort + Threads + Wait + Sync>(
+    pub(crate) fn run<R: Abort + Threads + Wait + Clock + Sync>(
         &mut self,
         rt: &R,
         alloc: Global,
@@ -155,7 +165,7 @@ pub(crate) fn post<'a, R: Wait, C: Named>(
 }
 
 /// Does it on the context of this name.
-fn play<'a, R: Abort + Threads + Wait + Sync, C: Named + Send + Sync>(
+fn play<'a, R: Abort + Threads + Wait + Clock + Sync, C: Named + Send + Sync>(
     rt: &R,
     alloc: Global,
     new: NewContext,
@@ -167,7 +177,7 @@ fn play<'a, R: Abort + Threads + Wait + Sync, C: Named + Send + Sync>(
     requires name { new.name ≡ C.name }
     requires parts { new.parts ≡ C.parts }
 {
-    let (context, share) = Context::<Counting<'a>, C>::make(alloc, new).expect(rt, MEMORY);
+    let (context, share) = Context::<Counting<'a>, C>::make(rt, alloc, new).expect(rt, MEMORY);
     let part = Part { share };
     let case = Case {
         context,
@@ -181,11 +191,15 @@ fn play<'a, R: Abort + Threads + Wait + Sync, C: Named + Send + Sync>(
         Scenario::Stop => stop_and_finish(rt, alloc, case),
         Scenario::Dispatch => dispatch(rt, alloc, case),
         Scenario::Grant => grant(rt, alloc, case),
+        Scenario::Expire => expire(rt, alloc, case),
+        Scenario::Cancel => cancel(rt, alloc, case),
+        Scenario::Earlier => wait_earlier(rt, alloc, case),
+        Scenario::Watch => watch(rt, alloc, case),
     }
 }
 
 /// Does it on a new context with such limits.
-pub(crate) fn play_new<R: Abort + Threads + Wait + Sync>(
+pub(crate) fn play_new<R: Abort + Threads + Wait + Clock + Sync>(
     rt: &R,
     alloc: Global,
     limits: Limits,

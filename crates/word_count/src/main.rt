@@ -17,6 +17,7 @@ use std::marker::Brand;
 use std::process::ExitCode;
 use std::sync::{OnceLock, Wait};
 use std::thread::Threads;
+use std::time::Clock;
 use text_io::read_text;
 
 /// How many threads count.
@@ -68,7 +69,7 @@ fn start_all<'a, R: Wait, C: Named>(
 }
 
 /// Counts by threads; each strand's count comes out when its context is finished.
-fn count_all<'a, R: Threads + Wait + Sync, C: Named + Send + Sync>(
+fn count_all<'a, R: Threads + Wait + Clock + Sync, C: Named + Send + Sync>(
     rt: &R,
     alloc: Global,
     new: NewContext,
@@ -80,7 +81,7 @@ fn count_all<'a, R: Threads + Wait + Sync, C: Named + Send + Sync>(
     requires name { new.name ≡ C.name }
     requires parts { new.parts ≡ C.parts }
 {
-    let (context, mut share) = Context::<Counting<'a>, C>::make(alloc, new)?;
+    let (context, mut share) = Context::<Counting<'a>, C>::make(rt, alloc, new)?;
     let started = start_all(rt, &context, text, counts);
     let ran = run_on_threads(rt, alloc, &context, THREADS, &mut share);
     let _history = context.finish(rt, share);
@@ -88,7 +89,7 @@ fn count_all<'a, R: Threads + Wait + Sync, C: Named + Send + Sync>(
 }
 
 /// The whole program: the count of standard input.
-fn run<R: AllocGlobal + Input + Threads + Wait + Sync>(
+fn run<R: AllocGlobal + Input + Threads + Wait + Clock + Sync>(
     rt: &R,
     text: &[u8],
 ) -> Result<Count, NoMemory> {

@@ -1,7 +1,13 @@
-use Rattle.std.proofs.Common.{sym, ◌∙◌}
+use Rattle.std.proofs.Common.{ap, refl, subst, sym, ◌∙◌}
+use Rattle.io_context.proofs.SleepLemmas.{busy_sleepers, nobody_sleeps, watcher_called}
 use Rattle.io_context.proofs.sleepers.Sleepers.call.Goals as goal
 
-pub returns-else-may_begin : goal.returns-else-may_begin
-returns-else-may_begin g c =
-    λ asleep called.
-    record { none = c.may_begin.ensures c.if-may_begin.false; going = sym c.is_over.ensures ∙ c.if-is_over.false }
+pub returns-then-is_over : goal.returns-then-is_over
+returns-then-is_over g c = nobody_sleeps _ _ c.call_all.ensures.none c.call_all.ensures.watch
+
+pub returns-then-is_late : goal.returns-then-is_late
+returns-then-is_late g c = watcher_called _ _ c.call_watcher.ensures
+
+pub returns-then-not-is_quiet : goal.returns-then-not-is_quiet
+returns-then-not-is_quiet g c =
+    busy_sleepers _ _ (sym c.is_quiet.ensures ∙ c.if-not-is_quiet.true) (rw (← c.next_expiry-first.ensures) (c.is_late.ensures c.if-is_late.false))

@@ -9,6 +9,7 @@ use Rattle.io_scheduler.proofs.PostedLemmas.{may_be_posted, shows_outside}
 use Rattle.io_scheduler.proofs.SpaceLemmas.{posted_space}
 use Rattle.io_scheduler.proofs.SectionLemmas.{notes_one}
 use Rattle.io_scheduler.proofs.TallyLemmas.{tally_posts, tally_room}
+use Rattle.io_scheduler.proofs.StayedLemmas.{stays_posted, waits_stay}
 use Rattle.io_scheduler.proofs.scheduler.Scheduler.post.Goals as goal
 
 pub note_posted-section-requires : goal.note_posted-section-requires
@@ -50,6 +51,10 @@ invariant_of-self g c =
       rw (c.call.ensures, c.note_posted-section.ensures.past, c.learn.ensures.same)
           (tally_posts c.self.inside.tally (state_of g.C.Named.limits c.self.inside.keeper.past)
           c.self.inside.counts.next c.args.lane c.args.kind _ c.self.invariant.2 c.requires.posting),
+      rw (c.note_posted-section.ensures.past, c.learn.ensures.same)
+          (waits_stay g.H.Handler.marks g.C.Named.limits c.self.inside.timers (state_of g.C.Named.limits c.self.inside.keeper.past) _ c.self.invariant.3
+          (stays_posted (state_of g.C.Named.limits c.self.inside.keeper.past) c.self.inside.counts.next c.args.lane c.args.kind
+          (g.H.Handler.marks c.args.handler) c.requires.posting)),
     )
 
 pub returns-clause-initiated : goal.returns-clause-initiated

@@ -11,6 +11,7 @@ use Rattle.io_scheduler.proofs.GivenLemmas.{places_left}
 use Rattle.io_scheduler.proofs.PostedLemmas.{gone_posting}
 use Rattle.io_scheduler.proofs.StagedLemmas.{is_called}
 use Rattle.io_scheduler.proofs.TallyLemmas.{tally_below, tally_calls}
+use Rattle.io_scheduler.proofs.StayedLemmas.{stays_called, waits_stay}
 use Rattle.io_scheduler.proofs.scheduler.Scheduler.post_by.Goals as goal
 
 pub take_kept-requires : goal.take_kept-requires
@@ -92,6 +93,11 @@ invariant_of-self g c =
           (g.H.Handler.marks c.args.handler)
           c.running.inside.own c.running.inside.grant c.running.inside.spares c.running.inside.claim.held
           c.self.invariant.2 c.requires.posting it c.goes_first.ensures),
+      rw (c.give_out-claim.ensures.past, c.note_called.ensures.past, c.learn.ensures.same, c.take_back.ensures.past)
+          (waits_stay g.H.Handler.marks g.C.Named.limits c.self.inside.timers (state_of g.C.Named.limits c.self.inside.keeper.past) _ c.self.invariant.3
+          (stays_called (state_of g.C.Named.limits c.self.inside.keeper.past) c.goes_first.result c.self.inside.counts.next c.running.inside.op
+          c.running.inside.lane c.args.lane c.args.kind (g.H.Handler.marks c.args.handler) c.running.inside.own
+          c.running.inside.grant c.running.inside.spares c.running.inside.claim.held c.requires.posting it c.goes_first.ensures)),
     )
 
 pub invariant_of-result : goal.invariant_of-result

@@ -15,6 +15,7 @@ use Rattle.io_scheduler.proofs.PostedLemmas.{gone_posting}
 use Rattle.io_scheduler.proofs.RefusedLemmas.{held_refused, may_be_refused, shows_refused}
 use Rattle.io_scheduler.proofs.StagedLemmas.{is_called}
 use Rattle.io_scheduler.proofs.TallyLemmas.{tally_below, tally_refused}
+use Rattle.io_scheduler.proofs.StayedLemmas.{stays_refused, waits_stay}
 use Rattle.io_scheduler.proofs.scheduler.Scheduler.post_gone.Goals as goal
 
 pub note_refused-requires-clause-may : goal.note_refused-requires-clause-may
@@ -102,6 +103,17 @@ invariant_of-self g c = (
       c.running.inside.op c.args.lane c.args.kind (g.H.Handler.marks c.args.handler) c.self.invariant.2 c.requires.posting
       (subst (λ k. AreBelow k (state_of g.C.Named.limits c.self.inside.keeper.past).ops)
       (sym (ap (λ n. n.next) c.self.invariant.1.counts_are)) c.self.invariant.1.below)),
+  rw (
+    c.give_out-claim.ensures.past,
+    c.note_refused.ensures.past,
+    c.note_called.ensures.past,
+    c.learn.ensures.same,
+    c.take_back.ensures.past,
+  )
+      (waits_stay g.H.Handler.marks g.C.Named.limits c.self.inside.timers (state_of g.C.Named.limits c.self.inside.keeper.past) _ c.self.invariant.3
+      (stays_refused g.H.Handler.marks g.C.Named.limits c.self.inside.timers (state_of g.C.Named.limits c.self.inside.keeper.past)
+      c.self.inside.counts.next c.running.inside.op c.args.lane c.args.kind (g.H.Handler.marks c.args.handler)
+      (ap (λ n. n.next) c.self.invariant.1.counts_are) c.requires.posting c.self.invariant.1.below c.self.invariant.3)),
 )
 
 pub invariant_of-result : goal.invariant_of-result

@@ -6,6 +6,7 @@ use Rattle.io_names.specs.Tables.{names_of}
 use Rattle.io_scheduler.proofs.CountedLemmas.{shows_restarted}
 use Rattle.io_scheduler.proofs.SectionLemmas.{notes_one}
 use Rattle.io_scheduler.proofs.TallyLemmas.{at_rest, tally_rests, tally_runs, tally_stays}
+use Rattle.io_scheduler.proofs.StayedLemmas.{stays_stopped, waits_stay}
 use Rattle.io_scheduler.proofs.scheduler.Scheduler.restart.Goals as goal
 
 pub note_section-section-requires : goal.note_section-section-requires
@@ -26,6 +27,9 @@ invariant_of-self g c = (
       c.self.invariant.1),
   rw c.note_section-section.ensures.past
       (tally_stays c.self.inside.tally (state_of g.C.Named.limits c.self.inside.keeper.past) false c.self.invariant.2),
+  rw c.note_section-section.ensures.past
+      (waits_stay g.H.Handler.marks g.C.Named.limits c.self.inside.timers (state_of g.C.Named.limits c.self.inside.keeper.past) _ c.self.invariant.3
+      (stays_stopped (state_of g.C.Named.limits c.self.inside.keeper.past) false)),
 )
 
 pub returns-then-self-gt0-clause-idle : goal.returns-then-self-gt0-clause-idle

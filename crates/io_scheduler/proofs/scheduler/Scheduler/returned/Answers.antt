@@ -4,6 +4,7 @@ use Rattle.io_rules.specs.Legal.{state_of}
 use Rattle.io_names.specs.Tables.{names_of}
 use Rattle.io_scheduler.proofs.CountedLemmas.{shows_returned}
 use Rattle.io_scheduler.proofs.TallyLemmas.{tally_stays}
+use Rattle.io_scheduler.proofs.StayedLemmas.{stays_stopped, waits_stay}
 use Rattle.io_scheduler.proofs.scheduler.Scheduler.returned.Goals as goal
 
 pub note_outside-requires : goal.note_outside-requires
@@ -23,6 +24,9 @@ invariant_of-self g c = (
       c.self.invariant.1),
   rw c.note_outside.ensures.past
       (tally_stays c.self.inside.tally (state_of g.C.Named.limits c.self.inside.keeper.past) true c.self.invariant.2),
+  rw c.note_outside.ensures.past
+      (waits_stay g.H.Handler.marks g.C.Named.limits c.self.inside.timers (state_of g.C.Named.limits c.self.inside.keeper.past) _ c.self.invariant.3
+      (stays_stopped (state_of g.C.Named.limits c.self.inside.keeper.past) true)),
 )
 
 pub returns : goal.returns

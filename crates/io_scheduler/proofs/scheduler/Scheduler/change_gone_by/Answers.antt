@@ -1,0 +1,36 @@
+use Rattle.std.specs.Prelude.{Some}
+use Rattle.io_rules.specs.Legal.{state_of}
+use Rattle.io_names.specs.Tables.{names_of}
+use Rattle.io_scheduler.proofs.TimingLemmas.{gone_come, gone_shown, gone_tallied, gone_waits, is_changed}
+use Rattle.io_scheduler.proofs.scheduler.Scheduler.change_gone_by.Goals as goal
+
+pub begin_change-requires : goal.begin_change-requires
+begin_change-requires g c = record {
+  table = c.requires.table;
+  none = c.self.invariant.0;
+  going = c.self.invariant.1.going;
+}
+
+pub invariant_of-self : goal.invariant_of-self
+invariant_of-self g c = (
+  c.begin_change.ensures.none,
+  rw c.begin_change.ensures.come.is (gone_shown g.H.Handler.marks g.C.Named.limits c.self.inside.counts (names_of c.self.inside.names)
+      c.self.inside.strands.items c.self.inside.jobs c.self.inside.timers c.self.inside.tally
+      (state_of g.C.Named.limits c.self.inside.keeper.past) (Some c.args.running.op) c.args.timer c.args.change
+      (rw (← c.self.view_is) at c.requires.gone) c.self.invariant.1),
+  rw c.begin_change.ensures.come.is (gone_tallied g.H.Handler.marks g.C.Named.limits c.self.inside.counts (names_of c.self.inside.names)
+      c.self.inside.strands.items c.self.inside.jobs c.self.inside.timers c.self.inside.tally
+      (state_of g.C.Named.limits c.self.inside.keeper.past) (Some c.args.running.op) c.args.timer c.args.change
+      (rw (← c.self.view_is) at c.requires.gone) c.self.invariant.2),
+  rw c.begin_change.ensures.come.is (gone_waits g.H.Handler.marks g.C.Named.limits c.self.inside.counts (names_of c.self.inside.names)
+      c.self.inside.strands.items c.self.inside.jobs c.self.inside.timers c.self.inside.tally
+      (state_of g.C.Named.limits c.self.inside.keeper.past) (Some c.args.running.op) c.args.timer c.args.change
+      (rw (← c.self.view_is) at c.requires.gone) c.self.invariant.3),
+)
+
+pub returns-clause-changed : goal.returns-clause-changed
+returns-clause-changed g c =
+    rw (← c.self.view_is)
+    (is_changed g.C.Named.limits _ _ c.self.inside.keeper.past _
+    (gone_come g.C.Named.limits (Some c.args.running.op) c.args.timer c.args.change c.self.inside.keeper.past _
+    (rw (← c.self.view_is) at c.requires.gone) c.begin_change.ensures.come))
