@@ -2,7 +2,6 @@
 #![tactic(auto)]
 
 mod form;
-mod naming;
 mod session;
 mod status;
 

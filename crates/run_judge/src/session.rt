@@ -1,8 +1,7 @@
 use crate::form::Form;
-use crate::naming::names_of;
 use crate::status::Status;
 use asio_types::{Sink, Source, write_all};
-use run_names::Names;
+use run_names::{Names, NotNamed, read_names};
 use run_picture::{Scene, Unread, Window, read_scene, write_picture};
 use run_reader::LineReader;
 use run_verdict::{
@@ -137,7 +136,7 @@ fn answer<S: Source, K: Sink>(
     if status != Status::NotLegal {
         return status;
     }
-    match names_of(alloc, &mut sources.third) {
+    match read_names(alloc, &mut sources.third) {
         Ok(names) => answer_why(
             alloc,
             judge,
@@ -147,7 +146,8 @@ fn answer<S: Source, K: Sink>(
             &names,
             out,
         ),
-        Err(_) => Status::NoMemory,
+        Err(NotNamed::ReadFault) => Status::ReadFault,
+        Err(NotNamed::NoMemory) => Status::NoMemory,
     }
 }
 

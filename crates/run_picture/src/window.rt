@@ -1,5 +1,5 @@
-ghost use Rattle.std.specs.Prelude.{◌≡◌, ◌≤◌, ◌↔◌, IfSome, IsTrue};
-ghost use Rattle.run_picture.specs.Window.{IsInside};
+ghost use Rattle.std.specs.Prelude.{◌≡◌, ◌↔◌, IfSome, IsTrue, max, min};
+ghost use Rattle.run_picture.specs.Window.{IsInside, last_from};
 
 /// So many lines are drawn at most: what comes behind them is said.
 pub const MOST_LINES: u64 = 4_000;
@@ -14,8 +14,8 @@ pub struct Window {
 impl Window {
     /// The lines from this one to that one, or as many of them as are drawn at most.
     pub fn of(from: u64, to: u64) -> Window
-        ensures from { from ≤ result.from }
-        ensures to { result.to ≤ to }
+        ensures from { result.from ≡ max from 1 }
+        ensures to { result.to ≡ min to (last_from (max from 1)) }
     {
         let first = from.max(1);
         Window {

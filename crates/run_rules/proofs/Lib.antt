@@ -4,3 +4,5 @@ pub mod StrandLemmas
 pub mod TakingLemmas
 pub mod VerdictLemmas
 pub mod NestingLemmas
+pub mod RanksLemmas
+pub mod StrictOrderLemmas

@@ -74,7 +74,7 @@ abbrev pub StartsOn : List Line → Doing → ℕ → Type 0
 StartsOn past (doing.Begin op code size) strand = strand_of past op ≡ Some strand
 StartsOn past _ strand = ⊥
 
-is_on-is : (o : Option ℕ) (strand : ℕ) → option_eq nat_eq o (Some strand) ≡ true → o ≡ Some strand
+pub is_on-is : (o : Option ℕ) (strand : ℕ) → option_eq nat_eq o (Some strand) ≡ true → o ≡ Some strand
 is_on-is None strand is = cc
 is_on-is (Some other) strand is = ap Some (eqb-true other strand is)
 

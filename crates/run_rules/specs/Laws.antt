@@ -1,14 +1,15 @@
 -- What follows from the rules of runs.
-use Rattle.std.specs.Prelude.{◌≡◌, ◌≤◌, ◌+◌, ℕ, List, [], ◌∷◌, true, ◌||◌, if◌then◌else◌, length, Some, IsSome}
+use Rattle.std.specs.Prelude.{◌≡◌, ◌≢◌, ◌≤◌, ◌+◌, ℕ, List, [], ◌∷◌, true, ◌||◌, if◌then◌else◌, length, Some, IsSome}
 use Rattle.run_lines.specs.declared.code.Code.{Code}
 use Rattle.run_lines.specs.declared.line.Line.{Line}
 use Rattle.run_rules.specs.declared.level.Level.{Level}
 use Rattle.run_rules.specs.declared.level.Strictness.TheVariants.{Plain}
 use Rattle.run_rules.specs.declared.taking.Resource.{Resource}
-use Rattle.run_rules.specs.Calls.{begins, drops, call_of, strand_of, is_begun, is_dropped}
+use Rattle.run_rules.specs.Calls.{Waits, begins, drops, call_of, strand_of, is_begun, is_dropped}
 use Rattle.run_rules.specs.Takings.{has_taken}
 use Rattle.run_rules.specs.Stacks.{stack}
-use Rattle.run_rules.specs.Strict.{IsStrict}
+use Rattle.run_rules.specs.Strict.{IsStrict, MayBeginStrictly}
+use Rattle.run_rules.specs.StrictOrder.{GoesAhead, readiness}
 use Rattle.run_rules.specs.Starting.{Holds, IsInside, IsPlacedBefore}
 use Rattle.run_rules.specs.MayCome.{MayBegin}
 use Rattle.run_rules.specs.Legal.{IsLegalSoFar, IsWhole}
@@ -43,3 +44,10 @@ KeepTheOrderOfCalls level past =
     MayBegin level past thread op code size → ¬ (IsInside past thread op)
     → strand_of past op ≡ Some strand → strand_of past first ≡ Some strand → IsPlacedBefore past first op →
     (is_begun past first || is_dropped past first) ≡ true
+
+-- in a strict run an operation that may begin here goes ahead of all others that are ready on its strand and wait
+abbrev pub KeepTheStrictOrder : Level → List Line → Type 0
+KeepTheStrictOrder level past =
+    IsStrict level → IsLegalSoFar level past → (thread op strand other : ℕ) → MayBeginStrictly past thread op
+    → strand_of past op ≡ Some strand → strand_of past other ≡ Some strand → Waits past other →
+    IsSome (readiness past other) → other ≢ op → GoesAhead past op other

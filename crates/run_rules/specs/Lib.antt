@@ -4,6 +4,7 @@ pub mod Entries
 pub mod Takings
 pub mod Starting
 pub mod Strict
+pub mod StrictOrder
 pub mod MayCome
 pub mod Breaks
 pub mod Legal

@@ -1,7 +1,7 @@
 ghost use Rattle.std.specs.Prelude.{List};
 ghost use Rattle.run_lines.specs.declared.line.Line.{Line};
 ghost use Rattle.run_rules.specs.declared.level.Level.{Level};
-ghost use Rattle.run_rules.specs.Laws.{SpendOnce, SpendEach, RunOneAtATime, HoldAlone, KeepTheOrderOfCalls, NestNothing};
+ghost use Rattle.run_rules.specs.Laws.{SpendOnce, SpendEach, RunOneAtATime, HoldAlone, KeepTheOrderOfCalls, NestNothing, KeepTheStrictOrder};
 ghost use Rattle.run_rules.specs.Verdicts.{HasOneVerdict};
 
 /// A handler is called or destroyed at most once (Boost.Asio reference, Overview, "Asynchronous
@@ -31,6 +31,13 @@ pub fn claims_are_held_by_one_thread()
 /// "Order of handler invocation").
 pub fn strands_keep_the_order_of_calls()
     ensures { (level : Level) (past : List Line) → KeepTheOrderOfCalls level past }
+{}
+
+/// In a strict run, what begins on a strand goes ahead of all else that is ready there: what a
+/// handler of that strand dispatched to it is first, and the rest comes in the order in which it
+/// became ready (reference, `io_context::strand`, "Order of handler invocation").
+pub fn strict_strands_keep_one_order()
+    ensures { (level : Level) (past : List Line) → KeepTheStrictOrder level past }
 {}
 
 /// In a strict run no handler is executed inside another.

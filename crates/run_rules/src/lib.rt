@@ -14,8 +14,8 @@ mod verdict;
 pub use frame::Frame;
 pub use law::{
     claims_are_held_by_one_thread, handlers_are_spent_once, strands_keep_the_order_of_calls,
-    strands_run_one_at_a_time, strict_runs_nest_nothing, verdicts_are_unique,
-    whole_runs_spend_each_handler,
+    strands_run_one_at_a_time, strict_runs_nest_nothing, strict_strands_keep_one_order,
+    verdicts_are_unique, whole_runs_spend_each_handler,
 };
 pub use level::{Level, Strictness};
 pub use rule::Rule;

@@ -223,7 +223,7 @@ const DISPATCHED: &str =
     "0 call 0 post 0 5 -\n1 begin 0 ok 0\n0 call 1 post 0 5 -\n0 mark 1\n1 call 2 dispatch 0 5 -\n1 end 0\n2 begin 2 ok 0\n2 end 2\n1 begin 1 ok 0\n1 end 1\n";
 
 /// Runs behind the header, and what is said of them.
-const SAID: [(&str, &str); 12] = [
+const SAID: [(&str, &str); 14] = [
     ("", "legal\n"),
     (
         "name strand 0 room\nname thing 1 members\n0 call 0 post 0 0 -\n0 call 1 post 0 0 -\n1 begin 0 ok 0\n1 claim 1\n1 call 2 wait 0 - 9\n1 release 1\n1 end 0\n2 begin 1 ok 0\n2 claim 1\n2 cancel 9\n2 release 1\n2 end 1\n1 begin 2 aborted 0\n1 lock 3\n1 claim 1\n1 release 1\n1 unlock 3\n1 end 2\n",
@@ -239,6 +239,14 @@ const SAID: [(&str, &str); 12] = [
     ),
     (
         "0 call 0 dispatch 0 5 -\n0 begin 0 ok 0\n0 call 1 dispatch 0 5 -\n0 begin 1 ok 0\n0 end 1\n0 back 1\n0 end 0\n0 back 0\n",
+        "legal\n",
+    ),
+    (
+        "0 call 0 post 0 5 -\n1 begin 0 ok 0\n0 call 1 post 0 5 -\n0 mark 1\n1 call 2 dispatch 0 6 -\n1 begin 2 ok 0\n1 call 3 dispatch 0 5 -\n1 begin 3 ok 0\n1 end 3\n1 throw 2\n1 end 0\n2 begin 1 ok 0\n2 end 1\n",
+        "legal\n",
+    ),
+    (
+        "1 work 0\n0 mark 1\n1 after 1\n1 stop 0\n0 restart 0\n0 cancel 9\n",
         "legal\n",
     ),
     (

@@ -1,0 +1,5 @@
+pub mod Trees
+pub mod Apart
+pub mod Causes
+pub mod Orders
+pub mod Laws
