@@ -9,6 +9,7 @@ use Rattle.history_book.specs.History.{Recorded}
 use Rattle.session_script.specs.Script.{ScriptModel}
 use Rattle.order_questions.specs.Answer.{AnswersListed, IsAnswer, IsBest, order_at}
 use Rattle.order_questions.specs.Condition.{Meets}
+use Rattle.session_orders.specs.declared.bounds.ReactorKind.{ReactorKind}
 use Rattle.session_orders.specs.Listed.{Listed, events_in}
 use Rattle.session_orders.specs.Order.{AreOrders, HasAllOrders, IsOrder}
 use Rattle.order_questions.specs.declared.condition.Condition.{Condition}
@@ -91,23 +92,23 @@ of_all condition orders events P each found meets =
     let is : order_at orders found.0 ≡ events = get_or_default orders found.0 [] events found.1 ∙ found.2 in
     subst P is (each found.0 found.1 (subst (Meets condition) (sym is) meets))
 
-pub is_answer : (script : ScriptModel) (failing : Bool) (condition : Condition) (listed : Listed) (answer : Answer) →
-    AreOrders script failing listed.orders → (listed.all ≡ true → HasAllOrders script failing listed.orders) →
-    AnswersListed condition listed answer → IsAnswer script failing condition listed answer
-is_answer script failing condition listed (answer.Yes at) right whole best =
+pub is_answer : (script : ScriptModel) (reactor : ReactorKind) (condition : Condition) (listed : Listed) (answer : Answer) →
+    AreOrders script reactor listed.orders → (listed.all ≡ true → HasAllOrders script reactor listed.orders) →
+    AnswersListed condition listed answer → IsAnswer script reactor condition listed answer
+is_answer script reactor condition listed (answer.Yes at) right whole best =
     record {
-      order = All-get_or (IsOrder script failing) listed.orders at [] best.within right.each;
+      order = All-get_or (IsOrder script reactor) listed.orders at [] best.within right.each;
       shortest = best;
       least =
           λ all other order meets.
           of_all condition listed.orders other (λ events. length (order_at listed.orders at) ≤ length events) best.least
           (whole all other order) meets;
     }
-is_answer script failing condition listed answer.Never right whole none =
+is_answer script reactor condition listed answer.Never right whole none =
     record {
       all = none.0;
       none =
           λ events order meets.
           of_all condition listed.orders events (λ _. ⊥) none.1 (whole none.0 events order) meets;
     }
-is_answer script failing condition listed answer.Undecided right whole none = none
+is_answer script reactor condition listed answer.Undecided right whole none = none

@@ -10,6 +10,7 @@ use Rattle.session_script.specs.Script.{ScriptModel}
 use Rattle.order_questions.specs.Answer.{order_at}
 use Rattle.order_questions.specs.Handlers.{AreHandlerOrders, AreHandlersOf, HasAllHandlerOrders, IsHandlerOrder, IsShown, handlers_in, is_handler}
 use Rattle.order_questions.proofs.AnswerLemmas.{one_more_order, order_in}
+use Rattle.session_orders.specs.declared.bounds.ReactorKind.{ReactorKind}
 use Rattle.session_orders.specs.Listed.{events_in}
 use Rattle.session_orders.specs.Order.{AreOrders, HasAllOrders, IsOrder}
 
@@ -100,25 +101,25 @@ handlers_joined orders old slice new i one shown same is shown_is one_is are oth
 
 -- what all listed histories have, all histories have
 
-pub handler_orders : (script : ScriptModel) (failing : Bool) (orders lists : List (List Event)) →
-    AreOrders script failing orders → AreHandlersOf orders (length orders) lists → AreHandlerOrders script failing lists
-handler_orders script failing orders lists right are =
+pub handler_orders : (script : ScriptModel) (reactor : ReactorKind) (orders lists : List (List Event)) →
+    AreOrders script reactor orders → AreHandlersOf orders (length orders) lists → AreHandlerOrders script reactor lists
+handler_orders script reactor orders lists right are =
     record {
       each =
-          All-weaker (IsShown orders (length orders)) (IsHandlerOrder script failing)
+          All-weaker (IsShown orders (length orders)) (IsHandlerOrder script reactor)
           (λ shown is.
           record {
             events = order_at orders is.at;
-            order = All-get_or (IsOrder script failing) orders is.at [] is.within right.each;
+            order = All-get_or (IsOrder script reactor) orders is.at [] is.within right.each;
             is = is.is;
           }) lists are.each;
       once = are.once;
     }
 
-pub all_handler_orders : (script : ScriptModel) (failing : Bool) (orders lists : List (List Event)) →
-    HasAllOrders script failing orders → AreHandlersOf orders (length orders) lists →
-    HasAllHandlerOrders script failing lists
-all_handler_orders script failing orders lists all are events order =
+pub all_handler_orders : (script : ScriptModel) (reactor : ReactorKind) (orders lists : List (List Event)) →
+    HasAllOrders script reactor orders → AreHandlersOf orders (length orders) lists →
+    HasAllHandlerOrders script reactor lists
+all_handler_orders script reactor orders lists all are events order =
     let found = all events order in
     let is : order_at orders found.0 ≡ events = get_or_default orders found.0 [] events found.1 ∙ found.2 in
     subst (λ es. Contains lists (handlers_in es)) is (are.every found.0 found.1)

@@ -2,6 +2,7 @@
 use Rattle.std.specs.Prelude.{◌≡◌, ◌<◌, ◌≤◌, ℕ, Bool, true, false, List, [], length, Option, Some, None}
 use Rattle.std.specs.List.{slice_index_or}
 use Rattle.asio_types.specs.declared.event.Event.{Event}
+use Rattle.session_orders.specs.declared.bounds.ReactorKind.{ReactorKind}
 use Rattle.session_orders.specs.Listed.{Listed}
 use Rattle.session_orders.specs.Order.{IsOrder}
 use Rattle.session_script.specs.Script.{ScriptModel}
@@ -42,22 +43,22 @@ AnswersListed condition listed answer.Undecided =
 
 -- this legal whole history meets the condition; no shorter one does that is listed, and none at all
 -- where all are listed
-pub record IsWitness (script : ScriptModel) (failing : Bool) (condition : Condition)
+pub record IsWitness (script : ScriptModel) (reactor : ReactorKind) (condition : Condition)
     (listed : Listed) (at : ℕ) : Type 0 where
-  pub order : IsOrder script failing (order_at listed.orders at)
+  pub order : IsOrder script reactor (order_at listed.orders at)
   pub shortest : IsShortest condition listed.orders (length listed.orders) at
-  pub least : listed.all ≡ true → (other : List Event) → IsOrder script failing other →
+  pub least : listed.all ≡ true → (other : List Event) → IsOrder script reactor other →
       Meets condition other → length (order_at listed.orders at) ≤ length other
 
 -- no legal whole history meets the condition, and all of them were looked at
-pub record IsNever (script : ScriptModel) (failing : Bool) (condition : Condition)
+pub record IsNever (script : ScriptModel) (reactor : ReactorKind) (condition : Condition)
     (listed : Listed) : Type 0 where
   pub all : listed.all ≡ true
-  pub none : (events : List Event) → IsOrder script failing events → Meets condition events → ⊥
+  pub none : (events : List Event) → IsOrder script reactor events → Meets condition events → ⊥
 
-abbrev pub IsAnswer : ScriptModel → Bool → Condition → Listed → Answer → Type 0
-IsAnswer script failing condition listed (answer.Yes at) =
-    IsWitness script failing condition listed at
-IsAnswer script failing condition listed answer.Never = IsNever script failing condition listed
-IsAnswer script failing condition listed answer.Undecided =
+abbrev pub IsAnswer : ScriptModel → ReactorKind → Condition → Listed → Answer → Type 0
+IsAnswer script reactor condition listed (answer.Yes at) =
+    IsWitness script reactor condition listed at
+IsAnswer script reactor condition listed answer.Never = IsNever script reactor condition listed
+IsAnswer script reactor condition listed answer.Undecided =
     (listed.all ≡ false) × NoneMeets condition listed.orders (length listed.orders)

@@ -1,4 +1,5 @@
-ghost use Rattle.std.specs.Prelude.{◌≡◌, true, IfOk};
+ghost use Rattle.std.specs.Prelude.{◌≡◌, true, false, IfOk};
+ghost use Rattle.session_orders.specs.Bound.{IsCutOff};
 ghost use Rattle.session_orders.specs.Order.{AreOrders, HasAllOrders};
 ghost use Rattle.order_questions.specs.Answer.{AnswersListed, IsAnswer};
 
@@ -48,18 +49,20 @@ fn answer_of(orders: &Orders, condition: Condition) -> Answer
 
 /// Whether a legal whole history of the script meets the condition, as far as the bounds allow: yes
 /// with the first of the shortest histories listed that do, never where all are listed and none
-/// does, and else undecided. Takes memory for the histories that it lists.
+/// does, and else undecided: then the list stopped at a bound. Takes memory for the histories that it lists.
 pub fn ask(
     alloc: Global,
     script: &Script,
     bounds: Bounds,
     condition: Condition,
 ) -> Result<Asked, NoMemory>
-    ensures right { IfOk result (λ asked. AreOrders script.now bounds.failing asked.orders.orders) }
+    ensures right { IfOk result (λ asked. AreOrders script.now bounds.reactor asked.orders.orders) }
     ensures whole { IfOk result (λ asked.
-        asked.orders.all ≡ true → HasAllOrders script.now bounds.failing asked.orders.orders) }
+        asked.orders.all ≡ true → HasAllOrders script.now bounds.reactor asked.orders.orders) }
+    ensures cut { IfOk result (λ asked.
+        asked.orders.all ≡ false → IsCutOff script.now bounds asked.orders.orders) }
     ensures answer { IfOk result (λ asked.
-        IsAnswer script.now bounds.failing condition asked.orders asked.answer) }
+        IsAnswer script.now bounds.reactor condition asked.orders asked.answer) }
 {
     let orders = list_orders(alloc, script, bounds)?;
     let answer = answer_of(&orders, condition);

@@ -1,7 +1,7 @@
-ghost use Rattle.std.specs.Prelude.{◌≡◌, ◌≤◌, ◌<◌, ◌+◌, ◌↔◌, [], ◌∷◌, ◌++◌, true, Contains, IfOk, IsTrue, OnOk, length};
+ghost use Rattle.std.specs.Prelude.{◌≡◌, ◌≤◌, ◌<◌, ◌+◌, ◌↔◌, [], ◌∷◌, ◌++◌, true, false, Contains, IfOk, IsTrue, OnOk, length};
 ghost use Rattle.session_orders.specs.Listed.{events_in};
 ghost use Rattle.order_questions.specs.Answer.{order_at};
-ghost use Rattle.order_questions.specs.Handlers.{AreHandlerOrders, AreHandlersOf, HasAllHandlerOrders, handlers_in, is_handler};
+ghost use Rattle.order_questions.specs.Handlers.{AreCutOff, AreHandlerOrders, AreHandlersOf, HasAllHandlerOrders, handlers_in, is_handler};
 
 use asio_types::{Event, NoMemory};
 use history_book::History;
@@ -129,18 +129,20 @@ fn handlers_of(alloc: Global, histories: &[History]) -> Result<Vec<History>, NoM
     Ok(lists)
 }
 
-/// The orders of handlers that the script allows where its bytes are told: of each legal whole
-/// history that `list_orders` lists within these bounds its begins, ends and drops, and none of
-/// these lists twice. They are all where it came to no bound. Compares each with all that differ.
+/// The orders of handlers that the script allows: of each legal whole history that `list_orders` lists
+/// within these bounds its begins, ends and drops alone, and none of these lists twice. They are all
+/// where it came to no bound. Compares each with all that differ.
 pub fn list_handlers(
     alloc: Global,
     script: &Script,
     bounds: Bounds,
 ) -> Result<HandlerOrders, NoMemory>
     ensures right { IfOk result (λ found.
-        AreHandlerOrders script.now bounds.failing (events_in found.lists.items)) }
+        AreHandlerOrders script.now bounds.reactor (events_in found.lists.items)) }
     ensures whole { IfOk result (λ found. found.all ≡ true →
-        HasAllHandlerOrders script.now bounds.failing (events_in found.lists.items)) }
+        HasAllHandlerOrders script.now bounds.reactor (events_in found.lists.items)) }
+    ensures cut { IfOk result (λ found. found.all ≡ false →
+        AreCutOff script.now bounds (events_in found.lists.items)) }
 {
     let orders = list_orders(alloc, script, bounds)?;
     let lists = handlers_of(alloc, orders.histories())?;

@@ -1,5 +1,5 @@
 -- The forms of the command, by their words.
-use Rattle.std.specs.Prelude.{◌≡◌, ◌⊎◌, ℕ, List, [], ◌∷◌, ◌++◌, codes}
+use Rattle.std.specs.Prelude.{◌≡◌, ◌⊎◌, ℕ, true, false, List, [], ◌∷◌, ◌++◌, codes}
 use Rattle.asio_types.specs.declared.event.Event.TheVariants as event
 use Rattle.history_book.specs.Trace.{line_end, trace_of}
 use Rattle.order_questions.specs.declared.condition.Condition.{Condition}
@@ -32,6 +32,17 @@ pub record IsWithin (words : List (List ℕ)) (form : Form) : Type 0 where
   pub is_most : IsMost number form.most
   pub is_task : IsTask rest form.task
 
+-- a task, with a bound or the usual one
+abbrev pub IsBounded : List (List ℕ) → Form → Type 0
+IsBounded words form = (IsTask words form.task × (form.most ≡ 10000)) ⊎ IsWithin words form
+
+-- of a reactor that doesn't tell its bytes
+pub record IsNet (words : List (List ℕ)) (form : Form) : Type 0 where
+  pub rest : List (List ℕ)
+  pub are : words ≡ codes "--net" ∷ rest
+  pub untold : form.told ≡ false
+  pub is_bounded : IsBounded rest form
+
 -- the words are those of this form
 abbrev pub IsForm : List (List ℕ) → Form → Type 0
-IsForm words form = (IsTask words form.task × (form.most ≡ 10000)) ⊎ IsWithin words form
+IsForm words form = ((form.told ≡ true) × IsBounded words form) ⊎ IsNet words form

@@ -24,7 +24,7 @@ pub record HasWritten (P : List ℕ → Type 0) (before after : Option (List ℕ
 pub record HasAnswered (form : Form) (input : List ℕ) (before after : Option (List ℕ)) : Type 0 where
   pub script : ScriptModel
   pub is_script : IsScript input script
-  pub answered : HasWritten (IsReport script form.most form.task) before after
+  pub answered : HasWritten (IsReport script form.told form.most form.task) before after
 
 -- the words are a form of the command, and what they ask of the script that was read was written
 pub record HasReported (words : List (List ℕ)) (left_before left_after : Option (List ℕ))

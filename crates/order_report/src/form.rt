@@ -1,5 +1,5 @@
 ghost use Rattle.std.specs.Prelude.{◌≡◌, ◌∷◌, [], true, IfOk, IfSome, codes, map, string_bytes};
-ghost use Rattle.order_report.specs.Form.{IsForm, IsMost, IsTask};
+ghost use Rattle.order_report.specs.Form.{IsBounded, IsForm, IsMost, IsTask};
 
 use crate::reading::{condition_of, event_in};
 use asio_types::{Event, NoMemory};
@@ -26,6 +26,8 @@ pub struct Form {
     pub task: Task,
     /// How many histories are looked at, or states where they are counted.
     pub most: u64,
+    /// Whether the reactor tells its bytes.
+    pub told: bool,
 }
 
 /// How many are looked at where the words don't say it.
@@ -97,15 +99,20 @@ fn task_of(alloc: Global, words: &[String]) -> Result<Option<Task>, NoMemory>
 }
 
 /// The form of these words, with the bound that the word before them says.
-fn form_within(alloc: Global, number: &String, rest: &[String]) -> Result<Option<Form>, NoMemory>
-    ensures { IfOk result (λ found. IfSome found
-        (IsForm (codes "--most" ∷ string_bytes number.now ∷ map string_bytes rest.now))) }
+fn form_within(
+    alloc: Global,
+    told: bool,
+    number: &String,
+    rest: &[String],
+) -> Result<Option<Form>, NoMemory>
+    ensures { IfOk result (λ found. IfSome found (λ form. (form.told ≡ told)
+        × IsBounded (codes "--most" ∷ string_bytes number.now ∷ map string_bytes rest.now) form)) }
 {
     let Some(most) = most_of(alloc, number)? else {
         return Ok(None);
     };
     match task_of(alloc, rest)? {
-        Some(task) => Ok(Some(Form { task, most })),
+        Some(task) => Ok(Some(Form { task, most, told })),
         None => Ok(None),
     }
 }
@@ -113,25 +120,63 @@ fn form_within(alloc: Global, number: &String, rest: &[String]) -> Result<Option
 /// The form of these words, of which the first is known to say a bound.
 fn form_behind(
     alloc: Global,
+    told: bool,
     word: &String,
     number: &String,
     rest: &[String],
 ) -> Result<Option<Form>, NoMemory>
     requires { codes "--most" ≡ string_bytes word.now }
-    ensures { IfOk result (λ found. IfSome found
-        (IsForm (string_bytes word.now ∷ string_bytes number.now ∷ map string_bytes rest.now))) }
+    ensures { IfOk result (λ found. IfSome found (λ form. (form.told ≡ told)
+        × IsBounded (string_bytes word.now ∷ string_bytes number.now ∷ map string_bytes rest.now)
+        form)) }
 {
-    form_within(alloc, number, rest)
+    form_within(alloc, told, number, rest)
 }
 
 /// The form of these words, with the usual bound.
-fn form_usual(alloc: Global, words: &[String]) -> Result<Option<Form>, NoMemory>
-    ensures { IfOk result (λ found. IfSome found (IsForm (map string_bytes words.now))) }
+fn form_usual(alloc: Global, told: bool, words: &[String]) -> Result<Option<Form>, NoMemory>
+    ensures { IfOk result (λ found. IfSome found (λ form. (form.told ≡ told)
+        × IsBounded (map string_bytes words.now) form)) }
 {
     match task_of(alloc, words)? {
-        Some(task) => Ok(Some(Form { task, most: USUAL })),
+        Some(task) => Ok(Some(Form {
+            task,
+            most: USUAL,
+            told,
+        })),
         None => Ok(None),
     }
+}
+
+/// The form of these words but for what is known of the reactor.
+fn form_bounded(alloc: Global, told: bool, words: &[String]) -> Result<Option<Form>, NoMemory>
+    ensures { IfOk result (λ found. IfSome found (λ form. (form.told ≡ told)
+        × IsBounded (map string_bytes words.now) form)) }
+{
+    match words {
+        [word, number, rest @ ..] => if is_word(word, b"--most") {
+            form_behind(alloc, told, word, number, rest)
+        } else {
+            form_usual(alloc, told, words)
+        },
+        _ => form_usual(alloc, told, words),
+    }
+}
+
+/// The form of these words, of which the first is known to say that bytes are untold.
+fn form_net(alloc: Global, word: &String, rest: &[String]) -> Result<Option<Form>, NoMemory>
+    requires { codes "--net" ≡ string_bytes word.now }
+    ensures { IfOk result (λ found. IfSome found
+        (IsForm (string_bytes word.now ∷ map string_bytes rest.now))) }
+{
+    form_bounded(alloc, false, rest)
+}
+
+/// The form of these words where bytes are told.
+fn form_told(alloc: Global, words: &[String]) -> Result<Option<Form>, NoMemory>
+    ensures { IfOk result (λ found. IfSome found (IsForm (map string_bytes words.now))) }
+{
+    form_bounded(alloc, true, words)
 }
 
 /// The form of the command that the words are.
@@ -139,11 +184,11 @@ pub(crate) fn form_of(alloc: Global, words: &[String]) -> Result<Option<Form>, N
     ensures { IfOk result (λ found. IfSome found (IsForm (map string_bytes words.now))) }
 {
     match words {
-        [word, number, rest @ ..] => if is_word(word, b"--most") {
-            form_behind(alloc, word, number, rest)
+        [word, rest @ ..] => if is_word(word, b"--net") {
+            form_net(alloc, word, rest)
         } else {
-            form_usual(alloc, words)
+            form_told(alloc, words)
         },
-        _ => form_usual(alloc, words),
+        _ => form_told(alloc, words),
     }
 }

@@ -2,7 +2,7 @@ ghost use Rattle.std.specs.Prelude.{◌≡◌, ℕ, Err, OnOk, false, map, strin
 ghost use Rattle.asio_types.specs.Faults.{CountsFaults};
 ghost use Rattle.asio_types.specs.Sink.{Extends};
 ghost use Rattle.session_orders.specs.Listed.{events_in};
-ghost use Rattle.order_report.specs.Report.{IsReport, IsWithin, answer_text, count_text, listed_text, word_of};
+ghost use Rattle.order_report.specs.Report.{IsReport, IsWithin, answer_text, bounds_of, count_text, listed_text, reactor_of, states_of, word_of};
 ghost use Rattle.order_report.specs.Session.{CountsReads, CountsReport, CountsWrites, HasAnswered, HasFault, HasReported, HasWritten, LeavesOut, WasRefused};
 ghost use Rattle.order_report.specs.declared.status.OrdersStatus.TheVariants as status;
 ghost use Rattle.order_report.specs.declared.unreported.Unreported.TheVariants as unreported;
@@ -14,19 +14,37 @@ use crate::unreported::Unreported;
 use asio_types::{Failed, Sink, Source, write_all};
 use history_book::History;
 use order_questions::{Answer, Asked, Condition, ask, list_handlers};
-use session_orders::{Bounds, count_orders, list_orders};
+use session_orders::{Bounds, MOST_BEGINNINGS, ReactorKind, count_orders, list_orders};
 use session_script::{MOST_READ, Script, ScriptFault, read_script};
 use std::alloc::Global;
 use text_io::{Unfinished, read_text};
 
-/// Bounds for so many histories.
-fn bounds_of(most: u64) -> Bounds
-    ensures { result.failing ≡ false }
+/// The reactor that is asked about.
+fn reactor_of(told: bool) -> ReactorKind
+    ensures { result ≡ reactor_of told }
 {
-    let mut bounds = Bounds::usual();
-    bounds.failing = false;
-    bounds.histories = most as usize;
-    bounds
+    ReactorKind {
+        told,
+        failing: false,
+    }
+}
+
+/// Bounds for so many histories.
+fn bounds_of(told: bool, most: u64) -> Bounds
+    ensures { result ≡ bounds_of told most }
+{
+    Bounds {
+        reactor: reactor_of(told),
+        histories: most as usize,
+        beginnings: MOST_BEGINNINGS,
+    }
+}
+
+/// How many states are looked at for a count.
+fn states_of(most: u64) -> u32
+    ensures { result ≡ states_of most }
+{
+    most.min(u32::MAX as u64) as u32
 }
 
 /// The words of a list's first line.
@@ -51,15 +69,15 @@ fn write_listed<K: Sink>(out: &mut K, histories: &[History], all: bool) -> Resul
 fn write_counted<K: Sink>(
     out: &mut K,
     counted: Option<u64>,
-    most: u64,
+    states: u32,
     shown: &[History],
 ) -> Result<(), Failed>
     ensures written { OnOk result (Extends (K.written out.old)
-        (count_text counted most (events_in shown.now)) (K.written out.new)) }
+        (count_text counted states (events_in shown.now)) (K.written out.new)) }
     ensures counts { CountsFaults result (K.faults out.old) (K.faults out.new) }
 {
     let Some(number) = counted else {
-        return write_number(out, b"not counted, states ", most);
+        return write_number(out, b"not counted, states ", states as u64);
     };
     write_number(out, b"orders ", number)?;
     write_orders(out, shown)
@@ -88,17 +106,19 @@ fn write_answer<K: Sink>(out: &mut K, asked: &Asked) -> Result<(), Failed>
 fn report_count<K: Sink>(
     alloc: Global,
     script: &Script,
+    told: bool,
     most: u64,
     out: &mut K,
 ) -> Result<(), Unreported>
     ensures written { OnOk result
-        (HasWritten (IsReport script.now most Task.Count) (K.written out.old) (K.written out.new)) }
+        (HasWritten (IsReport script.now told most Task.Count) (K.written out.old) (K.written out.new)) }
     ensures quiet { result ≡ Err unreported.NoMemory → out.new ≡ out.old }
     ensures counts { CountsReport result (K.faults out.old) (K.faults out.new) }
 {
-    let counted = count_orders(alloc, script, false, most)?;
-    let shown = list_orders(alloc, script, bounds_of(1))?;
-    write_counted(out, counted, most, shown.histories())?;
+    let states = states_of(most);
+    let counted = count_orders(alloc, script, reactor_of(told), states)?;
+    let shown = list_orders(alloc, script, bounds_of(told, 1))?;
+    write_counted(out, counted, states, shown.histories())?;
     Ok(())
 }
 
@@ -106,15 +126,16 @@ fn report_count<K: Sink>(
 fn report_list<K: Sink>(
     alloc: Global,
     script: &Script,
+    told: bool,
     most: u64,
     out: &mut K,
 ) -> Result<(), Unreported>
     ensures written { OnOk result
-        (HasWritten (IsReport script.now most Task.List) (K.written out.old) (K.written out.new)) }
+        (HasWritten (IsReport script.now told most Task.List) (K.written out.old) (K.written out.new)) }
     ensures quiet { result ≡ Err unreported.NoMemory → out.new ≡ out.old }
     ensures counts { CountsReport result (K.faults out.old) (K.faults out.new) }
 {
-    let orders = list_orders(alloc, script, bounds_of(most))?;
+    let orders = list_orders(alloc, script, bounds_of(told, most))?;
     write_listed(out, orders.histories(), orders.are_all())?;
     Ok(())
 }
@@ -123,15 +144,16 @@ fn report_list<K: Sink>(
 fn report_handlers<K: Sink>(
     alloc: Global,
     script: &Script,
+    told: bool,
     most: u64,
     out: &mut K,
 ) -> Result<(), Unreported>
-    ensures written { OnOk result (HasWritten (IsReport script.now most Task.Handlers)
+    ensures written { OnOk result (HasWritten (IsReport script.now told most Task.Handlers)
         (K.written out.old) (K.written out.new)) }
     ensures quiet { result ≡ Err unreported.NoMemory → out.new ≡ out.old }
     ensures counts { CountsReport result (K.faults out.old) (K.faults out.new) }
 {
-    let found = list_handlers(alloc, script, bounds_of(most))?;
+    let found = list_handlers(alloc, script, bounds_of(told, most))?;
     write_listed(out, found.lists.as_slice(), found.all)?;
     Ok(())
 }
@@ -140,16 +162,17 @@ fn report_handlers<K: Sink>(
 fn report_answer<K: Sink>(
     alloc: Global,
     script: &Script,
+    told: bool,
     most: u64,
     condition: Condition,
     out: &mut K,
 ) -> Result<(), Unreported>
-    ensures written { OnOk result (HasWritten (IsReport script.now most (Task.Can condition))
+    ensures written { OnOk result (HasWritten (IsReport script.now told most (Task.Can condition))
         (K.written out.old) (K.written out.new)) }
     ensures quiet { result ≡ Err unreported.NoMemory → out.new ≡ out.old }
     ensures counts { CountsReport result (K.faults out.old) (K.faults out.new) }
 {
-    let asked = ask(alloc, script, bounds_of(most), condition)?;
+    let asked = ask(alloc, script, bounds_of(told, most), condition)?;
     write_answer(out, &asked)?;
     Ok(())
 }
@@ -161,16 +184,18 @@ fn report<K: Sink>(
     script: &Script,
     out: &mut K,
 ) -> Result<(), Unreported>
-    ensures written { OnOk result (HasWritten (IsReport script.now form.most form.task)
+    ensures written { OnOk result (HasWritten (IsReport script.now form.told form.most form.task)
         (K.written out.old) (K.written out.new)) }
     ensures quiet { result ≡ Err unreported.NoMemory → out.new ≡ out.old }
     ensures counts { CountsReport result (K.faults out.old) (K.faults out.new) }
 {
     match form.task {
-        Task::Count => report_count(alloc, script, form.most, out),
-        Task::List => report_list(alloc, script, form.most, out),
-        Task::Handlers => report_handlers(alloc, script, form.most, out),
-        Task::Can(condition) => report_answer(alloc, script, form.most, condition, out),
+        Task::Count => report_count(alloc, script, form.told, form.most, out),
+        Task::List => report_list(alloc, script, form.told, form.most, out),
+        Task::Handlers => report_handlers(alloc, script, form.told, form.most, out),
+        Task::Can(condition) => {
+            report_answer(alloc, script, form.told, form.most, condition, out)
+        }
     }
 }
 
@@ -225,8 +250,7 @@ fn end<S: Source, K: Sink>(
 }
 
 /// Reads a script from the source, and writes to out which orders it may have: those of its legal
-/// whole histories where bytes are told and the reactor doesn't fail. The words are those behind
-/// the program's name:
+/// whole histories where the reactor doesn't fail. The words are those behind the program's name:
 ///
 /// - none, for how many there are, which is counted by states, and the first that is found;
 /// - `--list`, for each of them;
@@ -234,7 +258,8 @@ fn end<S: Source, K: Sink>(
 /// - `--can CONDITION`, for whether one meets it.
 ///
 /// `--most N` before these says how many histories are looked at, or states where they are counted:
-/// 10,000 where it isn't said. With the status `Done` what was asked was written, and is right. With
+/// 10,000 where it isn't said. `--net` before all says that the reactor doesn't tell its bytes. With
+/// the status `Done` what was asked was written, and is right. With
 /// the statuses 1, 2, 3 and 6 nothing was written. The notes get the status's note, and change no
 /// status.
 pub fn orders_session<S: Source, K: Sink, N: Sink>(

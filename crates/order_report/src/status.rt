@@ -7,7 +7,7 @@ pub enum OrdersStatus {
     Usage,
     /// The input is no script.
     Refused,
-    /// Reading failed.
+    /// Reading failed: the file can't be opened, or the input broke off.
     ReadFault,
     /// Writing failed.
     WriteFault,
@@ -33,7 +33,7 @@ impl OrdersStatus {
         match self {
             OrdersStatus::Done => b"",
             OrdersStatus::Usage => {
-                b"asio_orders: usage: asio_orders [--most N] [--list | --handlers | --can CONDITION]\n"
+                b"asio_orders: usage: asio_orders [FILE] [--net] [--most N] [--list | --handlers | --can CONDITION]\n"
             }
             OrdersStatus::Refused => b"asio_orders: no script\n",
             OrdersStatus::ReadFault => b"asio_orders: read fault\n",

@@ -7,7 +7,15 @@ use session_script::Script;
 use std::alloc::Global;
 use std::test::Fail;
 
-const CODES: [Code; 4] = [Code::Ok, Code::Aborted, Code::Eof, Code::Broken];
+const CODES: [Code; 7] = [
+    Code::Ok,
+    Code::Aborted,
+    Code::Eof,
+    Code::NotFound,
+    Code::Bad,
+    Code::Broken,
+    Code::Reset,
+];
 
 /// The events of an act of a small script.
 fn events_of(act: u32, events: &mut Vec<Event>) -> Result<(), Fail> {
@@ -57,8 +65,13 @@ fn events(alloc: Global, script: &Script) -> Result<Vec<Event>, Fail> {
 }
 
 /// A replay that has taken these events.
-fn replay_of<'a>(alloc: Global, script: &'a Script, path: &[Event]) -> Result<Replay<'a>, Fail> {
-    let mut replay = Replay::make(alloc, script, true)?;
+fn replay_of<'a>(
+    alloc: Global,
+    script: &'a Script,
+    told: bool,
+    path: &[Event],
+) -> Result<Replay<'a>, Fail> {
+    let mut replay = Replay::make(alloc, script, told)?;
     for event in path {
         let _ = replay.step(*event);
     }
@@ -69,27 +82,28 @@ fn replay_of<'a>(alloc: Global, script: &'a Script, path: &[Event]) -> Result<Re
 fn extend(
     alloc: Global,
     script: &Script,
+    told: bool,
     path: &[Event],
     events: &[Event],
     longer: &mut Vec<Vec<Event>>,
 ) -> Result<(), Fail> {
-    let mut replay = replay_of(alloc, script, path)?;
+    let mut replay = replay_of(alloc, script, told, path)?;
     for event in events {
         if replay.step(*event) {
             let mut next = Vec::from_slice(alloc, path)?;
             next.push(*event)?;
             longer.push(next)?;
-            replay = replay_of(alloc, script, path)?;
+            replay = replay_of(alloc, script, told, path)?;
         }
     }
     Ok(())
 }
 
 /// How many of these beginnings are whole.
-fn whole_of(alloc: Global, script: &Script, paths: &[Vec<Event>]) -> Result<u64, Fail> {
+fn whole_of(alloc: Global, script: &Script, told: bool, paths: &[Vec<Event>]) -> Result<u64, Fail> {
     let mut count: u64 = 0;
     for path in paths {
-        if replay_of(alloc, script, path.as_slice())?.whole() {
+        if replay_of(alloc, script, told, path.as_slice())?.whole() {
             count = count.saturating_add(1);
         }
     }
@@ -97,18 +111,19 @@ fn whole_of(alloc: Global, script: &Script, paths: &[Vec<Event>]) -> Result<u64,
 }
 
 /// How many histories a script has whose histories have at most 60 events.
-pub(crate) fn plain_count(alloc: Global, script: &Script) -> Result<u64, Fail> {
+pub(crate) fn plain_count(alloc: Global, script: &Script, told: bool) -> Result<u64, Fail> {
     let events = events(alloc, script)?;
     let mut paths = Vec::new(alloc);
     paths.push(Vec::new(alloc))?;
     let mut count: u64 = 0;
     for _ in 0..60 {
-        count = count.saturating_add(whole_of(alloc, script, paths.as_slice())?);
+        count = count.saturating_add(whole_of(alloc, script, told, paths.as_slice())?);
         let mut longer = Vec::new(alloc);
         for path in &paths {
             extend(
                 alloc,
                 script,
+                told,
                 path.as_slice(),
                 events.as_slice(),
                 &mut longer,

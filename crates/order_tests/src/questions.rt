@@ -18,8 +18,11 @@ const WAIT: &str = "session 1 timers 1 open { post - { } expires 0 3 wait 0 - - 
 const READ: &str =
     "session 1 strands 2 timers 1 slots 1 streams 1 at 3 feed 0 x6869 open { expires 0 5 wait 0 0 - { emit 0 1 } read 0 4 0 0 { } abort { dispatch 0 { } post 1 { } } } run 2";
 
+// With ok and one or two bytes, with eof or reset; before time 1, there, or after the last time point.
+const SENT: &str = "session 1 streams 1 at 1 feed 0 x61 open { readsome 0 2 - - { } } run 1";
+
 // Words, which ` | ` separates, a script, and the first line that is written.
-const ASKED: [(&str, &str, &str); 19] = [
+const ASKED: [(&str, &str, &str); 24] = [
     ("", TWO, "orders 6"),
     ("--list", STRAND, "orders 1"),
     ("--most | 2 | --list", TWO, "not all, orders 2"),
@@ -39,10 +42,16 @@ const ASKED: [(&str, &str, &str); 19] = [
     ("--can | done 3 aborted 2", READ, "yes"),
     ("--can | begin 5 before end 3", READ, "yes"),
     ("--can | begin 3 before begin 1", READ, "never, orders 36"),
+    ("--net", SENT, "orders 12"),
+    ("--net | --list", SENT, "orders 12"),
+    ("--net | --can | begin 0 ok 2", SENT, "yes"),
+    ("--net | --can | begin 0 aborted", SENT, "never, orders 12"),
+    ("--net | --most | 2 | --handlers", SENT, "not all, orders 2"),
 ];
 
 // Words that are no command.
-const REFUSED: [&str; 6] = [
+const REFUSED: [&str; 7] = [
+    "--most | 2 | --net",
     "--can",
     "--can | begin",
     "--can | begin 1 after end 0",

@@ -7,10 +7,11 @@ use Rattle.history_book.specs.Replay.{Replayed}
 use Rattle.history_rules.specs.Legal.{IsLegalFrom, IsWhole, MayHappen, after_event, state_from}
 use Rattle.history_rules.specs.State.{State, first_state}
 use Rattle.session_script.specs.Script.{ScriptModel}
+use Rattle.session_orders.specs.declared.bounds.ReactorKind.{ReactorKind}
 use Rattle.session_orders.specs.Count.{AreJust, AreOnce, Has, HasJoined, HasMoved, HasOrderCount, HasPassed, IsWayFrom, IsWayOn, LeadFrom, LeadOn, Leads, LeadsTo, Reaching, StandsFrom, with_more}
 use Rattle.session_orders.specs.Order.{IsAsked, IsOrder}
 use Rattle.session_orders.specs.Place.{place_of}
-use Rattle.session_orders.specs.Walk.{NoneAt}
+use Rattle.session_orders.specs.Walk.{NoneBetween}
 use Rattle.session_orders.proofs.PassedLemmas.{AllBelow, IsOnly}
 
 -- lists of lists
@@ -142,128 +143,128 @@ just_behind P e n just =
 
 -- ways on from a state
 
-stands_less : (script : ScriptModel) (place : ℕ) (es : List Event) → StandsFrom script (place + 1) es →
-    StandsFrom script place es
-stands_less script place [] stands = stands
-stands_less script place (e ∷ es) stands = omega (arith, stands)
+stands_less : (script : ScriptModel) (kind : ReactorKind) (from upto : ℕ) → from ≤ upto → (es : List Event) →
+    StandsFrom script kind upto es → StandsFrom script kind from es
+stands_less script kind from upto less [] stands = stands
+stands_less script kind from upto less (e ∷ es) stands = omega (arith, stands, less)
 
-way_less : (script : ScriptModel) (failing : Bool) (s : State) (place : ℕ) (es : List Event) →
-    IsWayFrom script failing s (place + 1) es → IsWayFrom script failing s place es
-way_less script failing s place es way = (way.0, stands_less script place es way.1)
+way_less : (script : ScriptModel) (kind : ReactorKind) (s : State) (from upto : ℕ) → from ≤ upto → (es : List Event) →
+    IsWayFrom script kind s upto es → IsWayFrom script kind s from es
+way_less script kind s from upto less es way = (way.0, stands_less script kind from upto less es way.1)
 
-way_past_none : (script : ScriptModel) (failing : Bool) (s : State) (place : ℕ) → NoneAt script failing s place →
-    (es : List Event) → IsWayFrom script failing s place es → IsWayFrom script failing s (place + 1) es
-way_past_none script failing s place none [] way = absurd way.1
-way_past_none script failing s place none (e ∷ es) way =
-    elim (cases_lt place (place_of script e)) [
-      | inl less ↦ (way.0, omega (arith, less))
-      | inr more ↦
-          let here : place_of script e ≡ place = omega (arith, way.1, more) in
-          absurd (none e way.0.asked.0 way.0.legal.0 here)
+way_past_none : (script : ScriptModel) (kind : ReactorKind) (s : State) (from upto : ℕ) →
+    NoneBetween script kind s from upto → (es : List Event) → IsWayFrom script kind s from es →
+    IsWayFrom script kind s upto es
+way_past_none script kind s from upto none [] way = absurd way.1
+way_past_none script kind s from upto none (e ∷ es) way =
+    elim (cases_lt (place_of script kind e) upto) [
+      | inl less ↦ absurd (none e way.0.asked.0 way.0.legal.0 way.1 less)
+      | inr more ↦ (way.0, more)
     ]
 
-later_none : (script : ScriptModel) (failing : Bool) (s : State) (place n : ℕ) → NoneAt script failing s place →
-    AreJust (IsWayFrom script failing s (place + 1)) n → AreJust (IsWayFrom script failing s place) n
-later_none script failing s place n none just =
-    just_same (IsWayFrom script failing s (place + 1)) (IsWayFrom script failing s place) n
-    (way_less script failing s place) (way_past_none script failing s place none) just
+later_none : (script : ScriptModel) (kind : ReactorKind) (s : State) (from upto n : ℕ) → from ≤ upto →
+    NoneBetween script kind s from upto → AreJust (IsWayFrom script kind s upto) n →
+    AreJust (IsWayFrom script kind s from) n
+later_none script kind s from upto n less none just =
+    just_same (IsWayFrom script kind s upto) (IsWayFrom script kind s from) n
+    (way_less script kind s from upto less) (way_past_none script kind s from upto none) just
 
-behind_is_way : (script : ScriptModel) (failing : Bool) (s : State) (place : ℕ) (e : Event) → IsAsked failing e →
-    MayHappen script true s e → place_of script e ≡ place → (es : List Event) →
-    IsBehind (IsWayOn script failing (after_event script true s e)) e es → IsWayFrom script failing s place es
-behind_is_way script failing s place e asked may at [] is = absurd is
-behind_is_way script failing s place e asked may at (f ∷ es) is =
-    let whole : IsWayFrom script failing s place (e ∷ es) = (
+behind_is_way : (script : ScriptModel) (kind : ReactorKind) (s : State) (place : ℕ) (e : Event) → IsAsked kind e →
+    MayHappen script kind.told s e → place_of script kind e ≡ place → (es : List Event) →
+    IsBehind (IsWayOn script kind (after_event script kind.told s e)) e es → IsWayFrom script kind s place es
+behind_is_way script kind s place e asked may at [] is = absurd is
+behind_is_way script kind s place e asked may at (f ∷ es) is =
+    let whole : IsWayFrom script kind s place (e ∷ es) = (
       record { legal = (may, is.1.legal); whole = is.1.whole; asked = (asked, is.1.asked) },
       omega (arith, at),
     ) in
-    subst (λ g. IsWayFrom script failing s place (g ∷ es)) (sym is.0) whole
+    subst (λ g. IsWayFrom script kind s place (g ∷ es)) (sym is.0) whole
 
-way_is_either : (script : ScriptModel) (failing : Bool) (s : State) (place : ℕ) (e : Event) →
-    IsOnly script failing s e → place_of script e ≡ place → (es : List Event) → IsWayFrom script failing s place es →
-    IsBehind (IsWayOn script failing (after_event script true s e)) e es ⊎ IsWayFrom script failing s (place + 1) es
-way_is_either script failing s place e only at [] way = absurd way.1
-way_is_either script failing s place e only at (f ∷ es) way =
-    elim (cases_lt place (place_of script f)) [
+way_is_either : (script : ScriptModel) (kind : ReactorKind) (s : State) (place : ℕ) (e : Event) →
+    IsOnly script kind s e → place_of script kind e ≡ place → (es : List Event) → IsWayFrom script kind s place es →
+    IsBehind (IsWayOn script kind (after_event script kind.told s e)) e es ⊎ IsWayFrom script kind s (place + 1) es
+way_is_either script kind s place e only at [] way = absurd way.1
+way_is_either script kind s place e only at (f ∷ es) way =
+    elim (cases_lt place (place_of script kind f)) [
       | inl less ↦ inr (way.0, omega (arith, less))
       | inr more ↦
           let same : f ≡ e = only f way.0.asked.0 way.0.legal.0 (omega (arith, way.1, more, at)) in
-          let on : IsWayOn script failing (after_event script true s f) es =
+          let on : IsWayOn script kind (after_event script kind.told s f) es =
           record { legal = way.0.legal.1; whole = way.0.whole; asked = way.0.asked.1 } in
-          inl (same, subst (λ g. IsWayOn script failing (after_event script true s g) es) same on)
+          inl (same, subst (λ g. IsWayOn script kind (after_event script kind.told s g) es) same on)
     ]
 
-behind_apart : (script : ScriptModel) (failing : Bool) (s : State) (place : ℕ) (e : Event) →
-    place_of script e ≡ place → (es : List Event) →
-    IsBehind (IsWayOn script failing (after_event script true s e)) e es → IsWayFrom script failing s (place + 1) es → ⊥
-behind_apart script failing s place e at [] is way = is
-behind_apart script failing s place e at (f ∷ es) is way =
-    let same : place_of script f ≡ place_of script e = ap (place_of script) is.0 in omega (arith, at, same, way.1)
+behind_apart : (script : ScriptModel) (kind : ReactorKind) (s : State) (place : ℕ) (e : Event) →
+    place_of script kind e ≡ place → (es : List Event) →
+    IsBehind (IsWayOn script kind (after_event script kind.told s e)) e es → IsWayFrom script kind s (place + 1) es → ⊥
+behind_apart script kind s place e at [] is way = is
+behind_apart script kind s place e at (f ∷ es) is way =
+    let same : place_of script kind f ≡ place_of script kind e = ap (place_of script kind) is.0 in omega (arith, at, same, way.1)
 
-later_one : (script : ScriptModel) (failing : Bool) (s : State) (place : ℕ) (e : Event) (m n : ℕ) → IsAsked failing e →
-    MayHappen script true s e → place_of script e ≡ place → IsOnly script failing s e →
-    AreJust (IsWayOn script failing (after_event script true s e)) m →
-    AreJust (IsWayFrom script failing s (place + 1)) n → AreJust (IsWayFrom script failing s place) (m + n)
-later_one script failing s place e m n asked may at only one two =
-    let Next : List Event → Type 0 = IsWayOn script failing (after_event script true s e) in
-    just_both (IsBehind Next e) (IsWayFrom script failing s (place + 1)) (IsWayFrom script failing s place) m n
-    (behind_is_way script failing s place e asked may at) (way_less script failing s place)
-    (way_is_either script failing s place e only at) (behind_apart script failing s place e at)
+later_one : (script : ScriptModel) (kind : ReactorKind) (s : State) (place : ℕ) (e : Event) (m n : ℕ) → IsAsked kind e →
+    MayHappen script kind.told s e → place_of script kind e ≡ place → IsOnly script kind s e →
+    AreJust (IsWayOn script kind (after_event script kind.told s e)) m →
+    AreJust (IsWayFrom script kind s (place + 1)) n → AreJust (IsWayFrom script kind s place) (m + n)
+later_one script kind s place e m n asked may at only one two =
+    let Next : List Event → Type 0 = IsWayOn script kind (after_event script kind.told s e) in
+    just_both (IsBehind Next e) (IsWayFrom script kind s (place + 1)) (IsWayFrom script kind s place) m n
+    (behind_is_way script kind s place e asked may at) (way_less script kind s place (place + 1) (omega arith))
+    (way_is_either script kind s place e only at) (behind_apart script kind s place e at)
     (just_behind Next e m one) two
 
-none_behind : (script : ScriptModel) (failing : Bool) (s : State) (place : ℕ) → AllBelow script failing s place →
-    (es : List Event) → IsWayFrom script failing s place es → ⊥
-none_behind script failing s place all [] way = way.1
-none_behind script failing s place all (e ∷ es) way =
+none_behind : (script : ScriptModel) (kind : ReactorKind) (s : State) (place : ℕ) → AllBelow script kind s place →
+    (es : List Event) → IsWayFrom script kind s place es → ⊥
+none_behind script kind s place all [] way = way.1
+none_behind script kind s place all (e ∷ es) way =
     let below = all e way.0.asked.0 way.0.legal.0 in omega (arith, below, way.1)
 
-empty_is_way : (script : ScriptModel) (failing : Bool) (s : State) → IsWhole script s → (es : List Event) → es ≡ [] →
-    IsWayOn script failing s es
-empty_is_way script failing s whole es is =
-    let nothing : IsWayOn script failing s [] = record { legal = tt; whole = whole; asked = tt } in
-    subst (IsWayOn script failing s) (sym is) nothing
+empty_is_way : (script : ScriptModel) (kind : ReactorKind) (s : State) → IsWhole script s → (es : List Event) → es ≡ [] →
+    IsWayOn script kind s es
+empty_is_way script kind s whole es is =
+    let nothing : IsWayOn script kind s [] = record { legal = tt; whole = whole; asked = tt } in
+    subst (IsWayOn script kind s) (sym is) nothing
 
-empty_or_way : (script : ScriptModel) (failing : Bool) (s : State) (es : List Event) → IsWayOn script failing s es →
-    (es ≡ []) ⊎ IsWayFrom script failing s 0 es
-empty_or_way script failing s [] way = inl refl
-empty_or_way script failing s (e ∷ es) way = inr (way, omega arith)
+empty_or_way : (script : ScriptModel) (kind : ReactorKind) (s : State) (es : List Event) → IsWayOn script kind s es →
+    (es ≡ []) ⊎ IsWayFrom script kind s 0 es
+empty_or_way script kind s [] way = inl refl
+empty_or_way script kind s (e ∷ es) way = inr (way, omega arith)
 
-empty_apart : (script : ScriptModel) (failing : Bool) (s : State) (es : List Event) → es ≡ [] →
-    IsWayFrom script failing s 0 es → ⊥
-empty_apart script failing s es is way = (subst (IsWayFrom script failing s 0) is way).1
+empty_apart : (script : ScriptModel) (kind : ReactorKind) (s : State) (es : List Event) → es ≡ [] →
+    IsWayFrom script kind s 0 es → ⊥
+empty_apart script kind s es is way = (subst (IsWayFrom script kind s 0) is way).1
 
-way_whole : (script : ScriptModel) (failing : Bool) (s : State) (n : ℕ) → IsWhole script s →
-    AreJust (IsWayFrom script failing s 0) n → AreJust (IsWayOn script failing s) (1 + n)
-way_whole script failing s n whole just =
-    just_both (λ es. es ≡ []) (IsWayFrom script failing s 0) (IsWayOn script failing s) 1 n
-    (empty_is_way script failing s whole) (λ es way. way.0) (empty_or_way script failing s)
-    (empty_apart script failing s) just_empty just
+way_whole : (script : ScriptModel) (kind : ReactorKind) (s : State) (n : ℕ) → IsWhole script s →
+    AreJust (IsWayFrom script kind s 0) n → AreJust (IsWayOn script kind s) (1 + n)
+way_whole script kind s n whole just =
+    just_both (λ es. es ≡ []) (IsWayFrom script kind s 0) (IsWayOn script kind s) 1 n
+    (empty_is_way script kind s whole) (λ es way. way.0) (empty_or_way script kind s)
+    (empty_apart script kind s) just_empty just
 
-open_way : (script : ScriptModel) (failing : Bool) (s : State) → (IsWhole script s → ⊥) → (es : List Event) →
-    IsWayOn script failing s es → IsWayFrom script failing s 0 es
-open_way script failing s left [] way = absurd (left way.whole)
-open_way script failing s left (e ∷ es) way = (way, omega arith)
+open_way : (script : ScriptModel) (kind : ReactorKind) (s : State) → (IsWhole script s → ⊥) → (es : List Event) →
+    IsWayOn script kind s es → IsWayFrom script kind s 0 es
+open_way script kind s left [] way = absurd (left way.whole)
+open_way script kind s left (e ∷ es) way = (way, omega arith)
 
-way_open : (script : ScriptModel) (failing : Bool) (s : State) (n : ℕ) → (IsWhole script s → ⊥) →
-    AreJust (IsWayFrom script failing s 0) n → AreJust (IsWayOn script failing s) n
-way_open script failing s n left just =
-    just_same (IsWayFrom script failing s 0) (IsWayOn script failing s) n (λ es way. way.0)
-    (open_way script failing s left) just
+way_open : (script : ScriptModel) (kind : ReactorKind) (s : State) (n : ℕ) → (IsWhole script s → ⊥) →
+    AreJust (IsWayFrom script kind s 0) n → AreJust (IsWayOn script kind s) n
+way_open script kind s n left just =
+    just_same (IsWayFrom script kind s 0) (IsWayOn script kind s) n (λ es way. way.0)
+    (open_way script kind s left) just
 
-just_orders : (script : ScriptModel) (failing : Bool) (n : ℕ) →
-    AreJust (IsWayOn script failing (first_state script true)) n → HasOrderCount script failing n
-just_orders script failing n just =
-    just_same (IsWayOn script failing (first_state script true)) (IsOrder script failing) n
+just_orders : (script : ScriptModel) (kind : ReactorKind) (n : ℕ) →
+    AreJust (IsWayOn script kind (first_state script kind.told)) n → HasOrderCount script kind n
+just_orders script kind n just =
+    just_same (IsWayOn script kind (first_state script kind.told)) (IsOrder script kind) n
     (λ es way. record { legal = record { legal = way.legal; whole = way.whole }; asked = way.asked })
     (λ es order. record { legal = order.legal.legal; whole = order.legal.whole; asked = order.asked }) just
 
 -- states that are still to be looked at
 
-pub lead_push : (script : ScriptModel) (failing : Bool) (xs : List Reaching) (one : Reaching) →
-    HasJoined script failing one.replay.state one.times xs (xs ++ one ∷ [])
-lead_push script failing [] one n lead = lead
-lead_push script failing (x ∷ xs) one n lead =
-    let more = lead_push script failing xs one lead.rest lead.others in
+pub lead_push : (script : ScriptModel) (kind : ReactorKind) (xs : List Reaching) (one : Reaching) →
+    HasJoined script kind one.replay.state one.times xs (xs ++ one ∷ [])
+lead_push script kind [] one n lead = lead
+lead_push script kind (x ∷ xs) one n lead =
+    let more = lead_push script kind xs one lead.rest lead.others in
     let first = lead.sum in
     let second = more.sum in
     record {
@@ -274,11 +275,11 @@ lead_push script failing (x ∷ xs) one n lead =
       sum = omega (arith, first, second);
     }
 
-pub lead_set : (script : ScriptModel) (failing : Bool) (xs : List Reaching) (i : ℕ) (d : Reaching) (times : ℕ) →
+pub lead_set : (script : ScriptModel) (kind : ReactorKind) (xs : List Reaching) (i : ℕ) (d : Reaching) (times : ℕ) →
     i < length xs →
-    HasJoined script failing (get_or xs i d).replay.state times xs (set xs i (with_more times (get_or xs i d)))
-lead_set script failing [] i d times below n lead = absurd (omega (arith, below))
-lead_set script failing (x ∷ xs) zero d times below n lead =
+    HasJoined script kind (get_or xs i d).replay.state times xs (set xs i (with_more times (get_or xs i d)))
+lead_set script kind [] i d times below n lead = absurd (omega (arith, below))
+lead_set script kind (x ∷ xs) zero d times below n lead =
     let first = lead.sum in
     record {
       ways = lead.ways;
@@ -287,8 +288,8 @@ lead_set script failing (x ∷ xs) zero d times below n lead =
       others = record { ways = lead.ways; rest = lead.rest; just = lead.just; others = lead.others; sum = refl };
       sum = omega (arith, first);
     }
-lead_set script failing (x ∷ xs) (suc i) d times below n lead =
-    let more = lead_set script failing xs i d times (omega (arith, below)) lead.rest lead.others in
+lead_set script kind (x ∷ xs) (suc i) d times below n lead =
+    let more = lead_set script kind xs i d times (omega (arith, below)) lead.rest lead.others in
     let first = lead.sum in
     let second = more.sum in
     record {
@@ -299,112 +300,128 @@ lead_set script failing (x ∷ xs) (suc i) d times below n lead =
       sum = omega (arith, first, second);
     }
 
-pub moved_none : (script : ScriptModel) (failing : Bool) (s : State) (times : ℕ) (reached : List Reaching) (place : ℕ) →
-    NoneAt script failing s place → HasMoved script failing s times reached reached place (place + 1)
-moved_none script failing s times reached place none n held =
+pub moved_none : (script : ScriptModel) (kind : ReactorKind) (s : State) (times : ℕ) (reached : List Reaching)
+    (from upto : ℕ) → from ≤ upto → NoneBetween script kind s from upto →
+    HasMoved script kind s times reached reached from upto
+moved_none script kind s times reached from upto less none n held =
     record {
       ways = held.ways;
       rest = held.rest;
-      just = later_none script failing s place held.ways none held.just;
+      just = later_none script kind s from upto held.ways less none held.just;
       others = held.others;
       sum = held.sum;
     }
 
-pub moved_one : (script : ScriptModel) (failing : Bool) (s : State) (times : ℕ) (old new : List Reaching) (place : ℕ)
-    (e : Event) → IsAsked failing e → MayHappen script true s e → place_of script e ≡ place → IsOnly script failing s e →
-    HasJoined script failing (after_event script true s e) times old new →
-    HasMoved script failing s times old new place (place + 1)
-moved_one script failing s times old new place e asked may at only joined n held =
+pub moved_one : (script : ScriptModel) (kind : ReactorKind) (s : State) (times : ℕ) (old new : List Reaching) (place : ℕ)
+    (e : Event) → IsAsked kind e → MayHappen script kind.told s e → place_of script kind e ≡ place → IsOnly script kind s e →
+    HasJoined script kind (after_event script kind.told s e) times old new →
+    HasMoved script kind s times old new place (place + 1)
+moved_one script kind s times old new place e asked may at only joined n held =
     let more = joined held.rest held.others in
     let first = held.sum in
     let second = more.sum in
     record {
       ways = more.ways + held.ways;
       rest = more.rest;
-      just = later_one script failing s place e more.ways held.ways asked may at only more.just held.just;
+      just = later_one script kind s place e more.ways held.ways asked may at only more.just held.just;
       others = more.others;
       sum = omega (arith, first, second);
     }
 
-pub moved_first : (script : ScriptModel) (failing : Bool) (s : State) (times : ℕ) (reached : List Reaching) →
-    HasMoved script failing s times reached reached 0 0
-moved_first script failing s times reached n held = held
+pub moved_first : (script : ScriptModel) (kind : ReactorKind) (s : State) (times : ℕ) (reached : List Reaching) →
+    HasMoved script kind s times reached reached 0 0
+moved_first script kind s times reached n held = held
 
-pub moved_more : (script : ScriptModel) (failing : Bool) (s : State) (times : ℕ) (old mid new : List Reaching)
-    (place : ℕ) → HasMoved script failing s times old mid 0 place →
-    HasMoved script failing s times mid new place (place + 1) →
-    HasMoved script failing s times old new 0 (place + 1)
-moved_more script failing s times old mid new place first second n held = first n (second n held)
+pub moved_more : (script : ScriptModel) (kind : ReactorKind) (s : State) (times : ℕ) (old mid new : List Reaching)
+    (from place upto : ℕ) → HasMoved script kind s times old mid from place →
+    HasMoved script kind s times mid new place upto → HasMoved script kind s times old new from upto
+moved_more script kind s times old mid new from place upto first second n held = first n (second n held)
 
-held_at_end : (script : ScriptModel) (failing : Bool) (s : State) (times : ℕ) (reached : List Reaching) (place n : ℕ) →
-    AllBelow script failing s place → LeadOn script failing reached n → LeadFrom script failing s place times reached n
-held_at_end script failing s times reached place n all lead =
+held_at_end : (script : ScriptModel) (kind : ReactorKind) (s : State) (times : ℕ) (reached : List Reaching) (place n : ℕ) →
+    AllBelow script kind s place → LeadOn script kind reached n → LeadFrom script kind s place times reached n
+held_at_end script kind s times reached place n all lead =
     record {
       ways = 0;
       rest = n;
-      just = just_none (IsWayFrom script failing s place) (none_behind script failing s place all);
+      just = just_none (IsWayFrom script kind s place) (none_behind script kind s place all);
       others = lead;
       sum = omega arith;
     }
 
-pub passed_whole_state : (script : ScriptModel) (failing : Bool) (s : State) (times : ℕ) (old new : List Reaching)
-    (place counted total : ℕ) → AllBelow script failing s place → IsWhole script s → total ≡ counted + times →
-    HasMoved script failing s times old new 0 place → HasPassed script failing s times old new counted total
-passed_whole_state script failing s times old new place counted total all whole is moved n lead =
-    let held = moved n (held_at_end script failing s times new place n all lead) in
+-- behind the last place stands nothing
+pub moved_to_end : (script : ScriptModel) (kind : ReactorKind) (s : State) (times : ℕ) (old new : List Reaching)
+    (from upto past : ℕ) → AllBelow script kind s upto → AllBelow script kind s past →
+    HasMoved script kind s times old new from past → HasMoved script kind s times old new from upto
+moved_to_end script kind s times old new from upto past all later moved n held =
+    moved n (record {
+      ways = held.ways;
+      rest = held.rest;
+      just =
+          just_same (IsWayFrom script kind s upto) (IsWayFrom script kind s past) held.ways
+          (λ es way. absurd (none_behind script kind s upto all es way))
+          (λ es way. absurd (none_behind script kind s past later es way)) held.just;
+      others = held.others;
+      sum = held.sum;
+    })
+
+pub passed_whole_state : (script : ScriptModel) (kind : ReactorKind) (s : State) (times : ℕ) (old new : List Reaching)
+    (place counted total : ℕ) → AllBelow script kind s place → IsWhole script s → total ≡ counted + times →
+    HasMoved script kind s times old new 0 place → HasPassed script kind s times old new counted total
+passed_whole_state script kind s times old new place counted total all whole is moved n lead =
+    let held = moved n (held_at_end script kind s times new place n all lead) in
     let sum = held.sum in (
       times * (1 + held.ways) + held.rest,
       record {
         ways = 1 + held.ways;
         rest = held.rest;
-        just = way_whole script failing s held.ways whole held.just;
+        just = way_whole script kind s held.ways whole held.just;
         others = held.others;
         sum = refl;
       },
       omega (arith, is, sum),
     )
 
-pub passed_open_state : (script : ScriptModel) (failing : Bool) (s : State) (times : ℕ) (old new : List Reaching)
-    (place counted : ℕ) → AllBelow script failing s place → (IsWhole script s → ⊥) →
-    HasMoved script failing s times old new 0 place → HasPassed script failing s times old new counted counted
-passed_open_state script failing s times old new place counted all left moved n lead =
-    let held = moved n (held_at_end script failing s times new place n all lead) in (
+pub passed_open_state : (script : ScriptModel) (kind : ReactorKind) (s : State) (times : ℕ) (old new : List Reaching)
+    (place counted : ℕ) → AllBelow script kind s place → (IsWhole script s → ⊥) →
+    HasMoved script kind s times old new 0 place → HasPassed script kind s times old new counted counted
+passed_open_state script kind s times old new place counted all left moved n lead =
+    let held = moved n (held_at_end script kind s times new place n all lead) in (
       n,
       record {
         ways = held.ways;
         rest = held.rest;
-        just = way_open script failing s held.ways left held.just;
+        just = way_open script kind s held.ways left held.just;
         others = held.others;
         sum = held.sum;
       },
       refl,
     )
 
-pub leads_on : (script : ScriptModel) (failing : Bool) (queue rest new : List Reaching) (one : Reaching)
-    (counted total : ℕ) → queue ≡ one ∷ rest → Leads script failing queue counted →
-    HasPassed script failing one.replay.state one.times rest new counted total → Leads script failing new total
-leads_on script failing queue rest new one counted total is leads passed n lead =
+pub leads_on : (script : ScriptModel) (kind : ReactorKind) (queue rest new : List Reaching) (one : Reaching)
+    (counted total : ℕ) → queue ≡ one ∷ rest → Leads script kind queue counted →
+    HasPassed script kind one.replay.state one.times rest new counted total → Leads script kind new total
+leads_on script kind queue rest new one counted total is leads passed n lead =
     let here = passed n lead in
-    let found = subst (λ xs. Leads script failing xs counted) is leads here.0 here.1 in
-    subst (HasOrderCount script failing) (sym here.2) found
+    let found = subst (λ xs. Leads script kind xs counted) is leads here.0 here.1 in
+    subst (HasOrderCount script kind) (sym here.2) found
 
-pub leads_nowhere : (script : ScriptModel) (failing : Bool) (queue : List Reaching) (counted : ℕ) → queue ≡ [] →
-    Leads script failing queue counted → HasOrderCount script failing counted
-leads_nowhere script failing queue counted is leads =
+pub leads_nowhere : (script : ScriptModel) (kind : ReactorKind) (queue : List Reaching) (counted : ℕ) → queue ≡ [] →
+    Leads script kind queue counted → HasOrderCount script kind counted
+leads_nowhere script kind queue counted is leads =
     let none : counted + 0 ≡ counted = omega arith in
-    subst (HasOrderCount script failing) none (subst (λ xs. Leads script failing xs counted) is leads 0 refl)
+    subst (HasOrderCount script kind) none (subst (λ xs. Leads script kind xs counted) is leads 0 refl)
 
-pub leads_first : (script : ScriptModel) (failing : Bool) (queue : List Reaching) (one : Reaching) → queue ≡ one ∷ [] →
-    one.times ≡ 1 → one.replay.state ≡ first_state script true → Leads script failing queue 0
-leads_first script failing queue one is once first =
-    subst (λ xs. Leads script failing xs 0) (sym is) alone
+pub leads_first : (script : ScriptModel) (kind : ReactorKind) (queue : List Reaching) (one : Reaching) → queue ≡ one ∷ [] →
+    one.times ≡ 1 → one.replay.state ≡ first_state script kind.told → Leads script kind queue 0
+leads_first script kind queue one is once first =
+    subst (λ xs. Leads script kind xs 0) (sym is) alone
   where
-    alone : Leads script failing (one ∷ []) 0
+    alone : Leads script kind (one ∷ []) 0
     alone n lead =
         let none : lead.rest ≡ 0 = lead.others in
         let sum = lead.sum in
         let product : one.times * lead.ways ≡ 1 * lead.ways = ap (λ t. t * lead.ways) once in
         let same : lead.ways ≡ 0 + n = omega (arith, none, sum, product) in
-        just_orders script failing (0 + n)
-        (subst (AreJust (IsWayOn script failing (first_state script true))) same
-        (subst (λ s. AreJust (IsWayOn script failing s) lead.ways) first lead.just))
+        just_orders script kind (0 + n)
+        (subst (AreJust (IsWayOn script kind (first_state script kind.told))) same
+        (subst (λ s. AreJust (IsWayOn script kind s) lead.ways) first lead.just))

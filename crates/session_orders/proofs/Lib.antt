@@ -1,7 +1,10 @@
+pub mod BoundLemmas
 pub mod ComeLemmas
 pub mod CountLemmas
 pub mod CountingLemmas
+pub mod OwnLemmas
 pub mod PassedLemmas
 pub mod PlaceLemmas
 pub mod SameLemmas
 pub mod SizeLemmas
+pub mod SkipLemmas

@@ -23,7 +23,8 @@ use Rattle.history_rules.specs.declared.phase.Step.{Step}
 use Rattle.history_rules.specs.declared.phase.Step.TheVariants as step
 use Rattle.session_script.specs.Lanes.{is_inline, lane_of}
 use Rattle.session_script.specs.Script.{Place, ScriptModel, is_stop, parent_of}
-use Rattle.session_orders.specs.Same.{AreFree, MayPair, bare, free_after, is_quiet}
+use Rattle.session_orders.specs.declared.bounds.ReactorKind.{ReactorKind}
+use Rattle.session_orders.specs.Same.{AreFree, AreSameDone, MayPair, bare, free_after, is_quiet}
 use Rattle.history_book.specs.Replay.{Replayed}
 use Rattle.session_orders.specs.Walk.{HasCome}
 use Rattle.session_orders.proofs.ComeLemmas.{state_suc}
@@ -179,23 +180,23 @@ context-quiet script s free event.Polled lanes quiet = wrong_bool quiet
 context-quiet script s free event.Restart lanes quiet = wrong_bool quiet
 context-quiet script s free (event.Dropped o mark) lanes quiet = wrong_bool quiet
 
-reactor-quiet : (script : ScriptModel) (r : ReactorHalf) (free : Bool) (event : Event) → is_quiet script free event ≡ true →
-    reactor_after script true r event ≡ r
-reactor-quiet script r free (event.Call a) quiet = refl
-reactor-quiet script r free (event.Back a) quiet = refl
-reactor-quiet script r free (event.Begin o code size) quiet = refl
-reactor-quiet script r free (event.End o mark) quiet = refl
-reactor-quiet script r free (event.Stop act) quiet = refl
-reactor-quiet script r free (event.Take a) quiet = wrong_bool quiet
-reactor-quiet script r free (event.Done o code size) quiet = wrong_bool quiet
-reactor-quiet script r free (event.Tick now) quiet = wrong_bool quiet
-reactor-quiet script r free event.Last quiet = wrong_bool quiet
-reactor-quiet script r free event.Fault quiet = wrong_bool quiet
-reactor-quiet script r free event.Ended quiet = refl
-reactor-quiet script r free event.Stopped quiet = refl
-reactor-quiet script r free event.Polled quiet = refl
-reactor-quiet script r free event.Restart quiet = refl
-reactor-quiet script r free (event.Dropped o mark) quiet = refl
+reactor-quiet : (script : ScriptModel) (told : Bool) (r : ReactorHalf) (free : Bool) (event : Event) → is_quiet script free event ≡ true →
+    reactor_after script told r event ≡ r
+reactor-quiet script told r free (event.Call a) quiet = refl
+reactor-quiet script told r free (event.Back a) quiet = refl
+reactor-quiet script told r free (event.Begin o code size) quiet = refl
+reactor-quiet script told r free (event.End o mark) quiet = refl
+reactor-quiet script told r free (event.Stop act) quiet = refl
+reactor-quiet script told r free (event.Take a) quiet = wrong_bool quiet
+reactor-quiet script told r free (event.Done o code size) quiet = wrong_bool quiet
+reactor-quiet script told r free (event.Tick now) quiet = wrong_bool quiet
+reactor-quiet script told r free event.Last quiet = wrong_bool quiet
+reactor-quiet script told r free event.Fault quiet = wrong_bool quiet
+reactor-quiet script told r free event.Ended quiet = refl
+reactor-quiet script told r free event.Stopped quiet = refl
+reactor-quiet script told r free event.Polled quiet = refl
+reactor-quiet script told r free event.Restart quiet = refl
+reactor-quiet script told r free (event.Dropped o mark) quiet = refl
 
 -- the lanes that are known to be free are
 
@@ -305,32 +306,82 @@ both_halves s t context reactor =
     let g : ReactorHalf → State = λ r. record { context = bared t.context; reactor = r } in
     ap f context ∙ ap g reactor
 
-pub alike_after : (script : ScriptModel) (free : Bool) (s t : State) (first second : Event) → AreAlike free s t →
+-- the same operation completes in both
+
+done_alike : (script : ScriptModel) (told free : Bool) (s t : State) (first second : Event) → AreAlike free s t →
+    AreSameDone first second →
+    AreAlike (free_after script free first) (after_event script told s first) (after_event script told t second)
+done_alike script told free s t (event.Done o code size) (event.Done p given moved) alike same =
+    let Q : ℕ → Type 0 =
+    λ n. AreAlike free (after_event script told s (event.Done o code size))
+    (after_event script told t (event.Done n given moved)) in
+    let here : Q o =
+    record {
+      same =
+          both_halves (after_event script told s (event.Done o code size))
+          (after_event script told t (event.Done o given moved)) (ap (λ x. counted x.context) alike.same)
+          (ap (λ x. reactor_after script told x.reactor (event.Done o code size)) alike.same);
+      first_free = alike.first_free;
+      second_free = alike.second_free;
+    } in
+    subst Q same here
+done_alike script told free s t (event.Call a) second alike same = absurd same
+done_alike script told free s t (event.Back a) second alike same = absurd same
+done_alike script told free s t (event.Stop act) second alike same = absurd same
+done_alike script told free s t (event.Begin o code size) second alike same = absurd same
+done_alike script told free s t (event.End o mark) second alike same = absurd same
+done_alike script told free s t (event.Take a) second alike same = absurd same
+done_alike script told free s t (event.Tick now) second alike same = absurd same
+done_alike script told free s t event.Last second alike same = absurd same
+done_alike script told free s t event.Fault second alike same = absurd same
+done_alike script told free s t event.Ended second alike same = absurd same
+done_alike script told free s t event.Stopped second alike same = absurd same
+done_alike script told free s t event.Polled second alike same = absurd same
+done_alike script told free s t event.Restart second alike same = absurd same
+done_alike script told free s t (event.Dropped o mark) second alike same = absurd same
+done_alike script told free s t (event.Done o code size) (event.Call a) alike same = absurd same
+done_alike script told free s t (event.Done o code size) (event.Back a) alike same = absurd same
+done_alike script told free s t (event.Done o code size) (event.Stop act) alike same = absurd same
+done_alike script told free s t (event.Done o code size) (event.Begin p given moved) alike same = absurd same
+done_alike script told free s t (event.Done o code size) (event.End p mark) alike same = absurd same
+done_alike script told free s t (event.Done o code size) (event.Take a) alike same = absurd same
+done_alike script told free s t (event.Done o code size) (event.Tick now) alike same = absurd same
+done_alike script told free s t (event.Done o code size) event.Last alike same = absurd same
+done_alike script told free s t (event.Done o code size) event.Fault alike same = absurd same
+done_alike script told free s t (event.Done o code size) event.Ended alike same = absurd same
+done_alike script told free s t (event.Done o code size) event.Stopped alike same = absurd same
+done_alike script told free s t (event.Done o code size) event.Polled alike same = absurd same
+done_alike script told free s t (event.Done o code size) event.Restart alike same = absurd same
+done_alike script told free s t (event.Done o code size) (event.Dropped p mark) alike same = absurd same
+
+pub alike_after : (script : ScriptModel) (told free : Bool) (s t : State) (first second : Event) → AreAlike free s t →
     MayPair script free first second →
-    AreAlike (free_after script free first) (after_event script true s first) (after_event script true t second)
-alike_after script free s t first second alike (inl one) =
+    AreAlike (free_after script free first) (after_event script told s first) (after_event script told t second)
+alike_after script told free s t first second alike (inl one) =
     let Q : Event → Type 0 =
-    λ e. AreAlike (free_after script free first) (after_event script true s first) (after_event script true t e) in
+    λ e. AreAlike (free_after script free first) (after_event script told s first) (after_event script told t e) in
     subst Q one
     (record {
       same =
-          both_halves (after_event script true s first) (after_event script true t first)
+          both_halves (after_event script told s first) (after_event script told t first)
           (context-bared script s.context first
           ∙ ap (λ x. bared (context_after script x.context first)) alike.same
           ∙ sym (context-bared script t.context first))
-          (ap (λ x. reactor_after script true x.reactor first) alike.same);
+          (ap (λ x. reactor_after script told x.reactor first) alike.same);
       first_free = context-free script s.context free first alike.first_free;
       second_free = context-free script t.context free first alike.second_free;
     })
-alike_after script free s t first second alike (inr both) =
+alike_after script told free s t first second alike (inr (inl done)) =
+    done_alike script told free s t first second alike done
+alike_after script told free s t first second alike (inr (inr both)) =
     record {
       same =
-          both_halves (after_event script true s first) (after_event script true t second)
+          both_halves (after_event script told s first) (after_event script told t second)
           (context-quiet script s.context free first alike.first_free both.0
           ∙ ap (λ x. counted x.context) alike.same
           ∙ sym (context-quiet script t.context free second alike.second_free both.1))
-          (reactor-quiet script s.reactor free first both.0 ∙ ap (λ x. x.reactor) alike.same
-          ∙ sym (reactor-quiet script t.reactor free second both.1));
+          (reactor-quiet script told s.reactor free first both.0 ∙ ap (λ x. x.reactor) alike.same
+          ∙ sym (reactor-quiet script told t.reactor free second both.1));
       first_free = context-free script s.context free first alike.first_free;
       second_free =
           λ is. context-free script t.context free second alike.second_free
@@ -339,9 +390,9 @@ alike_after script free s t first second alike (inr both) =
 
 -- along two lists of events
 
-pub alike_first : (script : ScriptModel) → AreAlike true (first_state script true) (first_state script true)
-alike_first script =
-    let free : AreFree (first_state script true).context.allowances = record {
+pub alike_first : (script : ScriptModel) (told : Bool) → AreAlike true (first_state script told) (first_state script told)
+alike_first script told =
+    let free : AreFree (first_state script told).context.allowances = record {
       strands =
           λ k d below.
           let within : k < script.strands = omega (arith, below, length-replicate script.strands allowance.Free) in
@@ -350,36 +401,36 @@ alike_first script =
       reactor = refl;
     } in record { same = refl; first_free = λ _. free; second_free = λ _. free }
 
-pub alike_more : (script : ScriptModel) (free : Bool) (first second : List Event) (i : ℕ) (d e : Event) →
+pub alike_more : (script : ScriptModel) (told : Bool) (free : Bool) (first second : List Event) (i : ℕ) (d e : Event) →
     i < length first → i < length second →
-    AreAlike free (state_of script true (take i first)) (state_of script true (take i second)) →
+    AreAlike free (state_of script told (take i first)) (state_of script told (take i second)) →
     MayPair script free (get_or first i d) (get_or second i e) →
-    AreAlike (free_after script free (get_or first i d)) (state_of script true (take (i + 1) first))
-    (state_of script true (take (i + 1) second))
-alike_more script free first second i d e within other_within alike pair =
+    AreAlike (free_after script free (get_or first i d)) (state_of script told (take (i + 1) first))
+    (state_of script told (take (i + 1) second))
+alike_more script told free first second i d e within other_within alike pair =
     let more : suc i ≡ i + 1 = omega arith in
     let f = free_after script free (get_or first i d) in
     let next =
-    alike_after script free (state_of script true (take i first)) (state_of script true (take i second))
+    alike_after script told free (state_of script told (take i first)) (state_of script told (take i second))
     (get_or first i d) (get_or second i e) alike pair in
-    let one : state_of script true (take (i + 1) first) ≡ after_event script true
-    (state_of script true (take i first)) (get_or first i d) =
-    ap (λ n. state_of script true (take n first)) (sym more) ∙ state_suc script (first_state script true) first i d within in
-    let other : state_of script true (take (i + 1) second) ≡ after_event script true
-    (state_of script true (take i second)) (get_or second i e) =
-    ap (λ n. state_of script true (take n second)) (sym more)
-    ∙ state_suc script (first_state script true) second i e other_within in
-    subst (λ s. AreAlike f s (state_of script true (take (i + 1) second))) (sym one)
-    (subst (λ t. AreAlike f (after_event script true (state_of script true (take i first)) (get_or first i d))
+    let one : state_of script told (take (i + 1) first) ≡ after_event script told
+    (state_of script told (take i first)) (get_or first i d) =
+    ap (λ n. state_of script told (take n first)) (sym more) ∙ state_suc script told (first_state script told) first i d within in
+    let other : state_of script told (take (i + 1) second) ≡ after_event script told
+    (state_of script told (take i second)) (get_or second i e) =
+    ap (λ n. state_of script told (take n second)) (sym more)
+    ∙ state_suc script told (first_state script told) second i e other_within in
+    subst (λ s. AreAlike f s (state_of script told (take (i + 1) second))) (sym one)
+    (subst (λ t. AreAlike f (after_event script told (state_of script told (take i first)) (get_or first i d))
     t) (sym other) next)
 
-pub alike_whole : (script : ScriptModel) (free : Bool) (first second : List Event) (i : ℕ) → length first ≤ i →
+pub alike_whole : (script : ScriptModel) (told : Bool) (free : Bool) (first second : List Event) (i : ℕ) → length first ≤ i →
     length second ≡ length first →
-    AreAlike free (state_of script true (take i first)) (state_of script true (take i second)) →
-    bare (state_of script true first) ≡ bare (state_of script true second)
-alike_whole script free first second i past same alike =
-    ap (λ es. bare (state_of script true es)) (sym (take_all i first past)) ∙ alike.same
-    ∙ ap (λ es. bare (state_of script true es)) (take_all i second (omega (arith, past, same)))
+    AreAlike free (state_of script told (take i first)) (state_of script told (take i second)) →
+    bare (state_of script told first) ≡ bare (state_of script told second)
+alike_whole script told free first second i past same alike =
+    ap (λ es. bare (state_of script told es)) (sym (take_all i first past)) ∙ alike.same
+    ∙ ap (λ es. bare (state_of script told es)) (take_all i second (omega (arith, past, same)))
 
 -- states that are the same but for the acts, and have the same acts, are the same
 pub same_state : (s t : State) (n : ℕ) → bare s ≡ bare t → length s.context.acts ≡ n → length t.context.acts ≡ n →
@@ -396,16 +447,16 @@ same_state s t n same long other_long acts =
     let g : List ActState → State = λ xs. record t { context = record t.context { acts = xs } } in
     ap f same ∙ ap g lists
 
-pub same_come : (script : ScriptModel) (failing : Bool) (first second : Replayed) (path other : List Event) →
-    HasCome script failing first path → HasCome script failing second other →
-    bare (state_of script true path) ≡ bare (state_of script true other) →
+pub same_come : (script : ScriptModel) (kind : ReactorKind) (first second : Replayed) (path other : List Event) →
+    HasCome script kind first path → HasCome script kind second other →
+    bare (state_of script kind.told path) ≡ bare (state_of script kind.told other) →
     ((n : ℕ) → n < length first.script.acts → act_at first.state.context n ≡ act_at second.state.context n) →
     first.state ≡ second.state
-same_come script failing first second path other come other_come same acts =
+same_come script kind first second path other come other_come same acts =
     let long : length first.state.context.acts ≡ length script.acts =
-    ap (λ s. length s.context.acts) come.state ∙ size_of script path in
+    ap (λ s. length s.context.acts) come.state ∙ size_of script kind.told path in
     let other_long : length second.state.context.acts ≡ length script.acts =
-    ap (λ s. length s.context.acts) other_come.state ∙ size_of script other in
+    ap (λ s. length s.context.acts) other_come.state ∙ size_of script kind.told other in
     let of_script : length first.script.acts ≡ length script.acts = ap (λ s. length s.acts) come.same_script in
     same_state first.state second.state (length script.acts)
     (ap bare come.state ∙ same ∙ sym (ap bare other_come.state)) long other_long

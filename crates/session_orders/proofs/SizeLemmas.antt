@@ -56,17 +56,17 @@ context-size script s event.Polled = refl
 context-size script s event.Restart = refl
 context-size script s (event.Dropped o mark) = length-set s.acts o _
 
-size_from : (script : ScriptModel) (s : State) (events : List Event) →
-    length (state_from script true s events).context.acts ≡ length s.context.acts
-size_from script s [] = refl
-size_from script s (event ∷ events) =
-    size_from script (after_event script true s event) events ∙ context-size script s.context event
+size_from : (script : ScriptModel) (told : Bool) (s : State) (events : List Event) →
+    length (state_from script told s events).context.acts ≡ length s.context.acts
+size_from script told s [] = refl
+size_from script told s (event ∷ events) =
+    size_from script told (after_event script told s event) events ∙ context-size script s.context event
 
 -- a state has the acts of its script
-pub size_of : (script : ScriptModel) (events : List Event) →
-    length (state_of script true events).context.acts ≡ length script.acts
-size_of script events =
-    size_from script (first_state script true) events ∙ length-replicate (length script.acts) fresh
+pub size_of : (script : ScriptModel) (told : Bool) (events : List Event) →
+    length (state_of script told events).context.acts ≡ length script.acts
+size_of script told events =
+    size_from script told (first_state script told) events ∙ length-replicate (length script.acts) fresh
 
 -- the numbers of the acts of a place are below their end
 pub numbers_below : (place : Place) (n : ℕ) (entries : List Entry) (k a : ℕ) →

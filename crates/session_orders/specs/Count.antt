@@ -1,5 +1,5 @@
 -- How many legal whole histories a script has, and how many ways lead on from a state.
-use Rattle.std.specs.Prelude.{◌≡◌, ◌≤◌, ◌⊎◌, ℕ, ◌+◌, ◌*◌, Bool, true, List, [], ◌∷◌, All, length}
+use Rattle.std.specs.Prelude.{◌≡◌, ◌≤◌, ◌⊎◌, ℕ, ◌+◌, ◌*◌, List, [], ◌∷◌, All, length}
 use Rattle.asio_types.specs.declared.event.Event.{Event}
 use Rattle.history_book.specs.Replay.{Replayed}
 use Rattle.history_rules.specs.Legal.{IsLegalFrom, IsWhole, state_from}
@@ -8,6 +8,7 @@ use Rattle.session_script.specs.Script.{ScriptModel}
 use Rattle.session_orders.specs.Order.{AreAsked, IsOrder}
 use Rattle.session_orders.specs.Place.{place_of}
 use Rattle.session_orders.specs.Walk.{HasCome}
+use Rattle.session_orders.specs.declared.bounds.ReactorKind.{ReactorKind}
 
 -- these events stand in the list
 abbrev pub Has : List (List Event) → List Event → Type 0
@@ -28,24 +29,24 @@ pub record AreJust (P : List Event → Type 0) (n : ℕ) : Type 0 where
   pub count : length lists ≡ n
 
 -- a script has just so many legal whole histories
-abbrev pub HasOrderCount : ScriptModel → Bool → ℕ → Type 0
-HasOrderCount script failing n = AreJust (IsOrder script failing) n
+abbrev pub HasOrderCount : ScriptModel → ReactorKind → ℕ → Type 0
+HasOrderCount script kind n = AreJust (IsOrder script kind) n
 
 -- a legal way on from a state, to a whole history
-pub record IsWayOn (script : ScriptModel) (failing : Bool) (s : State) (events : List Event)
+pub record IsWayOn (script : ScriptModel) (kind : ReactorKind) (s : State) (events : List Event)
     : Type 0 where
-  pub legal : IsLegalFrom script true s events
-  pub whole : IsWhole script (state_from script true s events)
-  pub asked : AreAsked failing events
+  pub legal : IsLegalFrom script kind.told s events
+  pub whole : IsWhole script (state_from script kind.told s events)
+  pub asked : AreAsked kind events
 
 -- some event stands first, at this place or behind it
-abbrev pub StandsFrom : ScriptModel → ℕ → List Event → Type 0
-StandsFrom script place [] = ⊥
-StandsFrom script place (event ∷ events) = place ≤ place_of script event
+abbrev pub StandsFrom : ScriptModel → ReactorKind → ℕ → List Event → Type 0
+StandsFrom script kind place [] = ⊥
+StandsFrom script kind place (event ∷ events) = place ≤ place_of script kind event
 
-abbrev pub IsWayFrom : ScriptModel → Bool → State → ℕ → List Event → Type 0
-IsWayFrom script failing s place events =
-    IsWayOn script failing s events × StandsFrom script place events
+abbrev pub IsWayFrom : ScriptModel → ReactorKind → State → ℕ → List Event → Type 0
+IsWayFrom script kind s place events =
+    IsWayOn script kind s events × StandsFrom script kind place events
 
 -- a state that is still to be looked at: a beginning that comes to it, its replay, and how many
 -- beginnings do
@@ -58,8 +59,8 @@ pub record Reaching : Type 0 where
 abbrev pub with_more : ℕ → Reaching → Reaching
 with_more times one = record one { times = one.times + times }
 
-abbrev pub HaveCome : ScriptModel → Bool → List Reaching → Type 0
-HaveCome script failing reached = All (λ one. HasCome script failing one.replay one.path) reached
+abbrev pub HaveCome : ScriptModel → ReactorKind → List Reaching → Type 0
+HaveCome script kind reached = All (λ one. HasCome script kind one.replay one.path) reached
 
 -- so many lists lead on: each of those that are such, so many times, and the rest
 pub record LeadsTo (P : List Event → Type 0) (times : ℕ) (Rest : ℕ → Type 0) (n : ℕ) : Type 0 where
@@ -70,37 +71,37 @@ pub record LeadsTo (P : List Event → Type 0) (times : ℕ) (Rest : ℕ → Typ
   pub sum : n ≡ times * ways + rest
 
 -- so many legal whole histories lead through these states
-abbrev pub LeadOn : ScriptModel → Bool → List Reaching → ℕ → Type 0
-LeadOn script failing [] n = n ≡ 0
-LeadOn script failing (one ∷ others) n =
-    LeadsTo (IsWayOn script failing one.replay.state) one.times (LeadOn script failing others) n
+abbrev pub LeadOn : ScriptModel → ReactorKind → List Reaching → ℕ → Type 0
+LeadOn script kind [] n = n ≡ 0
+LeadOn script kind (one ∷ others) n =
+    LeadsTo (IsWayOn script kind one.replay.state) one.times (LeadOn script kind others) n
 
 -- so many lead through a state, which so many beginnings come to, by an event at this place or
 -- behind it, or through the others
-abbrev pub LeadFrom : ScriptModel → Bool → State → ℕ → ℕ → List Reaching → ℕ → Type 0
-LeadFrom script failing s place times reached n =
-    LeadsTo (IsWayFrom script failing s place) times (LeadOn script failing reached) n
+abbrev pub LeadFrom : ScriptModel → ReactorKind → State → ℕ → ℕ → List Reaching → ℕ → Type 0
+LeadFrom script kind s place times reached n =
+    LeadsTo (IsWayFrom script kind s place) times (LeadOn script kind reached) n
 
 -- what leads through the new states led through this one from the first place on to the other, or
 -- through the old ones
-abbrev pub HasMoved : ScriptModel → Bool → State → ℕ → List Reaching → List Reaching → ℕ → ℕ → Type 0
-HasMoved script failing s times old new from upto =
-    (n : ℕ) → LeadFrom script failing s upto times new n → LeadFrom script failing s from times old n
+abbrev pub HasMoved : ScriptModel → ReactorKind → State → ℕ → List Reaching → List Reaching → ℕ → ℕ → Type 0
+HasMoved script kind s times old new from upto =
+    (n : ℕ) → LeadFrom script kind s upto times new n → LeadFrom script kind s from times old n
 
 -- what leads through the new states leads through this one, so many times, or through the old ones
-abbrev pub HasJoined : ScriptModel → Bool → State → ℕ → List Reaching → List Reaching → Type 0
-HasJoined script failing s times old new =
-    (n : ℕ) → LeadOn script failing new n →
-    LeadsTo (IsWayOn script failing s) times (LeadOn script failing old) n
+abbrev pub HasJoined : ScriptModel → ReactorKind → State → ℕ → List Reaching → List Reaching → Type 0
+HasJoined script kind s times old new =
+    (n : ℕ) → LeadOn script kind new n →
+    LeadsTo (IsWayOn script kind s) times (LeadOn script kind old) n
 
 -- the same, where what is whole in this state was counted
-abbrev pub HasPassed : ScriptModel → Bool → State → ℕ → List Reaching → List Reaching → ℕ → ℕ → Type 0
-HasPassed script failing s times old new counted total =
-    (n : ℕ) → LeadOn script failing new n →
-    (m : ℕ) × LeadsTo (IsWayOn script failing s) times (LeadOn script failing old) m
+abbrev pub HasPassed : ScriptModel → ReactorKind → State → ℕ → List Reaching → List Reaching → ℕ → ℕ → Type 0
+HasPassed script kind s times old new counted total =
+    (n : ℕ) → LeadOn script kind new n →
+    (m : ℕ) × LeadsTo (IsWayOn script kind s) times (LeadOn script kind old) m
     × (total + n ≡ counted + m)
 
 -- all legal whole histories are those that are counted and those that lead through these states
-abbrev pub Leads : ScriptModel → Bool → List Reaching → ℕ → Type 0
-Leads script failing reached counted =
-    (n : ℕ) → LeadOn script failing reached n → HasOrderCount script failing (counted + n)
+abbrev pub Leads : ScriptModel → ReactorKind → List Reaching → ℕ → Type 0
+Leads script kind reached counted =
+    (n : ℕ) → LeadOn script kind reached n → HasOrderCount script kind (counted + n)

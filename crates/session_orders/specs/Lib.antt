@@ -1,3 +1,4 @@
+pub mod Bound
 pub mod Count
 pub mod Listed
 pub mod Order

@@ -32,10 +32,17 @@ pub record AreFree (allowances : Allowances) : Type 0 where
   pub own : allowances.own ≡ allowance.Free
   pub reactor : allowances.reactor ≡ allowance.Free
 
--- one event further in two beginnings that stay alike: the same event, or two quiet ones
+-- the same operation completes, with whatever code and size
+abbrev pub AreSameDone : Event → Event → Type 0
+AreSameDone (event.Done op code size) (event.Done other given moved) = op ≡ other
+AreSameDone _ _ = ⊥
+
+-- one event further in two beginnings that stay alike: the same event, two quiet ones, or the same
+-- operation completes
 abbrev pub MayPair : ScriptModel → Bool → Event → Event → Type 0
 MayPair script free first second =
-    (first ≡ second) ⊎ ((is_quiet script free first ≡ true) × (is_quiet script free second ≡ true))
+    (first ≡ second) ⊎ AreSameDone first second
+    ⊎ ((is_quiet script free first ≡ true) × (is_quiet script free second ≡ true))
 
 -- the state but for its acts
 abbrev pub bare : State → State

@@ -1,24 +1,38 @@
+/// What is known of the reactor (Asio reference, io_context::run; that streams may tell no bytes is
+/// this project's own).
+#[derive(Clone, Copy, Debug, PartialEq, Eq)]
+pub struct ReactorKind {
+    /// Whether it tells its bytes: then an operation of a stream completes just as the script's
+    /// world gives it. If not, with any code and size that its kind can have.
+    pub told: bool,
+    /// Whether it may fail.
+    pub failing: bool,
+}
+
+/// How many beginnings are looked at where nobody says it: days of work.
+pub const MOST_BEGINNINGS: u32 = 1_000_000_000;
+
 /// How far the histories of a script are looked at.
 #[derive(Clone, Copy, Debug, PartialEq, Eq)]
 pub struct Bounds {
-    /// Whether the reactor may fail.
-    pub failing: bool,
+    /// The reactor.
+    pub reactor: ReactorKind,
     /// How many histories are listed at most.
     pub histories: usize,
-    /// How many events a history may have that is looked at.
-    pub events: u32,
-    /// How many steps are made at most: each tries one event behind one beginning.
-    pub steps: u64,
+    /// How many beginnings of histories are looked at at most.
+    pub beginnings: u32,
 }
 
 impl Bounds {
-    /// 10,000 histories, of a reactor that doesn't fail.
+    /// 10,000 histories, of a reactor that tells its bytes and doesn't fail.
     pub fn usual() -> Bounds {
         Bounds {
-            failing: false,
+            reactor: ReactorKind {
+                told: true,
+                failing: false,
+            },
             histories: 10_000,
-            events: 100_000,
-            steps: 1_000_000_000,
+            beginnings: MOST_BEGINNINGS,
         }
     }
 }

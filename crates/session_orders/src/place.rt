@@ -3,13 +3,15 @@ ghost use Rattle.history_rules.specs.Time.{next_time};
 ghost use Rattle.session_orders.specs.Order.{mark_of};
 ghost use Rattle.session_orders.specs.Place.{act_event, begin_in, done_in, event_at, other_event, place_of, places_of, tick_in};
 
+use crate::bounds::ReactorKind;
+use crate::own::{CODES, SIZES, base, done_place, has_own, own_event_at};
 use asio_types::{ActNo, Code, Event, OpNo, Point};
 use history_book::Replay;
 use history_rules::ActPhase;
 use session_script::Script;
 
 /// How many events an act may have next, and how many may come that belong to no act.
-const COLUMNS: u64 = 8;
+pub(crate) const COLUMNS: u64 = 8;
 
 /// What a handler returns, whether it ran or is destroyed.
 fn mark(op: OpNo) -> u64
@@ -19,10 +21,16 @@ fn mark(op: OpNo) -> u64
 }
 
 /// How many places there are.
-pub(crate) fn place_count(script: &Script) -> u64
-    ensures { result ≡ places_of script.now }
+pub(crate) fn place_count(script: &Script, kind: ReactorKind) -> u64
+    ensures count { result ≡ places_of script.now kind }
+    ensures small { result < 2 ^ 36 }
 {
-    COLUMNS * (script.acts() as u64 + 1)
+    let base = base(script);
+    if kind.told {
+        base
+    } else {
+        base + CODES * script.acts() as u64 * SIZES
+    }
 }
 
 /// How a handler may begin.
@@ -62,11 +70,15 @@ fn act_event_at(replay: &Replay, act: ActNo, column: u64) -> Option<Event>
     }
 }
 
-/// How what is due next is told.
-fn done_next(replay: &Replay) -> Option<Event>
-    ensures { result ≡ done_in (slice_get replay.now.state.reactor.due 0) }
+/// How what is due next is told, unless that has a place of its own.
+fn done_next(replay: &Replay, kind: ReactorKind) -> Option<Event>
+    ensures { result
+        ≡ done_in replay.now.script kind (slice_get replay.now.state.reactor.due 0) }
 {
     let next = replay.next_due()?;
+    if has_own(replay.script(), kind, next.op, next.outcome.1) {
+        return None;
+    }
     Some(Event::Done {
         op: next.op,
         code: next.outcome.0,
@@ -85,14 +97,18 @@ fn tick_next(replay: &Replay) -> Option<Event>
 }
 
 /// The event of no act in a column.
-fn other_event_at(replay: &Replay, failing: bool, column: u64) -> Option<Event>
-    ensures { result ≡ other_event replay.now.script failing replay.now.state.reactor column }
+fn other_event_at(replay: &Replay, kind: ReactorKind, column: u64) -> Option<Event>
+    ensures { result ≡ other_event replay.now.script kind replay.now.state.reactor column }
 {
     match column {
-        0 => done_next(replay),
+        0 => done_next(replay, kind),
         1 => tick_next(replay),
         2 => Some(Event::Last),
-        3 => if failing { Some(Event::Fault) } else { None },
+        3 => if kind.failing {
+            Some(Event::Fault)
+        } else {
+            None
+        },
         4 => Some(Event::Ended),
         5 => Some(Event::Stopped),
         6 => Some(Event::Polled),
@@ -101,22 +117,27 @@ fn other_event_at(replay: &Replay, failing: bool, column: u64) -> Option<Event>
 }
 
 /// The event that may come next at this place, if any may.
-pub(crate) fn event_next(replay: &Replay, failing: bool, place: u64) -> Option<Event>
-    ensures { result ≡ event_at replay.now.script failing replay.now.state place }
+pub(crate) fn event_next(replay: &Replay, kind: ReactorKind, place: u64) -> Option<Event>
+    requires { place < 2 ^ 36 }
+    ensures { result ≡ event_at replay.now.script kind replay.now.state place }
 {
     let row = place / COLUMNS;
-    let column = place % COLUMNS;
-    if row < replay.script().acts() as u64 {
-        act_event_at(replay, row as u32, column)
+    let script = replay.script();
+    if row < script.acts() as u64 {
+        return act_event_at(replay, row as u32, place % COLUMNS);
+    }
+    let base = base(script);
+    if place < base {
+        other_event_at(replay, kind, place % COLUMNS)
     } else {
-        other_event_at(replay, failing, column)
+        own_event_at(script, place - base)
     }
 }
 
 /// The place of an event.
-pub(crate) fn place(script: &Script, event: Event) -> u64
-    ensures place { result ≡ place_of script.now event }
-    ensures small { result < 2 ^ 36 }
+pub(crate) fn place(script: &Script, kind: ReactorKind, event: Event) -> u64
+    ensures place { result ≡ place_of script.now kind event }
+    ensures small { result < 2 ^ 50 }
 {
     let others = COLUMNS * script.acts() as u64;
     match event {
@@ -127,7 +148,7 @@ pub(crate) fn place(script: &Script, event: Event) -> u64
         Event::End { op, .. } => COLUMNS * op as u64 + 4,
         Event::Take { act } => COLUMNS * act as u64 + 5,
         Event::Dropped { op, .. } => COLUMNS * op as u64 + 6,
-        Event::Done { .. } => others,
+        Event::Done { op, code, size } => done_place(script, kind, op, code, size),
         Event::Tick { .. } => others + 1,
         Event::Last => others + 2,
         Event::Fault => others + 3,

@@ -3,6 +3,7 @@ ghost use Rattle.std.specs.List.{slice_index_or, slice_set};
 ghost use Rattle.session_orders.specs.Count.{HasJoined, HaveCome, Reaching as Reaching_of, with_more};
 ghost use Rattle.session_orders.specs.Walk.{HasCome};
 
+use crate::bounds::ReactorKind;
 use crate::same::is_same;
 use crate::walk::{Walk, replay_of};
 use asio_types::{Event, NoMemory};
@@ -68,17 +69,22 @@ impl<'a> Reaching<'a> {
 impl<'a> Walk<'a> {
     /// What an event that was taken leads to, and the walk as it was before.
     pub(crate) fn split(&mut self, event: Event, times: u64) -> Result<Reaching<'a>, NoMemory>
-        requires { HasCome self.old.script.now self.old.failing self.old.replay
+        requires { HasCome self.old.script.now self.old.kind self.old.replay
             (self.old.path.items ++ event ∷ []) }
         ensures come { IfOk result
-            (λ one. HasCome self.old.script.now self.old.failing one.replay one.path) }
+            (λ one. HasCome self.old.script.now self.old.kind one.replay one.path) }
         ensures path { IfOk result (λ one. one.path ≡ self.old.path.items ++ event ∷ []) }
         ensures times { IfOk result (λ one. one.times ≡ times) }
-        ensures back { OnOk result (HasCome self.old.script.now self.old.failing self.new.replay
+        ensures back { OnOk result (HasCome self.old.script.now self.old.kind self.new.replay
             self.old.path.items) }
         ensures others { OnOk result (self.new ≡ record self.old { replay = self.new.replay }) }
     {
-        let again = replay_of(self.alloc, self.script, self.path.as_slice())?;
+        let again = replay_of(
+            self.alloc,
+            self.script,
+            self.kind.told,
+            self.path.as_slice(),
+        )?;
         let mut path = Vec::from_slice(self.alloc, self.path.as_slice())?;
         path.push(event)?;
         let replay = replace(&mut self.replay, again);
@@ -93,18 +99,18 @@ impl<'a> Walk<'a> {
 /// One of these states that is sure to be this one.
 fn find(
     script: &Script,
-    failing: bool,
+    kind: ReactorKind,
     queue: &VecDeque<Reaching<'_>>,
     one: &Reaching<'_>,
 ) -> Option<usize>
-    requires have { HaveCome script.now failing queue.now.items }
-    requires come { HasCome script.now failing one.now.replay one.now.path }
+    requires have { HaveCome script.now kind queue.now.items }
+    requires come { HasCome script.now kind one.now.replay one.now.path }
     ensures within { IfSome result (λ at. at < length queue.now.items) }
     ensures same { IfSome result (λ at. (d : Reaching_of) →
         (slice_index_or queue.now.items at d).replay.state ≡ one.now.replay.state) }
 {
     for at in 0..queue.len() {
-        if is_same(script, failing, &queue[at], one) {
+        if is_same(script, kind, &queue[at], one) {
             return Some(at);
         }
     }
@@ -127,19 +133,19 @@ fn add_at(queue: &mut VecDeque<Reaching<'_>>, at: usize, times: u64) -> bool
 /// whether what comes to it could be counted.
 pub(crate) fn join<'a>(
     script: &Script,
-    failing: bool,
+    kind: ReactorKind,
     queue: &mut VecDeque<Reaching<'a>>,
     one: Reaching<'a>,
 ) -> Result<bool, NoMemory>
-    requires have { HaveCome script.now failing queue.old.items }
-    requires come { HasCome script.now failing one.replay one.path }
-    ensures have { IfOk result (λ all. all ≡ true → HaveCome script.now failing queue.new.items) }
+    requires have { HaveCome script.now kind queue.old.items }
+    requires come { HasCome script.now kind one.replay one.path }
+    ensures have { IfOk result (λ all. all ≡ true → HaveCome script.now kind queue.new.items) }
     ensures joined { IfOk result (λ all. all ≡ true →
-        HasJoined script.now failing one.entry.replay.state one.entry.times queue.old.items
+        HasJoined script.now kind one.entry.replay.state one.entry.times queue.old.items
         queue.new.items) }
 {
     let times = one.times();
-    match find(script, failing, queue, &one) {
+    match find(script, kind, queue, &one) {
         Some(at) => Ok(add_at(queue, at, times)),
         None => {
             queue.push_back(one)?;

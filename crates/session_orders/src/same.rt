@@ -1,9 +1,10 @@
-ghost use Rattle.std.specs.Prelude.{◌≡◌, ◌<◌, ℕ, length, true};
+ghost use Rattle.std.specs.Prelude.{◌≡◌, ◌<◌, ℕ, length, true, Bool};
 ghost use Rattle.history_rules.specs.Legal.{state_of};
 ghost use Rattle.history_rules.specs.State.{act_at};
-ghost use Rattle.session_orders.specs.Same.{MayPair, bare, free_after, is_quiet};
+ghost use Rattle.session_orders.specs.Same.{AreSameDone, MayPair, bare, free_after, is_quiet};
 ghost use Rattle.session_orders.specs.Walk.{HasCome};
 
+use crate::bounds::ReactorKind;
 use crate::reaching::Reaching;
 use asio_types::Event;
 use history_book::Replay;
@@ -35,17 +36,30 @@ fn free_after(script: &Script, free: bool, event: Event) -> bool
     }
 }
 
+/// Whether the same operation completes in both.
+fn are_same_done(first: Event, second: Event) -> bool
+    ensures { result ≡ true → AreSameDone first second }
+{
+    match (first, second) {
+        (Event::Done { op, .. }, Event::Done { op: other, .. }) => op == other,
+        _ => false,
+    }
+}
+
 /// Whether two beginnings may go on by these events and stay alike.
 fn may_pair(script: &Script, free: bool, first: Event, second: Event) -> bool
     ensures { result ≡ true → MayPair script.now free first second }
 {
-    first == second || (is_quiet(script, free, first) && is_quiet(script, free, second))
+    if first == second || are_same_done(first, second) {
+        return true;
+    }
+    is_quiet(script, free, first) && is_quiet(script, free, second)
 }
 
 /// Whether these two beginnings are sure to come to the same state but for the acts.
 fn are_alike(script: &Script, first: &[Event], second: &[Event]) -> bool
-    ensures { result ≡ true → bare (state_of script.now true first.now)
-        ≡ bare (state_of script.now true second.now) }
+    ensures { result ≡ true → (told : Bool) → bare (state_of script.now told first.now)
+        ≡ bare (state_of script.now told second.now) }
 {
     if first.len() != second.len() {
         return false;
@@ -104,12 +118,12 @@ fn have_same_acts(first: &Replay<'_>, second: &Replay<'_>) -> bool
 /// Whether these two are sure to be the same state.
 pub(crate) fn is_same(
     script: &Script,
-    failing: bool,
+    kind: ReactorKind,
     first: &Reaching<'_>,
     second: &Reaching<'_>,
 ) -> bool
-    requires first { HasCome script.now failing first.now.replay first.now.path }
-    requires second { HasCome script.now failing second.now.replay second.now.path }
+    requires first { HasCome script.now kind first.now.replay first.now.path }
+    requires second { HasCome script.now kind second.now.replay second.now.path }
     ensures { result ≡ true → first.now.replay.state ≡ second.now.replay.state }
 {
     let path = first.path();

@@ -4,6 +4,6 @@ use Rattle.session_orders.proofs.counting.count_on.Given as goal
 abbrev pub invariant-states : goal.invariant-states
 invariant-states l =
     record {
-      have : HaveCome l.script l.failing l.queue.items;
-      leads : Leads l.script l.failing l.queue.items l.counted;
+      have : HaveCome l.script l.kind l.queue.items;
+      leads : Leads l.script l.kind l.queue.items l.counted;
     }
