@@ -25,8 +25,12 @@ run_tests() {
 export -f run_tests
 
 if [ $# = 0 ]; then
-  # those with the most tests first, since they take longest
-  mapfile -t with_tests < <(grep -rE '^ *#\[test\]' crates/*/src | cut -d/ -f2 | sort | uniq -c | sort -rn | awk '{ print $2 }')
+  # the crates whose sessions have many workers first, since they take longest; then those with the most tests
+  longest='context_tests session_tests io_tests future_tests'
+  mapfile -t with_tests < <(
+    printf '%s\n' $longest
+    grep -rE '^ *#\[test\]' crates/*/src | cut -d/ -f2 | sort | uniq -c | sort -rn | awk '{ print $2 }' | grep -vxF "${longest// /$'\n'}"
+  )
   set -- "${with_tests[@]}"
 fi
 export crates=$#
