@@ -100,7 +100,7 @@ fn keeps_bytes(
     Ok(true)
 }
 
-/// What the reads of a stream took, one behind the other, is a first part of what was fed to it, and
+/// The reads of a stream took, one behind the other, no more bytes than it was fed, and
 /// its writes had room; each has the size that it asks for, or ends at its delimiter.
 pub(crate) fn streams(
     alloc: Global,

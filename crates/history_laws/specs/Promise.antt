@@ -27,13 +27,13 @@ pub record KeepsPromise (script : ScriptModel) (told : Bool) (events : List Even
   pub in_order : PostingsKeepTheirOrder script events
   -- after a stop each lane begins at most one thing more until the restart
   pub after_stop : StopsAreHeeded script events
-  -- each round closes once, and behind the last nothing begins
+  -- each round closes once unless the reactor fails, and behind the last nothing begins
   pub closes_once : RoundsCloseOnce script events
   -- what is cancelled is aborted, and nothing else is
   pub cancelled : CancellationIsHeeded script events
   -- no wait completes early, and time moves only where all is at rest
   pub timers : TimersKeepTime script events
-  -- where bytes are told, what reads took is a first part of what was fed, and writes had room
+  -- where bytes are told, reads took no more than was fed, and writes had room
   pub streams : told ≡ true → StreamsKeepTheirBytes script events
   -- no history is longer than its script allows
   pub length : HistoriesAreShort script events

@@ -62,8 +62,8 @@ moved_by test script _ = 0
 abbrev pub moved_in : (Option Act → Bool) → ScriptModel → List Event → ℕ
 moved_in test script events = sum_by (moved_by test script) events
 
--- Where bytes are told: what the reads of a stream took, one behind the other, is a first part of
--- what was fed to it by then, however it was cut; and its writes moved no more than it had room for.
+-- Where bytes are told: the reads of a stream took no more bytes than it was fed by then, however
+-- they were cut; and its writes moved no more than it had room for.
 pub record StreamsKeepTheirBytes (script : ScriptModel) (events : List Event) : Type 0 where
   pub read : (stream n place : ℕ) (given : Code) (size : ℕ) →
       is_read_of stream (act_of script n) ≡ true → StandsAt events place (event.Done n given size) →

@@ -61,7 +61,7 @@ pub fn timers_keep_time()
     ensures { HoldsOfLegalHistories TimersKeepTime }
 {}
 
-/// What the reads of a stream took, one behind the other, is a first part of what was fed to it by then,
+/// The reads of a stream took, one behind the other, no more bytes than it was fed by then,
 /// and its writes had room, where bytes are told (`async_read`, `async_write` and their kin).
 pub fn streams_keep_their_bytes()
     ensures { HoldsOfToldHistories StreamsKeepTheirBytes }
