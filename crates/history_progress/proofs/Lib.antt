@@ -1,0 +1,15 @@
+pub mod BoundedLemmas
+pub mod DatedLemmas
+pub mod EndLemmas
+pub mod FreeLemmas
+pub mod GoesLemmas
+pub mod GuardLemmas
+pub mod LeastLemmas
+pub mod MakingLemmas
+pub mod MarkedLemmas
+pub mod OrderlyLemmas
+pub mod RestLemmas
+pub mod StandsLemmas
+pub mod StateLemmas
+pub mod StuckLemmas
+pub mod UntoldLemmas
