@@ -1,2 +1,11 @@
 pub mod TreeLemmas
+pub mod BeginLemmas
+pub mod StandLemmas
+pub mod RunningLemmas
+pub mod StrandLemmas
+pub mod CalledLemmas
+pub mod LockLemmas
+pub mod UnderLockLemmas
+pub mod GuardLemmas
+pub mod ForcedLemmas
 pub mod OrderLemmas

@@ -14,60 +14,24 @@ use Rattle.run_rules.specs.Stacks.{frame, frame_of, stack}
 use Rattle.run_orders.specs.declared.order.Step.{Step}
 use Rattle.run_orders.specs.Apart.{StandsAlone}
 use Rattle.run_orders.specs.Laws.{steps_of}
-use Rattle.run_orders.specs.Orders.{BeginsTree, EachMayStand, HoldsBoth, IsHeld, IsLegalBut, IsOrderOf, IsStep, MayDoBut, MayStand, Stands, lines_of, plain, renumbered, same_op}
+use Rattle.run_orders.specs.Holding.{HoldsBoth}
+use Rattle.run_orders.specs.Orders.{BeginsTree, EachMayStand, IsLegalBut, IsOrderOf, IsStep, MayDoBut, MayStand, Stands, lines_of, plain, renumbered, same_op}
 use Rattle.run_orders.specs.Trees.{Spot, spot_at, tree}
+use Rattle.run_orders.proofs.StandLemmas.{same_thread}
 use Rattle.run_orders.proofs.TreeLemmas.{IsEnd, begun_one, end_more, found, legal_end, some_same, spot_of_end, stack_alone, stack_outside, tree_on_thread}
 
 -- one tree is on one thread
 
-same_spot : (run : List Line) (one other : Step) (a b : Spot) → one ≡ other → spot_at run one.place ≡ Some a
-    → spot_at run other.place ≡ Some b → a ≡ b
-same_spot run one other a b same first second =
-    some_same a b (sym first ∙ ap (λ (s : Step). spot_at run s.place) same ∙ second)
-
-same_thread : (run : List Line) (apart : List ℕ) (steps : List Step) → EachMayStand run apart steps → (one two : Step) (a b : Spot)
-    → IsStep steps one → spot_at run one.place ≡ Some a → IsStep steps two → spot_at run two.place ≡ Some b
-    → tree apart a ≡ tree apart b → one.line.thread ≡ two.line.thread
-same_thread run apart [] each one two a b stands there too where_two same = absurd stands
-same_thread run apart (step ∷ before) each one two a b stands there too where_two same =
-    ⊎_elim
-    (λ (here : step ≡ one). ⊎_elim
-    (λ (also : step ≡ two). ap (λ (s : Step). s.line.thread) (sym here ∙ also))
-    (λ behind. sym (each.1.together two b (record { stands = behind; there = where_two })
-    (sym same ∙ ap (tree apart) (same_spot run one step a each.1.spot (sym here) there each.1.there))
-    ∙ ap (λ (s : Step). s.line.thread) here))
-    too)
-    (λ behind. ⊎_elim
-    (λ (also : step ≡ two). each.1.together one a (record { stands = behind; there = there })
-    (same ∙ ap (tree apart) (same_spot run two step b each.1.spot (sym also) where_two each.1.there))
-    ∙ ap (λ (s : Step). s.line.thread) also)
-    (λ both. same_thread run apart before each.0 one two a b behind there both where_two same) too) stands
-
--- a claim that is held was put
-record IsClaimed (steps : List Step) (place thread : ℕ) : Type 0 where
-  pub step : Step
-  pub stands : IsStep steps step
-  pub place_is : step.place ≡ place
-  pub thread_is : step.line.thread ≡ thread
-
-claimed : (steps : List Step) (place thread thing : ℕ) → IsHeld steps place thread thing → IsClaimed steps place thread
-claimed [] place thread thing held = absurd held
-claimed (step ∷ before) place thread thing held =
-    ⊎_elim
-    (λ here. record { step = step; stands = inl refl; place_is = here.0; thread_is = ap (λ (l : Line). l.thread) here.1 })
-    (λ behind. let was = claimed before place thread thing behind.1 in
-    record { step = was.step; stands = inr was.stands; place_is = was.place_is; thread_is = was.thread_is }) held
-
-pub one_tree_apart : (run : List Line) (apart : List ℕ) (steps : List Step) (place other : ℕ) (one two : Spot)
+pub one_tree_apart : (run : List Line) (apart : List ℕ) (steps : List Step) (thing place other : ℕ) (one two : Spot)
     → IsOrderOf run apart steps → spot_at run place ≡ Some one → spot_at run other ≡ Some two → tree apart one ≡ tree apart two
-    → HoldsBoth steps place other → ⊥
-one_tree_apart run apart steps place other one two order there too same holds =
-    let x = claimed steps place holds.first holds.thing holds.held in
-    let y = claimed steps other holds.second holds.thing holds.held_too in
+    → HoldsBoth run steps thing place other → ⊥
+one_tree_apart run apart steps thing place other one two order there too same holds =
+    let x = holds.held in
+    let y = holds.held_too in
     holds.apart
-    (sym x.thread_is
-    ∙ same_thread run apart steps order.each x.step y.step one two x.stands (ap (spot_at run) x.place_is ∙ there) y.stands
-    (ap (spot_at run) y.place_is ∙ too) same ∙ y.thread_is)
+    (sym x.on
+    ∙ same_thread run apart steps order.each x.step y.step one two x.put.stands (ap (spot_at run) x.here ∙ there) y.put.stands
+    (ap (spot_at run) y.here ∙ too) same ∙ y.on)
 
 -- a run is an order of itself
 

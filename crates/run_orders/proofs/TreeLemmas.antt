@@ -70,7 +70,7 @@ abbrev begun_on : List Line → ℕ → Option ℕ
 begun_on [] op = None
 begun_on (line ∷ past) op = if begins line.does op then Some line.thread else begun_on past op
 
-abbrev IsIn : ℕ → List ℕ → Type 0
+abbrev pub IsIn : ℕ → List ℕ → Type 0
 IsIn op [] = ⊥
 IsIn op (one ∷ others) = (one ≡ op) ⊎ IsIn op others
 
@@ -85,7 +85,7 @@ is_begun_on (line ∷ past) op thread =
     (λ (elsewhere : begins line.does op ≡ false). rw elsewhere (λ is. is_begun_on past op thread is)) (cases_Bool (begins line.does op))
 
 -- what has begun doesn't begin again
-begins_once : (level : Level) (past : List Line) (thread op : ℕ) (does : Doing) → MayDo level past thread does
+pub begins_once : (level : Level) (past : List Line) (thread op : ℕ) (does : Doing) → MayDo level past thread does
     → is_begun past op ≡ true → begins does op ≡ false
 begins_once level past thread op (doing.Begin number code size) may begun =
     ne_eqb number op (λ same. apart (is_begun past number) may.waiting.not_begun (ap (is_begun past) same ∙ begun))

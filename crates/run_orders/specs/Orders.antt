@@ -1,5 +1,5 @@
 -- Other orders of a run: the same acts by the same callers with the same outcomes, on other threads or at other times.
-use Rattle.std.specs.Prelude.{◌≡◌, ◌≢◌, ◌⊎◌, ℕ, List, [], ◌∷◌, Bool, false, Some, IsSome, IsTrue, nat_eq}
+use Rattle.std.specs.Prelude.{◌≡◌, ◌⊎◌, ℕ, List, [], ◌∷◌, Bool, false, Some, IsSome, IsTrue, nat_eq}
 use Rattle.std.specs.List.{All}
 use Rattle.std.specs.Option.{option_eq}
 use Rattle.run_lines.specs.declared.line.Doing.{Doing}
@@ -127,19 +127,3 @@ pub record IsOrderOf (run : List Line) (apart : List ℕ) (steps : List Step) : 
   pub alone : All (StandsAlone run) apart
   pub each : EachMayStand run apart steps
   pub legal : IsLegalBut (lines_of steps)
-
--- a claim of a thread stands in an order, and its thread hasn't released the thing since
-abbrev pub IsHeld : List Step → ℕ → ℕ → ℕ → Type 0
-IsHeld [] place thread thing = ⊥
-IsHeld (step ∷ before) place thread thing =
-    ((step.place ≡ place) × (step.line ≡ record { thread = thread; does = doing.Claim thing }))
-    ⊎ ((step.line ≢ record { thread = thread; does = doing.Release thing }) × IsHeld before place thread thing)
-
--- an order ends where two threads hold one thing by these two claims
-pub record HoldsBoth (steps : List Step) (one other : ℕ) : Type 0 where
-  pub thing : ℕ
-  pub first : ℕ
-  pub second : ℕ
-  pub apart : first ≢ second
-  pub held : IsHeld steps one first thing
-  pub held_too : IsHeld steps other second thing

@@ -6,7 +6,7 @@ use Rattle.run_lines.specs.declared.line.Doing.TheVariants as doing
 use Rattle.run_lines.specs.declared.line.Line.{Line}
 use Rattle.run_rules.specs.declared.frame.Frame.{Frame}
 use Rattle.run_rules.specs.declared.frame.Frame.TheVariants.{Execution, Outside}
-use Rattle.run_rules.specs.Stacks.{stack}
+use Rattle.run_rules.specs.Stacks.{frame, stack}
 
 -- a line of a run, and the lines before it
 pub record Spot : Type 0 where
@@ -43,3 +43,7 @@ frame_by thread (Some op) = Execution op
 -- the tree of a line: an execution that stands alone, with all inside it that doesn't; or what its thread does outside
 abbrev pub tree : List ℕ → Spot → Frame
 tree apart spot = frame_by spot.line.thread (root apart (around spot))
+
+-- the execution that writes a line, or the outside of its thread
+abbrev pub writer : Spot → Frame
+writer spot = frame spot.past spot.line.thread

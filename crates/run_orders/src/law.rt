@@ -1,7 +1,7 @@
 ghost use Rattle.std.specs.Prelude.{ℕ, List};
 ghost use Rattle.run_lines.specs.declared.line.Line.{Line};
 ghost use Rattle.run_orders.specs.declared.order.Step.{Step};
-ghost use Rattle.run_orders.specs.Laws.{IsOrderOfItself, KeepsOneTreeApart};
+ghost use Rattle.run_orders.specs.Laws.{GuardsSuffice, IsOrderOfItself, KeepsForcedApart, KeepsGuardedApart, KeepsOneTreeApart};
 
 /// A legal run is an order of itself, with nothing set apart.
 pub fn runs_are_orders_of_themselves()
@@ -11,4 +11,19 @@ pub fn runs_are_orders_of_themselves()
 /// What one tree claims is never held by two threads, in no order: a tree stays on one thread.
 pub fn trees_claim_on_one_thread()
     ensures { (run : List Line) (apart : List ℕ) (steps : List Step) → KeepsOneTreeApart run apart steps }
+{}
+
+/// Two claims of one thing never overlap if the same strand, mutex or thread guards them.
+pub fn guarded_claims_never_overlap()
+    ensures { (run : List Line) (apart : List ℕ) (steps : List Step) → KeepsGuardedApart run apart steps }
+{}
+
+/// A thing never overlaps if one strand, mutex or thread guards all its claims.
+pub fn guarded_things_never_overlap()
+    ensures { (run : List Line) → GuardsSuffice run }
+{}
+
+/// Two claims of one thing never overlap if one is given back before the other is made in each order.
+pub fn forced_claims_never_overlap()
+    ensures { (run : List Line) (apart : List ℕ) (steps : List Step) → KeepsForcedApart run apart steps }
 {}

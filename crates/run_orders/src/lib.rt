@@ -4,8 +4,13 @@
 //! searches for orders in which two claims overlap stands on it.
 #![tactic(auto)]
 
+mod guard;
 mod law;
 mod order;
 
-pub use law::{runs_are_orders_of_themselves, trees_claim_on_one_thread};
+pub use guard::Guard;
+pub use law::{
+    forced_claims_never_overlap, guarded_claims_never_overlap, guarded_things_never_overlap,
+    runs_are_orders_of_themselves, trees_claim_on_one_thread,
+};
 pub use order::Step;
