@@ -5,6 +5,7 @@ use crate::failure::Failure;
 use crate::rounds::{STEPS, rounds_of};
 use crate::seats::seats_of;
 use crate::stopwatch::{Measured, Stopwatch};
+use asio_types::Event;
 use lane_clock::{Change, LaneClock, LaneSeat};
 use std::alloc::Global;
 use std::rt::Clock;
@@ -18,7 +19,7 @@ fn draw_all(clock: &LaneClock, mut seat: LaneSeat)
     requires new { own seat ≡ [] }
 {
     for _ in 0..STEPS {
-        clock.draw(&mut seat, Change::Same);
+        clock.draw(&mut seat, Change::Same, Event::Last);
     }
 }
 

@@ -114,11 +114,11 @@ module _ (names : SessionNames) (well : IsWellFormed names.script) (logs : LogsV
       moment_of whole n i step (subst (λ xs. get_elem? xs i ≡ some step) (logged.closed.all n) at)
 
   -- the closing
-  abbrev moment : Moment whole opener j (Draw closes.changes closes.found)
-  moment = made_at_step opener j (Draw closes.changes closes.found) closes.drawn
+  abbrev moment : Moment whole opener j (Draw closes.shown closes.changes closes.found)
+  moment = made_at_step opener j (Draw closes.shown closes.changes closes.found) closes.drawn
 
   abbrev e : ClockEvent
-  e = step_event opener (Draw closes.changes closes.found)
+  e = step_event opener (Draw closes.shown closes.changes closes.found)
 
   abbrev es : List ClockEvent
   es = moment.older
@@ -132,8 +132,8 @@ module _ (names : SessionNames) (well : IsWellFormed names.script) (logs : LogsV
   abbrev all : AreLabelled labels (e ∷ es)
   all = labelled_to names well logs labels logged are (e ∷ es) tail
 
-  drew : (shown : Event) × (label_of labels es e ≡ shows shown closes.changes closes.found)
-  drew = shown_by_draw (label_of labels es e) all.1.plain closes.changes closes.found all.1.step
+  drew : label_of labels es e ≡ shows closes.shown closes.changes closes.found
+  drew = shown_by_draw (label_of labels es e) all.1.plain closes.shown closes.changes closes.found all.1.step
 
   abbrev stand : Stand
   stand = stand_at names.script opener es
@@ -154,23 +154,23 @@ module _ (names : SessionNames) (well : IsWellFormed names.script) (logs : LogsV
   by_part : (part : OpenerPart) → (opener_at names logs labels logged are e es tail all.1 refl).part ≡ part →
       (part : ClosedPart) × ((opener_at names logs labels logged are e es tail all.1 refl).part ≡ closed part)
   by_part (resting step) here =
-      absurd (nothing_in step (opener_at names logs labels logged are e es tail all.1 refl).before drew.0 closes.changes
+      absurd (nothing_in step (opener_at names logs labels logged are e es tail all.1 refl).before closes.shown closes.changes
       closes.found (opener_at names logs labels logged are e es tail all.1 refl).after
-      (labels_of_part names well logs labels logged are e es tail all refl drew.0 closes.changes closes.found drew.1
+      (labels_of_part names well logs labels logged are e es tail all refl closes.shown closes.changes closes.found drew
       (resting step) here))
   by_part (opened calls made) here =
       absurd (let is =
       ap (λ (s : Stand). s.opening)
-      (opened_stand names well logs labels logged are e es tail all refl drew.0 closes.changes closes.found drew.1 calls made
+      (opened_stand names well logs labels logged are e es tail all refl closes.shown closes.changes closes.found drew calls made
       here) in
       let none = over in
       omega (arith, is, none))
   by_part (restarted drawn) here =
       absurd (let wanted =
-      (restart_part names well logs labels logged are e es tail all refl drew.0 closes.changes closes.found drew.1 drawn
+      (restart_part names well logs labels logged are e es tail all refl closes.shown closes.changes closes.found drew drawn
       here).wanted in
       let stood =
-      restart_stood names well logs labels logged are e es tail all refl drew.0 closes.changes closes.found drew.1 drawn here in
+      restart_stood names well logs labels logged are e es tail all refl closes.shown closes.changes closes.found drew drawn here in
       never (wants_restart script stand) (open_stand script stand round).started
       (ap (wants_restart script) stood ∙ wanted))
   by_part (closed part) here = (part, here)
@@ -358,7 +358,7 @@ module _ (names : SessionNames) (well : IsWellFormed names.script) (logs : LogsV
         let cell =
         none_beyond names well logs labels logged are (so whole (tail_refl whole)).expected number i home place at in
         let full =
-        place_full names well logs labels logged are e es tail all refl drew.0 closes.changes closes.found drew.1 closing.0
+        place_full names well logs labels logged are e es tail all refl closes.shown closes.changes closes.found drew closing.0
         closing.1 number op home place made cell in
         let look = looks place cell in
         let held = look_full place full.0 full.2 look in
@@ -411,7 +411,7 @@ module _ (names : SessionNames) (well : IsWellFormed names.script) (logs : LogsV
         let shut =
         call_closed names well logs labels are es now
         (λ lane inside.
-        nothing_left names logs labels logged are e es tail all.1 refl drew.0 closes.changes closes.found drew.1 over lane inside)
+        nothing_left names logs labels logged are e es tail all.1 refl closes.shown closes.changes closes.found drew over lane inside)
         (stood.opened over) op in
         let back = returned_by (call_at (state_so names logs labels are es).context op) dated.0 shut in
         let asks = posted_asks script op posting in

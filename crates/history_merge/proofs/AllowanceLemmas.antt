@@ -296,7 +296,7 @@ module _ (names : SessionNames) (well : IsWellFormed names.script) (logs : LogsV
           | inr other ↦ elim (cases_eq f.by opener) [
             | inl opens ↦
                 absurd (none_drawn names logs labels logged are e es tail within part_here draws f earlier made begun opens
-                changed drawn (sym labelled.1.step ∙ ap step_of here))
+                shows_it changed drawn (sym labelled.1.step ∙ ap step_of here))
             | inr away ↦
                 other_may e.by at numbered f earlier behind labelled other shows_it changed drawn here away may
           ]

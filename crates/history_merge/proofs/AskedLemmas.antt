@@ -45,7 +45,7 @@ allots_on at (allots act lane place) = at == lane
 -- so many places of a lane were drawn as labels get one
 module _ (labels : ℕ → List Labelled) (lane : ℕ) where
   plain_places : (step : ClockStep) (k : ℕ) → place_count step ≡ 0 → places_with lane step k ≡ k
-  plain_places (Draw changes found) k none = refl
+  plain_places (Draw shown changes found) k none = refl
   plain_places (Load found) k none = refl
   plain_places (Place at place) k none = absurd (omega (arith, none))
   plain_places (Put at place note) k none = refl

@@ -76,7 +76,7 @@ module _ (names : SessionNames) (logs : LogsView) (labels : ℕ → List Labelle
   -- the opener draws an event that all others take in
   module _ (shown : Event) (changes : Change) (found : Found) (is : label_of labels es e ≡ shows shown changes found)
       (over : (stand_at names.script opener es).opening ≡ 0) where
-    step_is : e.step ≡ Draw changes found
+    step_is : e.step ≡ Draw shown changes found
     step_is = sym labelled.step ∙ ap step_of is
 
     abbrev here : ClockEvent
@@ -103,6 +103,7 @@ module _ (names : SessionNames) (logs : LogsView) (labels : ℕ → List Labelle
         let goes = stand_here names.script opener here es refl in
         let falls = opening_falls names.script (stand_at names.script opener es) (e.step ∷ []) in
         record {
+          shown = shown;
           changes = changes;
           found = found;
           drawn = subst (λ step. StepAt logs.lists opener j step) step_is there;

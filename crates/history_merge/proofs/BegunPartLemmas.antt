@@ -27,7 +27,7 @@ use Rattle.history_merge.proofs.PartLemmas.{Every, at_left, at_right, every_at}
 abbrev pub IsBehindLoad : Labelled → Type 0
 IsBehindLoad (silent (Load found)) = ⊥
 IsBehindLoad (silent (Look lane place held)) = ⊥
-IsBehindLoad (silent (Draw changes found)) = Unit {0}
+IsBehindLoad (silent (Draw shown changes found)) = Unit {0}
 IsBehindLoad (silent (Place lane place)) = Unit {0}
 IsBehindLoad (silent (Put lane place note)) = Unit {0}
 IsBehindLoad (silent (Join counts)) = Unit {0}

@@ -4,6 +4,7 @@ use Rattle.std.proofs.Common.{◌≡◌, ℕ, zero, suc, ◌+◌, ◌-◌, ◌<�
 use Rattle.std.proofs.lemmas.List.{take-append-le}
 use mathlib.Core.Option.{some}
 use lib.ListN.{get_elem?}
+use Rattle.asio_types.specs.declared.event.Event.{Event}
 use Rattle.lane_clock.specs.declared.found.Change.{Change}
 use Rattle.lane_clock.specs.declared.found.Found.{Found}
 use Rattle.lane_clock.specs.declared.step.ClockStep.{ClockStep}
@@ -39,7 +40,7 @@ kept_from P a (x ∷ es) (inr tail) first more =
 joined_less : (n k : ℕ) (xs : List ClockStep) → joined_count n (take k xs) ≤ joined_count n xs
 joined_less n zero xs = omega arith
 joined_less n (suc k) [] = omega arith
-joined_less n (suc k) (Draw changes found ∷ xs) = joined_less n k xs
+joined_less n (suc k) (Draw shown changes found ∷ xs) = joined_less n k xs
 joined_less n (suc k) (Load found ∷ xs) = joined_less n k xs
 joined_less n (suc k) (Place lane place ∷ xs) = joined_less n k xs
 joined_less n (suc k) (Put lane place note ∷ xs) = joined_less n k xs
@@ -130,34 +131,34 @@ module _ (names : SessionNames) (logs : LogsView) (labels : ℕ → List Labelle
           (sym (known names logs labels logged are e es tail within at draws))
           ∙ opened_known names logs labels logged are e es tail within at draws)
 
-      pub none_drawn : (changes : Change) (found : Found) → f.step ≡ Draw changes found → ⊥
-      none_drawn changes found is =
-          let steps : steps_under seat (f ∷ older) ≡ steps_under seat older ++ Draw changes found ∷ [] =
+      pub none_drawn : (shown : Event) (changes : Change) (found : Found) → f.step ≡ Draw shown changes found → ⊥
+      none_drawn shown changes found is =
+          let steps : steps_under seat (f ∷ older) ≡ steps_under seat older ++ Draw shown changes found ∷ [] =
           stepped ∙ ap (λ s. steps_under seat older ++ s ∷ []) is in
-          let here : get_elem? (steps_under seat (f ∷ older)) j ≡ some (Draw changes found) =
-          ap (λ xs. get_elem? xs j) steps ∙ at_seam (steps_under seat older) (Draw changes found) [] in
-          let drawn : StepAt logs.lists seat j (Draw changes found) =
-          at_start (steps_under seat (f ∷ older)) (logs.lists seat) j (Draw changes found)
+          let here : get_elem? (steps_under seat (f ∷ older)) j ≡ some (Draw shown changes found) =
+          ap (λ xs. get_elem? xs j) steps ∙ at_seam (steps_under seat older) (Draw shown changes found) [] in
+          let drawn : StepAt logs.lists seat j (Draw shown changes found) =
+          at_start (steps_under seat (f ∷ older)) (logs.lists seat) j (Draw shown changes found)
           (under_start names.script logs.lists (session_layout names.script) logs.last logged.closed (f ∷ older) behind seat)
           here in
           let long : suc j ≡ length (steps_under seat (f ∷ older)) =
           sym (ap length steps
-          ∙ (length-append (steps_under seat older) (Draw changes found ∷ [])
+          ∙ (length-append (steps_under seat older) (Draw shown changes found ∷ [])
           ∙ (let one : j + 1 ≡ suc j = omega arith in one))) in
-          let taken : take (suc j) (logs.lists seat) ≡ steps_under seat older ++ Draw changes found ∷ [] =
+          let taken : take (suc j) (logs.lists seat) ≡ steps_under seat older ++ Draw shown changes found ∷ [] =
           ap (λ k. take k (logs.lists seat)) long
           ∙ (under_take names.script logs.lists (session_layout names.script) logs.last logged.closed (f ∷ older) behind seat
           ∙ steps) in
           let opened : (stand_of names.script (take (suc j) (logs.lists seat))).opening ≡ 0 =
           ap (λ steps. (stand_of names.script steps).opening) taken
           ∙ (ap (λ (stand : Stand). stand.opening)
-          (stand-append names.script (first_stand names.script) (steps_under seat older) (Draw changes found ∷ []))
+          (stand-append names.script (first_stand names.script) (steps_under seat older) (Draw shown changes found ∷ []))
           ∙ opened_stays names.script (stand_of names.script (steps_under seat older)) found stood) in
           let more = under_length seat (f ∷ older) es made in
           none_between names.script logs.lists (session_layout names.script) logs.last logged.closed logged.cuts es
           (tail_more es e logged.closed.history tail) e.by begins_at (omega (arith, within))
           (quiet names logs labels logged are e es tail within at draws) j knew (omega (arith, long, more))
-          (record { changes = changes; found = found; drawn = drawn; opened = opened })
+          (record { shown = shown; changes = changes; found = found; drawn = drawn; opened = opened })
 
     -- the lane's own labels so far, from the part's begin on
     pub made_within : (a : List ClockEvent) (j : ℕ) → length (steps_under e.by a) ≡ begins_at + j →

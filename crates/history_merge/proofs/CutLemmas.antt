@@ -29,7 +29,7 @@ use native.Mathlib.Decide.{ℕ_discrete}
 pub joined-append : (n : ℕ) (xs ys : List ClockStep) →
     joined_count n (xs ++ ys) ≡ max (joined_count n xs) (joined_count n ys)
 joined-append n [] ys = omega arith
-joined-append n (Draw change found ∷ xs) ys = joined-append n xs ys
+joined-append n (Draw shown change found ∷ xs) ys = joined-append n xs ys
 joined-append n (Load found ∷ xs) ys = joined-append n xs ys
 joined-append n (Place lane place ∷ xs) ys = joined-append n xs ys
 joined-append n (Put lane place note ∷ xs) ys = joined-append n xs ys
@@ -45,7 +45,7 @@ joined_has n (step ∷ xs) zero counts at =
 joined_has n (step ∷ xs) (suc i) counts at = first step (joined_has n xs i counts at)
   where
     first : (s : ClockStep) → slice_index counts n ≤ joined_count n xs → slice_index counts n ≤ joined_count n (s ∷ xs)
-    first (Draw change found) less = less
+    first (Draw shown change found) less = less
     first (Load found) less = less
     first (Place lane place) less = less
     first (Put lane place note) less = less
@@ -78,7 +78,7 @@ joined_within guards seats (e ∷ es) sound m n =
     same (x ∷ xs) = inl refl
 
     one : (s : ClockStep) → Fits guards es e.by s → joined_count n (s ∷ []) ≤ length (steps_under n es)
-    one (Draw change found) fits = omega arith
+    one (Draw shown change found) fits = omega arith
     one (Load found) fits = omega arith
     one (Place lane place) fits = omega arith
     one (Put lane place note) fits = omega arith
@@ -89,7 +89,7 @@ joined_within guards seats (e ∷ es) sound m n =
 pub stand-append : (script : ScriptModel) (stand : Stand) (xs ys : List ClockStep) →
     stand_from script stand (xs ++ ys) ≡ stand_from script (stand_from script stand xs) ys
 stand-append script stand [] ys = refl
-stand-append script stand (Draw change found ∷ xs) ys = stand-append script (after_draw script stand found) xs ys
+stand-append script stand (Draw shown change found ∷ xs) ys = stand-append script (after_draw script stand found) xs ys
 stand-append script stand (Load found ∷ xs) ys = stand-append script stand xs ys
 stand-append script stand (Place lane place ∷ xs) ys = stand-append script stand xs ys
 stand-append script stand (Put lane place note ∷ xs) ys = stand-append script stand xs ys
@@ -183,20 +183,20 @@ module _ (script : ScriptModel) (lists : ℕ → List ClockStep) (plan : Layout)
         (j : ℕ) → joined_count opener (take since (lists m)) ≤ j → j < length (steps_under opener es) →
         IsEventAt script lists j → ⊥
     none_between es tail m since before quiet j knew made is =
-        let drawn : get_elem? (steps_under opener es) j ≡ some (Draw is.changes is.found) =
-        under_at es tail opener j (Draw is.changes is.found) is.drawn made in
-        let moment = moment_of es opener j (Draw is.changes is.found) drawn in
+        let drawn : get_elem? (steps_under opener es) j ≡ some (Draw is.shown is.changes is.found) =
+        under_at es tail opener j (Draw is.shown is.changes is.found) is.drawn made in
+        let moment = moment_of es opener j (Draw is.shown is.changes is.found) drawn in
         let older : List ClockEvent = moment.older in
-        let then = tail_trans (event opener (Draw is.changes is.found) ∷ older) es closed.history moment.tail tail in
-        let within = tail_more older (event opener (Draw is.changes is.found)) closed.history then in
+        let then = tail_trans (event opener (Draw is.shown is.changes is.found) ∷ older) es closed.history moment.tail tail in
+        let within = tail_more older (event opener (Draw is.shown is.changes is.found)) closed.history then in
         let exact : length (steps_under m older) ≡ joined_count m (steps_under opener older) =
-        cut_exact (Draw is.changes is.found) older then (subst (IsEventAt script lists) moment.index is) m before in
+        cut_exact (Draw is.shown is.changes is.found) older then (subst (IsEventAt script lists) moment.index is) m before in
         let cut = cuts j m is before in
         let x : ℕ = joined_count m (take j (lists opener)) in
         let taken : x ≡ joined_count m (steps_under opener older) =
         ap (λ k. joined_count m (take k (lists opener))) moment.index ∙ ap (joined_count m) (under_take older within opener) in
         let passed : length (steps_under m older) ≤ length (steps_under m es) =
-        under_length m older es (tail_more older (event opener (Draw is.changes is.found)) es moment.tail) in
+        under_length m older es (tail_more older (event opener (Draw is.shown is.changes is.found)) es moment.tail) in
         elim (cases_lt x since) [
           | inl less ↦
               let there : x < length (lists m) = at_within (lists m) x (Join cut.counts) cut.joins in
@@ -239,10 +239,11 @@ module _ (script : ScriptModel) (lists : ℕ → List ClockStep) (plan : Layout)
             ≡ stand_from script (stand_of script (take (known + more) (lists opener))) (s ∷ []) →
             stand_of script (take (known + more) (lists opener)) ≡ stand_of script (take known (lists opener)) →
             stand_of script (take (suc (known + more)) (lists opener)) ≡ stand_of script (take known (lists opener))
-        step (Draw changes found) at on before =
+        step (Draw shown changes found) at on before =
             let was : (stand_of script (take (known + more) (lists opener))).opening ≡ 0 =
             ap (λ (s : Stand). s.opening) before ∙ opened in
             absurd (none (known + more) (omega arith) (omega arith) (record {
+              shown = shown;
               changes = changes;
               found = found;
               drawn = at;

@@ -180,7 +180,7 @@ module _ (names : SessionNames) (logs : LogsView) (labels : ℕ → List Labelle
           let own : get_elem? (logs.lists e.by) (length (steps_under e.by es)) ≡ some (step_of (label_of labels es e)) =
           subst (λ xs. get_elem? xs (length (steps_under e.by es)) ≡ some (step_of (label_of labels es e)))
           (are.steps e.by) (step_of_label (labels e.by) (length (steps_under e.by es)) (label_of labels es e) labelled.there) in
-          let draw : Draw changes found ≡ Join counts =
+          let draw : Draw shown changes found ≡ Join counts =
           ap step_of (sym is) ∙ some-injective (step_of (label_of labels es e)) (Join counts)
           (sym own ∙ (ap (get_elem? (logs.lists e.by)) (sym same) ∙ at)) in
           absurd (cc)

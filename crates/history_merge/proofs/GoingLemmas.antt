@@ -29,7 +29,7 @@ use Rattle.history_merge.proofs.PartLemmas.{Every, IsMadeAt, all_made, at_left, 
 
 -- the step takes in nothing of others
 abbrev pub IsNoJoin : ClockStep → Type 0
-IsNoJoin (Draw changes found) = Unit {0}
+IsNoJoin (Draw shown changes found) = Unit {0}
 IsNoJoin (Load found) = Unit {0}
 IsNoJoin (Place lane place) = Unit {0}
 IsNoJoin (Put lane place note) = Unit {0}

@@ -120,8 +120,8 @@ module _ (labels : ℕ → List Labelled) where
     shown_at es sound all e older tail shown changes found is =
         let before = sound_tail guards seats (e ∷ older) es tail sound in
         let labelled = labelled_tail es (e ∷ older) tail all in
-        let step : e.step ≡ Draw changes found = sym labelled.1.step ∙ ap step_of is in
-        let fits : Fits guards older e.by (Draw changes found) = subst (Fits guards older e.by) step before.2 in
+        let step : e.step ≡ Draw shown changes found = sym labelled.1.step ∙ ap step_of is in
+        let fits : Fits guards older e.by (Draw shown changes found) = subst (Fits guards older e.by) step before.2 in
         let clock : found.clock ≡ length (shown_in older) =
         found_clock guards seats older few before.0 found fits.0 ∙ sym (shown_count older labelled.0) in
         shown_stays (e ∷ older) es tail found.clock shown

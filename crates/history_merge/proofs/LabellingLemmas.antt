@@ -41,7 +41,7 @@ module _ (script : ScriptModel) where
       ((refl, refl), (tt, tt))
 
   resting_plain : (step : ClockStep) → IsRestingStep step → Every IsPlain (silent step ∷ [])
-  resting_plain (Draw changes found) rests = absurd rests
+  resting_plain (Draw shown changes found) rests = absurd rests
   resting_plain (Load found) rests = ((refl, refl), tt)
   resting_plain (Place lane place) rests = absurd rests
   resting_plain (Put lane place note) rests = absurd rests
@@ -66,7 +66,7 @@ module _ (script : ScriptModel) where
 module _ (names : SessionNames) (opener : List ClockStep) (lane : ℕ) where
   idle_plain : (parts : List Part) (step : ClockStep) → IsIdleStep names opener lane parts step →
       Every IsPlain (silent step ∷ [])
-  idle_plain parts (Draw changes found) is = absurd is
+  idle_plain parts (Draw shown changes found) is = absurd is
   idle_plain parts (Load found) is = ((refl, refl), tt)
   idle_plain parts (Place at place) is = absurd is
   idle_plain parts (Put at place note) is = absurd is

@@ -132,3 +132,4 @@ pub mod AbsenceLemmas
 pub mod CalledNextLemmas
 pub mod WholeLemmas
 pub mod UnfoundLemmas
+pub mod DrawLawLemmas

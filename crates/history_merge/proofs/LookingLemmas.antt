@@ -75,7 +75,7 @@ module _ (labels : ℕ → List Labelled) (first : List ClockEvent) where
 -- the label of a look
 abbrev IsLookStep : ClockStep → Type 0
 IsLookStep (Look lane place held) = Unit {0}
-IsLookStep (Draw changes found) = ⊥
+IsLookStep (Draw shown changes found) = ⊥
 IsLookStep (Load found) = ⊥
 IsLookStep (Place lane place) = ⊥
 IsLookStep (Put lane place note) = ⊥

@@ -153,12 +153,12 @@ module _ (names : SessionNames) (logs : LogsView) (labels : ℕ → List Labelle
       drawn_by (labels is.seat) is.at entry
       (subst (λ es. get_elem? es is.at ≡ some entry) (sym (are.entries is.seat)) is.there) in
       let step =
-      subst (λ steps. get_elem? steps d.at ≡ some (Draw d.changes d.found)) (are.steps is.seat ∙ logged.closed.all is.seat)
+      subst (λ steps. get_elem? steps d.at ≡ some (Draw entry.event d.changes d.found)) (are.steps is.seat ∙ logged.closed.all is.seat)
       (step_of_label (labels is.seat) d.at (shows entry.event d.changes d.found) d.label) in
-      let moment = moment_of logged.closed.history is.seat d.at (Draw d.changes d.found) step in
-      let e = made_event is.seat (Draw d.changes d.found) in
+      let moment = moment_of logged.closed.history is.seat d.at (Draw entry.event d.changes d.found) step in
+      let e = made_event is.seat (Draw entry.event d.changes d.found) in
       let label : label_of labels moment.older e ≡ shows entry.event d.changes d.found =
-      index_is (labels is.seat) _ (shows entry.event d.changes d.found) (silent (Draw d.changes d.found))
+      index_is (labels is.seat) _ (shows entry.event d.changes d.found) (silent (Draw entry.event d.changes d.found))
       (subst (λ i. get_elem? (labels is.seat) i ≡ some (shows entry.event d.changes d.found)) moment.index d.label) in
       subst (λ p. get_elem? (shown_in labels logged.closed.history) p ≡ some entry.event) d.position
       (shown_at labels plan.guards plan.seats logged.closed.few.0 logged.closed.history logged.closed.sound labelled e

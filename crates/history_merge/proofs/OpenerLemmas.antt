@@ -39,7 +39,7 @@ draw_falls script stand found (suc left) is = omega (arith, is)
 pub opening_falls : (script : ScriptModel) (stand : Stand) (steps : List ClockStep) →
     (stand_from script stand steps).opening ≤ stand.opening
 opening_falls script stand [] = omega arith
-opening_falls script stand (Draw change found ∷ steps) =
+opening_falls script stand (Draw shown change found ∷ steps) =
     let one = draw_falls script stand found stand.opening refl in
     let rest = opening_falls script (after_draw script stand found) steps in
     omega (arith, one, rest)

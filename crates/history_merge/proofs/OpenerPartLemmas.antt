@@ -32,7 +32,7 @@ use Rattle.history_merge.proofs.SoFarLemmas.{made_so_far}
 pub still_stand : (script : ScriptModel) (stand : Stand) (steps : List ClockStep) → step_count draw_count steps ≡ 0 →
     stand_from script stand steps ≡ stand
 still_stand script stand [] none = refl
-still_stand script stand (Draw changes found ∷ steps) none = absurd (omega (arith, none))
+still_stand script stand (Draw shown changes found ∷ steps) none = absurd (omega (arith, none))
 still_stand script stand (Load found ∷ steps) none = still_stand script stand steps (omega (arith, none))
 still_stand script stand (Place lane place ∷ steps) none = still_stand script stand steps (omega (arith, none))
 still_stand script stand (Put lane place note ∷ steps) none = still_stand script stand steps (omega (arith, none))

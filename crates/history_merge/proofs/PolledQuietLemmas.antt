@@ -90,15 +90,16 @@ load_label (silent step) load is = ap silent is
 load_label (shows shown changes found) load is = absurd (cc)
 load_label (allots act at cell) load is = absurd (cc)
 
-draw_label : (label : Labelled) (changes : Change) (found : Found) → IsPlain label → step_of label ≡ Draw changes found →
-    (shown : Event) × (label ≡ shows shown changes found)
-draw_label (silent step) changes found plain is =
+draw_label : (label : Labelled) (drew : Event) (changes : Change) (found : Found) → IsPlain label →
+    step_of label ≡ Draw drew changes found → label ≡ shows drew changes found
+draw_label (silent step) drew changes found plain is =
     absurd (let one = ap draw_count is in let none = plain.0 in omega (arith, one, none))
-draw_label (shows shown change drawn) changes found plain is =
+draw_label (shows shown change drawn) drew changes found plain is =
+    let event_is : shown ≡ drew = cc in
     let first : change ≡ changes = cc in
     let second : drawn ≡ found = cc in
-    (shown, λ i. shows shown (first i) (second i))
-draw_label (allots act at cell) changes found plain is = absurd (cc)
+    λ i. shows (event_is i) (first i) (second i)
+draw_label (allots act at cell) drew changes found plain is = absurd (cc)
 
 take_from : {A : Type 0} → (xs : List A) (n i : ℕ) (x : A) → get_elem? (take n xs) i ≡ some x →
     (get_elem? xs i ≡ some x) × (i < n)
@@ -253,27 +254,27 @@ module _ (names : SessionNames) (well : IsWellFormed names.script) (logs : LogsV
     noted =
         let first = at_label started.at (Look lane place (Some started.note)) started.sees in
         let second = at_label (suc started.at) (Load started.load) started.loads in
-        let third = at_label (suc (suc started.at)) (Draw started.changes started.found) started.draws in
+        let third = at_label (suc (suc started.at)) (Draw started.shown started.changes started.found) started.draws in
         let here_is = there (suc (suc started.at)) third.0 third.1 in
         let drew =
-        draw_label third.0 started.changes started.found
+        draw_label third.0 started.shown started.changes started.found
         (plain_label names logs labels are lane (suc (suc started.at)) third.0 here_is.0) third.2 in
-        let start : IsStart so_far started.at lane place started.note started.load drew.0 started.changes started.found =
+        let start : IsStart so_far started.at lane place started.note started.load started.shown started.changes started.found =
         record {
           sees = first.1 ∙ ap some (look_label first.0 lane place (Some started.note) first.2);
           loads = second.1 ∙ ap some (load_label second.0 started.load second.2);
-          draws = third.1 ∙ ap some drew.1;
+          draws = third.1 ∙ ap some drew;
         } in
         record {
           note = started.note;
-          event = drew.0;
+          event = started.shown;
           changed = started.changes;
           drawn = started.found;
           made =
-              (made_of labels es all.0 lane (suc (suc started.at)) (shows drew.0 started.changes started.found)
-              (here_is.0 ∙ ap some drew.1) here_is.1).0;
+              (made_of labels es all.0 lane (suc (suc started.at)) (shows started.shown started.changes started.found)
+              (here_is.0 ∙ ap some drew) here_is.1).0;
           starts =
-              starts_at names (logs.lists opener) lane place started.note has_cell started.load drew.0 started.changes
+              starts_at names (logs.lists opener) lane place started.note has_cell started.load started.shown started.changes
               started.found between.earlier are_parts started.at start;
           op = note_is;
         }

@@ -71,17 +71,18 @@ entry_of (shows other change drawn ∷ labels) (suc i) shown changes found there
     let e = entry_of labels i shown changes found there in (suc e.0, e.1)
 
 -- a step that draws shows an event
-pub shown_by_draw : (label : Labelled) → IsPlain label → (changes : Change) (found : Found) → step_of label ≡ Draw changes found →
-    (shown : Event) × (label ≡ shows shown changes found)
-shown_by_draw (silent step) plain changes found is =
-    absurd (let none : 0 ≡ draw_count (Draw changes found) = sym plain.0 ∙ ap draw_count is in omega (arith, none))
-shown_by_draw (allots act lane place) plain changes found is =
-    absurd (let wrong : Place lane place ≡ Draw changes found = is in cc)
-shown_by_draw (shows shown change drawn) plain changes found is =
-    let drawn_is : Draw change drawn ≡ Draw changes found = is in
+pub shown_by_draw : (label : Labelled) → IsPlain label → (drew : Event) (changes : Change) (found : Found) →
+    step_of label ≡ Draw drew changes found → label ≡ shows drew changes found
+shown_by_draw (silent step) plain drew changes found is =
+    absurd (let none : 0 ≡ draw_count (Draw drew changes found) = sym plain.0 ∙ ap draw_count is in omega (arith, none))
+shown_by_draw (allots act lane place) plain drew changes found is =
+    absurd (let wrong : Place lane place ≡ Draw drew changes found = is in cc)
+shown_by_draw (shows shown change drawn) plain drew changes found is =
+    let drawn_is : Draw shown change drawn ≡ Draw drew changes found = is in
+    let event_is : shown ≡ drew = cc in
     let change_is : change ≡ changes = cc in
     let found_is : drawn ≡ found = cc in
-    (shown, ap (λ c. shows shown c drawn) change_is ∙ ap (λ f. shows shown changes f) found_is)
+    λ i. shows (event_is i) (change_is i) (found_is i)
 
 -- what has an entry is a list's
 seated : (logs : List (List LogEntry)) (seat at : ℕ) (entry : LogEntry) →
@@ -105,15 +106,15 @@ module _ (names : SessionNames) (logs : LogsView) (logged : AreLogs names logs)
       drawn_by (labels seat) at entry (subst (λ es. get_elem? es at ≡ some entry) (sym (labelled.entries seat)) there)
 
   step_is : (entry : LogEntry) (seat : ℕ) (d : IsDrawnBy (labels seat) entry) →
-      get_elem? (logs.lists seat) d.at ≡ some (Draw d.changes d.found)
+      get_elem? (logs.lists seat) d.at ≡ some (Draw entry.event d.changes d.found)
   step_is entry seat d =
-      subst (λ steps. get_elem? steps d.at ≡ some (Draw d.changes d.found)) (labelled.steps seat)
+      subst (λ steps. get_elem? steps d.at ≡ some (Draw entry.event d.changes d.found)) (labelled.steps seat)
       (step_of_label (labels seat) d.at (shows entry.event d.changes d.found) d.label)
 
   fits : (entry : LogEntry) → IsEntryIn logs.entries entry → entry.position < logs.last.clock
   fits entry is =
       let d = draw_of entry is.seat is.at is.there in
-      omega (arith, once.below is.seat d.at d.changes d.found (step_is entry is.seat d), d.position)
+      omega (arith, once.below is.seat d.at d.changes d.found (entry.event, step_is entry is.seat d), d.position)
 
   -- two entries at one position are of one draw
   agrees : (entry other : LogEntry) → IsEntryIn logs.entries entry → IsEntryIn logs.entries other →
@@ -121,8 +122,8 @@ module _ (names : SessionNames) (logs : LogsView) (logged : AreLogs names logs)
   agrees entry other is also same =
       let d = draw_of entry is.seat is.at is.there in
       let e = draw_of other also.seat also.at also.there in
-      let at_once = once.once is.seat d.at also.seat e.at d.changes e.changes d.found e.found (step_is entry is.seat d)
-      (step_is other also.seat e) (d.position ∙ same ∙ sym e.position) in
+      let at_once = once.once is.seat d.at also.seat e.at d.changes e.changes d.found e.found (entry.event, step_is entry is.seat d)
+      (other.event, step_is other also.seat e) (d.position ∙ same ∙ sym e.position) in
       let both : some (shows entry.event d.changes d.found) ≡ some (shows other.event e.changes e.found) =
       sym d.label ∙ (ap (λ n. get_elem? (labels n) d.at) at_once.0
       ∙ (ap (get_elem? (labels also.seat)) at_once.1 ∙ e.label)) in
@@ -133,17 +134,17 @@ module _ (names : SessionNames) (logs : LogsView) (logged : AreLogs names logs)
       (shown : Event) × IsEntryIn logs.entries (record { position = position; event = shown })
   shown_at position less =
       let h = once.each position less in
-      let step = label_of_step (labels h.0) h.1 (Draw h.2 h.3)
-      (subst (λ steps. get_elem? steps h.1 ≡ some (Draw h.2 h.3)) (sym (labelled.steps h.0)) h.4) in
-      let draw = shown_by_draw step.0 (plain_label names logs labels labelled h.0 h.1 step.0 step.1) h.2 h.3 step.2 in
-      let entry = entry_of (labels h.0) h.1 draw.0 h.2 h.3 (step.1 ∙ ap some draw.1) in (
-        draw.0,
+      let step = label_of_step (labels h.0) h.1 (Draw h.4.0 h.2 h.3)
+      (subst (λ steps. get_elem? steps h.1 ≡ some (Draw h.4.0 h.2 h.3)) (sym (labelled.steps h.0)) h.4.1) in
+      let draw = shown_by_draw step.0 (plain_label names logs labels labelled h.0 h.1 step.0 step.1) h.4.0 h.2 h.3 step.2 in
+      let entry = entry_of (labels h.0) h.1 h.4.0 h.2 h.3 (step.1 ∙ ap some draw) in (
+        h.4.0,
         record {
           seat = h.0;
           at = entry.0;
           there =
-              subst (λ es. get_elem? es entry.0 ≡ some (record { position = position; event = draw.0 })) (labelled.entries h.0)
-              (subst (λ p. get_elem? (entries_in (labels h.0)) entry.0 ≡ some (record { position = p; event = draw.0 })) h.5
+              subst (λ es. get_elem? es entry.0 ≡ some (record { position = position; event = h.4.0 })) (labelled.entries h.0)
+              (subst (λ p. get_elem? (entries_in (labels h.0)) entry.0 ≡ some (record { position = p; event = h.4.0 })) h.5
               entry.1);
         },
       )

@@ -51,7 +51,7 @@ module _ (lane place : ℕ) (note : Note) where
 
     by_step : (step : ClockStep) → e.step ≡ step → cell_with lane place step (cell_after lane place es) ≡ Some note →
         IsPutIn (e ∷ es) lane place note
-    by_step (Draw changes found) is full = before full
+    by_step (Draw shown changes found) is full = before full
     by_step (Load found) is full = before full
     by_step (Place at p) is full = before full
     by_step (Put at p other) is full = by_test at p other ((lane == at) && (place == p)) refl is full
@@ -69,7 +69,7 @@ pub record IsBehind (last : Labelled) (lane place : ℕ) (note : Note) : Type 0 
   pub called : note ≡ call_note note.op
 
 abbrev pub PutAfter : Labelled → Labelled → Type 0
-PutAfter last (silent (Draw changes found)) = Unit {0}
+PutAfter last (silent (Draw shown changes found)) = Unit {0}
 PutAfter last (silent (Load found)) = Unit {0}
 PutAfter last (silent (Place lane place)) = Unit {0}
 PutAfter last (silent (Put lane place note)) = IsBehind last lane place note
@@ -119,7 +119,7 @@ module _ (script : ScriptModel) where
       behind-append labels made last (calls_behind before last) (λ last. call_behind now last)
 
   resting_behind : (step : ClockStep) → IsRestingStep step → (last : Labelled) → PutsBehind last (silent step ∷ [])
-  resting_behind (Draw changes found) rests last = absurd rests
+  resting_behind (Draw shown changes found) rests last = absurd rests
   resting_behind (Load found) rests last = (tt, tt)
   resting_behind (Place lane place) rests last = absurd rests
   resting_behind (Put lane place note) rests last = absurd rests
@@ -146,7 +146,7 @@ module _ (script : ScriptModel) where
 module _ (names : SessionNames) (opener : List ClockStep) (lane : ℕ) (away : lane ≢ reactor_lane names.script) where
   idle_behind : (earlier : List Part) (step : ClockStep) → IsIdleStep names opener lane earlier step → (last : Labelled) →
       PutsBehind last (silent step ∷ [])
-  idle_behind earlier (Draw changes found) is last = absurd is
+  idle_behind earlier (Draw shown changes found) is last = absurd is
   idle_behind earlier (Load found) is last = (tt, tt)
   idle_behind earlier (Place at place) is last = absurd is
   idle_behind earlier (Put at place note) is last = absurd is

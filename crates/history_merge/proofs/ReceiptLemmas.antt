@@ -149,7 +149,7 @@ module _ (names : SessionNames) (well : IsWellFormed names.script) (logs : LogsV
 
       -- what the reactor told it drew
       draws_done : (lane place : ℕ) (note : Note) (done : IsDoneNote names logs labels are within whole lane place note) →
-          StepAt logs.lists r (length (steps_under r done.told.older)) (Draw change.Same done.found)
+          StepAt logs.lists r (length (steps_under r done.told.older)) (Draw (event.Done note.op note.code note.size) change.Same done.found)
       draws_done lane place note done =
           let i : ℕ = length (steps_under r done.told.older) in
           ap (λ xs. get_elem? xs i) (sym (are.steps r))
@@ -203,10 +203,10 @@ module _ (names : SessionNames) (well : IsWellFormed names.script) (logs : LogsV
               before =
                   logged.closed.rule.draws_once.rises r (length (steps_under r first.told.older))
                   (length (steps_under r second.told.older)) change.Same first.found second.found
-                  (omega (arith, before, next, then_next)) (draws_done lane one.place (note_of one) first) (
-                    Draw change.Same second.found,
+                  (omega (arith, before, next, then_next)) (done_of one, draws_done lane one.place (note_of one) first) (
+                    Draw (done_of other) change.Same second.found,
                     draws_done lane other.place (note_of other) second,
-                    by_draw change.Same second.found,
+                    by_draw (done_of other) change.Same second.found,
                   );
               there = done_at lane one.place one first;
               then_there = done_at lane other.place other second;

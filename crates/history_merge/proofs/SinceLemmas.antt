@@ -127,7 +127,7 @@ module _ (names : SessionNames) (logs : LogsView) (labels : ℕ → List Labelle
               own here.0 shown changes found (here.1 ∙ ap some is) (state older) before
           | inr other ↦ elim (cases_eq f.by (opener_seat names.script)) [
             | inl opens ↦
-                absurd (none_drawn names logs labels logged are e es tail within at draws f older made since opens changes found
+                absurd (none_drawn names logs labels logged are e es tail within at draws f older made since opens shown changes found
                 (sym labelled.step ∙ ap step_of is))
             | inr away ↦
                 others (state older) shown (shown_may f older made shown changes found is)

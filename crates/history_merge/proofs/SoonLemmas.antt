@@ -171,7 +171,7 @@ lane_soon names opener lane earlier (missing place note) may = (tt, tt)
 module _ (lane place : ℕ) (note : Note) where
   cell_on : (guards n : ℕ) (es : List ClockEvent) (step : ClockStep) → Fits guards es n step →
       cell_after lane place es ≡ Some note → cell_with lane place step (cell_after lane place es) ≡ Some note
-  cell_on guards n es (Draw changes found) fits full = full
+  cell_on guards n es (Draw shown changes found) fits full = full
   cell_on guards n es (Load found) fits full = full
   cell_on guards n es (Place at p) fits full = full
   cell_on guards n es (Look at p held) fits full = full
@@ -230,7 +230,7 @@ module _ (labels : ℕ → List Labelled) (lane : ℕ) where
         let step_is : step ≡ Place at p = ap step_of (sym here) ∙ (labelled.step ∙ is) in
         absurd (let wrong = ap place_count step_is in let none = plain.1 in omega (arith, wrong, none))
     by_label (shows shown changes found) here at p is plain same value =
-        absurd (let wrong : Draw changes found ≡ Place at p = ap step_of (sym here) ∙ (labelled.step ∙ is) in cc)
+        absurd (let wrong : Draw shown changes found ≡ Place at p = ap step_of (sym here) ∙ (labelled.step ∙ is) in cc)
     by_label (allots act on q) here at p is plain same value =
         let step_is : Place on q ≡ Place at p = ap step_of (sym here) ∙ (labelled.step ∙ is) in
         let first : on ≡ at = cc in
@@ -260,7 +260,7 @@ module _ (labels : ℕ → List Labelled) (lane : ℕ) where
 
     by_step : (guards : ℕ) (step : ClockStep) → e.step ≡ step → Fits guards es e.by step →
         place < places_with lane step (places_after lane es) → IsGot (e ∷ es) place
-    by_step guards (Draw changes found) is fits less = earlier less
+    by_step guards (Draw shown changes found) is fits less = earlier less
     by_step guards (Load found) is fits less = earlier less
     by_step guards (Place at p) is fits less = by_test at p is fits.0 (lane == at) refl less
     by_step guards (Put at p note) is fits less = earlier less

@@ -354,8 +354,8 @@ module _ (names : SessionNames) (well : IsWellFormed names.script) (logs : LogsV
     stops_found : (shown : Event) (changes : Change) (found : Found) → label_of labels es e ≡ shows shown changes found →
         found.stops ≡ (halts_of (shown_in labels es)).stops
     stops_found shown changes found is =
-        let step : e.step ≡ Draw changes found = sym all.1.step ∙ ap step_of is in
-        let fits : Fits names.script.guards es e.by (Draw changes found) = subst (Fits names.script.guards es e.by) step sound.2 in
+        let step : e.step ≡ Draw shown changes found = sym all.1.step ∙ ap step_of is in
+        let fits : Fits names.script.guards es e.by (Draw shown changes found) = subst (Fits names.script.guards es e.by) step sound.2 in
         ap (λ (f : Found). f.stops) (fits.0 ∙ counts)
 
     still_halts : (label : Labelled) → label_of labels es e ≡ label → shown_by label ≡ [] →

@@ -248,7 +248,7 @@ module _ (labels : ℕ → List Labelled) where
   -- Places of a lane are numbered in the order in which they were drawn
   module _ (lane : ℕ) where
     places_more : (step : ClockStep) (k : ℕ) → k ≤ places_with lane step k
-    places_more (Draw changes found) k = omega arith
+    places_more (Draw shown changes found) k = omega arith
     places_more (Load found) k = omega arith
     places_more (Place at place) k = by (lane == at)
       where

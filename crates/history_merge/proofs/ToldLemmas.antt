@@ -42,7 +42,7 @@ IsPlacedFor script last other = is_of_turn other ≡ true
 
 -- what a label of the reactor's list stands behind
 abbrev pub StandsBehind : ScriptModel → Labelled → Labelled → Labelled → Type 0
-StandsBehind script first last (silent (Draw changes found)) = Unit {0}
+StandsBehind script first last (silent (Draw shown changes found)) = Unit {0}
 StandsBehind script first last (silent (Load found)) = Unit {0}
 StandsBehind script first last (silent (Place lane place)) = Unit {0}
 StandsBehind script first last (silent (Put lane place note)) = IsToldOf script first last lane place note
@@ -145,7 +145,7 @@ module _ (names : SessionNames) (logs : LogsView) (labels : ℕ → List Labelle
 
   idle_behind : (parts : List Part) (step : ClockStep) → IsIdleStep names (logs.lists (opener_seat script)) lane parts step →
       Behind script (silent step ∷ [])
-  idle_behind parts (Draw changes found) is = absurd is
+  idle_behind parts (Draw shown changes found) is = absurd is
   idle_behind parts (Load found) is = λ first last. (tt, tt)
   idle_behind parts (Place at place) is = absurd is
   idle_behind parts (Put at place note) is = absurd is

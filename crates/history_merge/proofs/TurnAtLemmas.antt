@@ -246,11 +246,11 @@ module _ (names : SessionNames) (logs : LogsView) (labels : ℕ → List Labelle
           ∙ begun_at.2))
 
       first_turn : Turns
-          (state_at names.script names.told labels (made_event e.by (Draw begun_at.1 t.part.drawn) ∷ begun.older))
+          (state_at names.script names.told labels (made_event e.by (Draw (start_event t.part.start) begun_at.1 t.part.drawn) ∷ begun.older))
       first_turn =
           let s : State = state_at names.script names.told labels begun.older in
           subst Turns
-          (sym (state_next names.script names.told labels (made_event e.by (Draw begun_at.1 t.part.drawn)) begun.older
+          (sym (state_next names.script names.told labels (made_event e.by (Draw (start_event t.part.start) begun_at.1 t.part.drawn)) begun.older
           ∙ ap (λ label. state_with names.script names.told label s) begun.label))
           (subst (λ (part : RoundPart). IsSome part.turn)
           (sym (part-after names.script s.context (start_event t.part.start)))
@@ -260,7 +260,7 @@ module _ (names : SessionNames) (logs : LogsView) (labels : ℕ → List Labelle
 
       pub turn_goes : IsSome (state_at names.script names.told labels es).context.turn
       turn_goes =
-          let since : List ClockEvent = made_event e.by (Draw begun_at.1 t.part.drawn) ∷ begun.older in
+          let since : List ClockEvent = made_event e.by (Draw (start_event t.part.start) begun_at.1 t.part.drawn) ∷ begun.older in
           let grown = under_length e.by begun.older since (inr (tail_refl begun.older)) in
           kept_since names logs labels logged are e es tail within (at_of t) turn_draws legal turn_may.reactor Turns
           (λ j shown changes found there s going.

@@ -56,7 +56,7 @@ use Rattle.history_merge.proofs.WholeLemmas.{place_full, whole_long}
 joined_by : (n : ℕ) (steps : List ClockStep) (i : ℕ) → i < joined_count n steps →
     (h : ℕ) × (counts : List ℕ) × (get_elem? steps h ≡ some (Join counts)) × (i < slice_index counts n)
 joined_by n [] i less = absurd (omega (arith, less))
-joined_by n (Draw change found ∷ steps) i less = let rest = joined_by n steps i less in (suc rest.0, rest.1, rest.2, rest.3)
+joined_by n (Draw shown change found ∷ steps) i less = let rest = joined_by n steps i less in (suc rest.0, rest.1, rest.2, rest.3)
 joined_by n (Load found ∷ steps) i less = let rest = joined_by n steps i less in (suc rest.0, rest.1, rest.2, rest.3)
 joined_by n (Place lane place ∷ steps) i less = let rest = joined_by n steps i less in (suc rest.0, rest.1, rest.2, rest.3)
 joined_by n (Put lane place note ∷ steps) i less = let rest = joined_by n steps i less in (suc rest.0, rest.1, rest.2, rest.3)

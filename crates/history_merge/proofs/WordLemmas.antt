@@ -48,7 +48,7 @@ pub record IsCountedBy (script : ScriptModel) (told : Bool) (s : State) (halts :
   pub few_stops : (halts_with shown halts).stops < 2 ^ 16
 
 pub word_still : (step : ClockStep) (word : ℕ) → draw_count step ≡ 0 → word_with step word ≡ word
-word_still (Draw changes found) word none = absurd (omega (arith, none))
+word_still (Draw shown changes found) word none = absurd (omega (arith, none))
 word_still (Load found) word none = refl
 word_still (Place lane place) word none = refl
 word_still (Put lane place note) word none = refl
@@ -113,7 +113,7 @@ module _ (script : ScriptModel) (told : Bool) (labels : ℕ → List Labelled) (
       by_label (shows shown changes found) here =
           let by : IsCountedBy script told (state_at script told labels es) (halts_of (shown_in labels es)) shown changes =
           counts shown changes found here in
-          let step : e.step ≡ Draw changes found = sym is.step ∙ ap step_of here in
+          let step : e.step ≡ Draw shown changes found = sym is.step ∙ ap step_of here in
           let clock = ap (λ (f : Found). f.clock) before in
           let work = ap (λ (f : Found). f.work) before in
           let stops = ap (λ (f : Found). f.stops) before in
@@ -129,7 +129,7 @@ module _ (script : ScriptModel) (told : Bool) (labels : ℕ → List Labelled) (
           let next : found_of (word_after script.guards (e ∷ es))
           ≡ parts_with changes (found_of (word_after script.guards es)) =
           ap (λ step. found_of (word_with step (word_after script.guards es))) step
-          ∙ draws_change_parts script.guards es e.by changes found guards stay in
+          ∙ draws_change_parts script.guards es e.by shown changes found guards stay in
           let longer : shown_in labels (e ∷ es) ≡ shown_in labels es ++ shown ∷ [] =
           ap (λ label. shown_in labels es ++ shown_by label) here in
           let after : state_at script told labels (e ∷ es)

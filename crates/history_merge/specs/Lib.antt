@@ -1,4 +1,5 @@
 pub mod Among
+pub mod Drawn
 pub mod Merging
 pub mod Ordering
 pub mod Placing

@@ -88,9 +88,10 @@ module _ (script : ScriptModel) (lists : ℕ → List ClockStep) where
 
   -- the opener's step j closes the last round
   pub record ClosesLast (j : ℕ) : Type 0 where
+    pub shown : Event
     pub changes : Change
     pub found : Found
-    pub drawn : StepAt lists (opener_seat script) j (Draw changes found)
+    pub drawn : StepAt lists (opener_seat script) j (Draw shown changes found)
     pub round : is_round_open script (stand_before j) ≡ true
     pub last : (stand_before j).closings + 1 ≡ length script.rounds
 

@@ -1,7 +1,9 @@
 //! What holds of the logs of a session and of what is made of them. These functions run nothing.
+ghost use Rattle.lane_logs.specs.Drawn.{LogsAreDrawn};
 ghost use Rattle.lane_logs.specs.Logs.{AreLogs, LogsView};
 ghost use Rattle.lane_logs.specs.Names.{SessionNames};
 ghost use Rattle.history_merge.specs.Among.{ExecutionsStayLegal};
+ghost use Rattle.history_merge.specs.Drawn.{EndsAreAnswered, HistoryIsDrawn};
 ghost use Rattle.history_merge.specs.Merging.{MergedIsLegal};
 ghost use Rattle.history_merge.specs.Ordering.{ArePositioned};
 ghost use Rattle.history_merge.specs.Receipts.{ReceiptsOfSessionsHold, UnfoundAreAbsent, UnfoundAtRestAreAbsent};
@@ -24,6 +26,18 @@ pub fn logs_are_positioned()
 {
     positions_are_drawn_once();
 }
+
+/// Each event of a session was fixed when its position was drawn: a log has the events that its
+/// seat's draws were told, at the positions that they found, and no other, and so has the merged
+/// history. The end of a handler was told what the handler answers to a call with what its begin
+/// says and the begin's position. The mark and the position are numbers that only the call and the
+/// draw of the begin give: so the call was made behind that draw, and had returned before the draw
+/// of the end.
+pub fn events_are_drawn()
+    ensures logs { LogsAreDrawn }
+    ensures history { HistoryIsDrawn }
+    ensures ends { EndsAreAnswered }
+{}
 
 /// The logs of a session, put together, are one legal history of its script on one io_context, with
 /// the marks that are named: for every script, every number of lanes and workers, and every order in

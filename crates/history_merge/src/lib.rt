@@ -10,8 +10,8 @@ mod placing;
 mod room;
 
 pub use law::{
-    executions_stay_legal, logs_are_positioned, merged_logs_are_legal, merged_logs_fit,
-    receipts_hold, unfound_are_absent, unfound_at_rest_are_absent,
+    events_are_drawn, executions_stay_legal, logs_are_positioned, merged_logs_are_legal,
+    merged_logs_fit, receipts_hold, unfound_are_absent, unfound_at_rest_are_absent,
 };
 pub use merging::{merge, put_together};
 pub use room::HistoryRoom;

@@ -54,7 +54,7 @@ full_once lane place at p x note held other full same none = go (eqb lane at) (e
 
 cell_step : (guards : ℕ) (es : List ClockEvent) (lane place n : ℕ) (x : Note) (st : ClockStep) → Fits guards es n st →
     cell_after lane place es ≡ Some x → cell_with lane place st (cell_after lane place es) ≡ Some x
-cell_step g es lane place n x (Draw c f) fits h = h
+cell_step g es lane place n x (Draw shown c f) fits h = h
 cell_step g es lane place n x (Load f) fits h = h
 cell_step g es lane place n x (Place at p) fits h = h
 cell_step g es lane place n x (Put at p note) fits h =
@@ -98,7 +98,7 @@ each_put lane place x (e ∷ es) h = go (each_put lane place x es) e.step h
     go : (cell_after lane place es ≡ Some x → (m : ℕ) × (i : ℕ) × Puts (λ n. steps_under n es) m i lane place x) →
         (st : ClockStep) → cell_with lane place st (cell_after lane place es) ≡ Some x →
         (m : ℕ) × (i : ℕ) × Puts (λ n. steps_under n (event e.by st ∷ es)) m i lane place x
-    go back (Draw c f) q = lift (Draw c f) (back q)
+    go back (Draw shown c f) q = lift (Draw shown c f) (back q)
     go back (Load f) q = lift (Load f) (back q)
     go back (Place at p) q = lift (Place at p) (back q)
     go back (Put at p note) q = put back at p note (eqb lane at) (eqb place p) refl refl q
@@ -135,7 +135,7 @@ each_placed g s (e ∷ es) sound lane k lt = go (each_placed g s es sound.0 lane
     go : (k < places_after lane es → (m : ℕ) × (i : ℕ) × Places (λ n. steps_under n es) m i lane k) → (st : ClockStep) →
         Fits g es e.by st → k < places_with lane st (places_after lane es) →
         (m : ℕ) × (i : ℕ) × Places (λ n. steps_under n (event e.by st ∷ es)) m i lane k
-    go back (Draw c f) fits l = old back (Draw c f) l
+    go back (Draw shown c f) fits l = old back (Draw shown c f) l
     go back (Load f) fits l = old back (Load f) l
     go back (Place at p) fits l = place back at p fits.0 (eqb lane at) refl l
     go back (Put at p note) fits l = old back (Put at p note) l

@@ -21,7 +21,7 @@ drawn_grows a (x ∷ es) (inl h) = let e : drawn a ≡ drawn (x ∷ es) = ap dra
 drawn_grows a (x ∷ es) (inr h) = let e : drawn a ≤ drawn es = drawn_grows a es h in omega arith
 
 still : (st : ClockStep) (w : ℕ) → draw_count st ≡ 0 → word_with st w ≡ w
-still (Draw change found) w h = absurd (omega arith)
+still (Draw shown change found) w h = absurd (omega arith)
 still (Load found) w h = refl
 still (Place lane place) w h = refl
 still (Put lane place note) w h = refl
@@ -44,7 +44,7 @@ word_bounded g h [] = omega arith
 word_bounded g h (e ∷ es) = go e.step (word_after g es) (word_bounded g h es)
   where
     go : (st : ClockStep) (w : ℕ) → w < 2 ^ 64 → word_with st w < 2 ^ 64
-    go (Draw change found) w l = omega arith
+    go (Draw shown change found) w l = omega arith
     go (Load found) w l = l
     go (Place lane place) w l = l
     go (Put lane place note) w l = l
@@ -65,7 +65,7 @@ clock_counts g (e ∷ es) l = go e.step (clock_counts g es (omega arith)) l
   where
     go : (st : ClockStep) → word_after g es % 2 ^ 32 ≡ drawn es → draw_count st + drawn es < 2 ^ 32 →
         word_with st (word_after g es) % 2 ^ 32 ≡ draw_count st + drawn es
-    go (Draw c found) h m = ticks c (word_after g es) (drawn es) h (omega arith)
+    go (Draw shown c found) h m = ticks c (word_after g es) (drawn es) h (omega arith)
     go (Load found) h m = h ∙ omega arith
     go (Place lane place) h m = h ∙ omega arith
     go (Put lane place note) h m = h ∙ omega arith

@@ -70,7 +70,7 @@ Rooms f guards =
     (f st ≡ 0) ⊎ ((f st ≡ 1) × (step_count f (steps_under n es) < 65536))
 
 draw_rooms : (guards : ℕ) → Rooms draw_count guards
-draw_rooms g es n (Draw change found) h = inr (refl, h.1)
+draw_rooms g es n (Draw shown change found) h = inr (refl, h.1)
 draw_rooms g es n (Load found) h = inl refl
 draw_rooms g es n (Place lane place) h = inl refl
 draw_rooms g es n (Put lane place note) h = inl refl
@@ -78,7 +78,7 @@ draw_rooms g es n (Look lane place held) h = inl refl
 draw_rooms g es n (Join counts) h = inl refl
 
 place_rooms : (guards : ℕ) → Rooms place_count guards
-place_rooms g es n (Draw change found) h = inl refl
+place_rooms g es n (Draw shown change found) h = inl refl
 place_rooms g es n (Load found) h = inl refl
 place_rooms g es n (Place lane place) h = inr (refl, h.1)
 place_rooms g es n (Put lane place note) h = inl refl
@@ -125,7 +125,7 @@ few_drawn g n es few s =
 
 pub places_step : (lane k : ℕ) (st : ClockStep) →
     (places_with lane st k ≡ k) ⊎ ((places_with lane st k ≡ k + 1) × (place_count st ≡ 1))
-places_step lane k (Draw change found) = inl refl
+places_step lane k (Draw shown change found) = inl refl
 places_step lane k (Load found) = inl refl
 places_step lane k (Place at place) = go (eqb lane at)
   where

@@ -62,7 +62,7 @@ word_drawn change w small stay =
     omega arith
 
 pub draws_change_parts : DrawsChangeParts
-draws_change_parts guards es n change found few stay =
+draws_change_parts guards es n shown change found few stay =
     let w : ℕ = word_after guards es in
     ap found_of (word_drawn change w (word_bounded guards few es) stay)
     ∙ parts_again (w % 2 ^ 32 + 1) (w / 2 ^ 32 % 2 ^ 16 + up_of change - down_of change) (w / 2 ^ 48 + stop_of change)

@@ -13,7 +13,7 @@ use Rattle.lane_clock.specs.Changes.{sum_below, up_of, down_of, stop_of, ups_bel
 use Rattle.lane_clock.specs.Layout.{Layout}
 use Rattle.lane_clock.specs.History.{steps_under, word_after, words_after}
 use Rattle.lane_clock.specs.Closing.{Closed}
-use Rattle.lane_clock.specs.Laws.{HoldsBetweenSteps, ChangesStand, WorkAddsUp, NotesAreOlder}
+use Rattle.lane_clock.specs.Laws.{HoldsBetweenSteps, ChangesStand, WorkAddsUp, NotesAreOlder, PositionsAreOnce}
 use Rattle.lane_clock.proofs.PartLemmas.{rule_of}
 
 pub holds_between : HoldsBetweenSteps
@@ -30,6 +30,15 @@ holds_between plan s kept = record {
 last_clock : (lists : ℕ → List ClockStep) (plan : Layout) (last : Found) (c : Closed lists plan last) →
     clock_in (words_after plan.guards c.history) ≡ last.clock
 last_clock lists plan last c = let w = c.word in let a : last.clock < 2 ^ 32 = c.parts.0 in omega arith
+
+pub positions_are_once : PositionsAreOnce
+positions_are_once lists plan last c =
+    let clock = last_clock lists plan last c in record {
+      below = λ m i change found h.
+          subst (λ n. found.clock < n) clock (c.rule.draws_once.below m i change found h);
+      each = λ k lt. c.rule.draws_once.each k (subst (λ n. k < n) (sym clock) lt);
+      once = c.rule.draws_once.once;
+    }
 
 pub changes_stand : ChangesStand
 changes_stand lists plan last c = (
@@ -149,7 +158,7 @@ module _ (lists : ℕ → List ClockStep) (plan : Layout) (last : Found) (c : Cl
 
       go : (st : ClockStep) → get_elem? (lists m) i ≡ some st → (g : Found) → IsFinding st g → g.clock ≡ n →
           word_of g ≡ whole n
-      go _ at _ (by_draw d g) q = draws_sum n are m i d g at q
+      go _ at _ (by_draw shown d g) q = draws_sum n are m i d g (shown, at) q
       go _ at _ (by_load g) q = load g at q (cases_lt n last.clock)
 
   adds_up : (n : ℕ) (f : Found) → IsParted f → f.clock ≡ n → ChangesFit plan.guards changes n → word_of f ≡ whole n →

@@ -169,7 +169,7 @@ module _ (guards seats : ℕ) (small : guards < 2 ^ 15) (few : seats ≤ 2 ^ 15)
     before = λ n j m counts h.
         let q = moment_of es n j (Join counts) h in
         precedes_by guards seats small few es sound m (slice_index counts m) n j (Join counts) q
-        (λ a c d lt p. joined_before n j m a counts (Draw c d) q p lt);
+        (λ a shown c d lt p. joined_before n j m a counts (Draw shown c d) q p lt);
   }
 
   -- no look finds a cell empty after it was put

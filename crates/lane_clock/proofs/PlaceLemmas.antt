@@ -33,7 +33,7 @@ drawn_at lane place (s ∷ ss) h = go (drawn_at lane place ss) s (is_place lane 
     same at p false c f g e = absurd (false≢true e)
 
     is_it : (t : ClockStep) → is_place lane place t ≡ true → t ≡ Place lane place
-    is_it (Draw c f) e = absurd (false≢true e)
+    is_it (Draw shown c f) e = absurd (false≢true e)
     is_it (Load f) e = absurd (false≢true e)
     is_it (Place at p) e = same at p (eqb lane at) (eqb place p) refl refl e
     is_it (Put at p note) e = absurd (false≢true e)
@@ -71,7 +71,7 @@ put_at lane place (s ∷ ss) h = go (put_at lane place ss) s (is_put lane place 
     same at p note false c f g e = absurd (false≢true e)
 
     is_it : (t : ClockStep) → is_put lane place t ≡ true → (note : Note) × (t ≡ Put lane place note)
-    is_it (Draw c f) e = absurd (false≢true e)
+    is_it (Draw shown c f) e = absurd (false≢true e)
     is_it (Load f) e = absurd (false≢true e)
     is_it (Place at p) e = absurd (false≢true e)
     is_it (Put at p note) e = (note, same at p note (eqb lane at) (eqb place p) refl refl e)
@@ -97,7 +97,7 @@ held_is g s lane place (e ∷ es) sound = go e.step sound.2 (held_is g s lane pl
 
     go : (st : ClockStep) → Fits g es e.by st → IsHeld (cell_after lane place es) →
         IsHeld (cell_with lane place st (cell_after lane place es))
-    go (Draw c f) fits h = h
+    go (Draw shown c f) fits h = h
     go (Load f) fits h = h
     go (Place at p) fits h = h
     go (Put at p note) fits h = either (eqb lane at && eqb place p) note (cell_after lane place es) fits.2 h

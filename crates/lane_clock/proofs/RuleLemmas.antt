@@ -4,6 +4,7 @@ use mathlib.Core.Option.{some}
 use lib.ListN.{get_elem?}
 use Rattle.std.proofs.lemmas.Bool.{cases_lt}
 use Rattle.atomic_table.proofs.Lists.{at_last}
+use Rattle.asio_types.specs.declared.event.Event.{Event}
 use Rattle.lane_clock.specs.declared.found.Found.{Found}
 use Rattle.lane_clock.specs.declared.found.Change.{Change}
 use Rattle.lane_clock.specs.declared.step.ClockStep.{ClockStep}
@@ -29,7 +30,14 @@ each_drawn g s few (e ∷ es) sound k lt =
         × (found.clock ≡ k)) →
         (m : ℕ) × (i : ℕ) × (change : Change) × (found : Found) × Draws (λ n. steps_under n (e ∷ es)) m i change found
         × (found.clock ≡ k)
-    lift h = (h.0, h.1, h.2, h.3, at_later h.0 es (e ∷ es) h.1 (Draw h.2 h.3) (inr (tail_refl es)) h.4, h.5)
+    lift h = (
+      h.0,
+      h.1,
+      h.2,
+      h.3,
+      (h.4.0, at_later h.0 es (e ∷ es) h.1 (Draw h.4.0 h.2 h.3) (inr (tail_refl es)) h.4.1),
+      h.5,
+    )
 
     go : (st : ClockStep) → Fits g es e.by st
         → (k < drawn es →
@@ -38,15 +46,18 @@ each_drawn g s few (e ∷ es) sound k lt =
         → k < Rattle.lane_clock.specs.Steps.draw_count st + drawn es
         → (m : ℕ) × (i : ℕ) × (change : Change) × (found : Found)
         × Draws (λ n. steps_under n (event e.by st ∷ es)) m i change found × (found.clock ≡ k)
-    go (Draw c f) fits old l = ⊎_elim old
+    go (Draw shown c f) fits old l = ⊎_elim old
         (λ (ge : drawn es ≤ k). (
           e.by,
           length (steps_under e.by es),
           c,
           f,
-          subst (λ xs. get_elem? xs (length (steps_under e.by es)) ≡ some (Draw c f))
-              (sym (under_same es e.by (Draw c f)))
-              (at_last (steps_under e.by es) (Draw c f) (length (steps_under e.by es)) refl),
+          (
+            shown,
+            subst (λ xs. get_elem? xs (length (steps_under e.by es)) ≡ some (Draw shown c f))
+                (sym (under_same es e.by (Draw shown c f)))
+                (at_last (steps_under e.by es) (Draw shown c f) (length (steps_under e.by es)) refl),
+          ),
           found_clock g s es few sound.0 f fits.0 ∙ omega arith,
         ))
         (cases_lt k (drawn es))
@@ -62,8 +73,8 @@ module _ (guards seats : ℕ) (small : guards < 2 ^ 15) (few : seats ≤ 2 ^ 15)
   draws_once =
       let the : clock_in (words_after guards es) ≡ drawn es = the_clock guards seats small few es sound in record {
         below = λ m i c f h.
-            let p = moment_of es m i (Draw c f) h in
-            let x : drawn (event m (Draw c f) ∷ p.older) ≤ drawn es = drawn_grows _ es p.tail in
+            let p = moment_of es m i (Draw h.0 c f) h.1 in
+            let x : drawn (event m (Draw h.0 c f) ∷ p.older) ≤ drawn es = drawn_grows _ es p.tail in
             let y : f.clock ≡ drawn p.older = draw_clock guards seats small few es sound m i c f p in
             omega arith;
         each = λ k lt. each_drawn guards seats few es sound k (omega arith);
@@ -79,10 +90,10 @@ module _ (guards seats : ℕ) (small : guards < 2 ^ 15) (few : seats ≤ 2 ^ 15)
             let z : g.clock ≡ drawn q.moment.older = q.clock in
             omega arith;
         rises = λ m i j c f g lt hf hg.
-            let p = moment_of es m i (Draw c f) hf in
+            let p = moment_of es m i (Draw hf.0 c f) hf.1 in
             let q = finding guards seats small few es sound m j g hg in
-            let x : drawn (event m (Draw c f) ∷ p.older) ≤ drawn q.moment.older =
-            drawn_grows _ _ (in_order es m i j (Draw c f) q.step p q.moment lt) in
+            let x : drawn (event m (Draw hf.0 c f) ∷ p.older) ≤ drawn q.moment.older =
+            drawn_grows _ _ (in_order es m i j (Draw hf.0 c f) q.step p q.moment lt) in
             let y : f.clock ≡ drawn p.older = draw_clock guards seats small few es sound m i c f p in
             let z : g.clock ≡ drawn q.moment.older = q.clock in
             omega arith;
@@ -91,43 +102,43 @@ module _ (guards seats : ℕ) (small : guards < 2 ^ 15) (few : seats ≤ 2 ^ 15)
   pub changes_add_up : ChangesAddUp (λ n. steps_under n es) (words_after guards es) guards
   changes_add_up =
       let the : clock_in (words_after guards es) ≡ drawn es = the_clock guards seats small few es sound in
-      let word : (m i : ℕ) (c : Change) (f : Found) (p : Moment es m i (Draw c f)) →
+      let word : (m i : ℕ) (shown : Event) (c : Change) (f : Found) (p : Moment es m i (Draw shown c f)) →
       word_of f ≡ word_after guards p.older
-      = λ m i c f p.
-      let s = sound_at guards seats small few es sound m i (Draw c f) p in
+      = λ m i shown c f p.
+      let s = sound_at guards seats small few es sound m i (Draw shown c f) p in
       found_word guards seats p.older few s.0 small f s.2.0 in record {
         parted = λ m i f h.
             let q = finding guards seats small few es sound m i f h in
             let w : word_after guards q.moment.older < 2 ^ 64 = word_bounded guards small q.moment.older in
             subst IsParted (sym q.found) (omega arith, omega arith, omega arith);
         first = λ m i c f h e.
-            let p = moment_of es m i (Draw c f) h in
+            let p = moment_of es m i (Draw h.0 c f) h.1 in
             let y : f.clock ≡ drawn p.older = draw_clock guards seats small few es sound m i c f p in
-            word m i c f p ∙ sym (word_stays guards [] p.older (nil_tail p.older) (omega arith));
+            word m i h.0 c f p ∙ sym (word_stays guards [] p.older (nil_tail p.older) (omega arith));
         none = λ e. sym (word_stays guards [] es (nil_tail es) (omega arith));
         next = λ m i n j c d f g hf hg e.
-            let p = moment_of es m i (Draw c f) hf in
-            let q = moment_of es n j (Draw d g) hg in
+            let p = moment_of es m i (Draw hf.0 c f) hf.1 in
+            let q = moment_of es n j (Draw hg.0 d g) hg.1 in
             let k : f.clock ≡ drawn p.older = draw_clock guards seats small few es sound m i c f p in
             let l : g.clock ≡ drawn q.older = draw_clock guards seats small few es sound n j d g q in
             ⊎_elim
             (λ before.
-            word n j d g q
-            ∙ (sym (word_stays guards (event m (Draw c f) ∷ p.older) q.older before (omega arith))
-            ∙ ap (λ w. (w + amount c) % 2 ^ 64) (sym (word m i c f p))))
+            word n j hg.0 d g q
+            ∙ (sym (word_stays guards (event m (Draw hf.0 c f) ∷ p.older) q.older before (omega arith))
+            ∙ ap (λ w. (w + amount c) % 2 ^ 64) (sym (word m i hf.0 c f p))))
             (λ more.
             ⊎_elim
             (λ after.
-            let x : drawn (event n (Draw d g) ∷ q.older) ≤ drawn p.older = drawn_grows _ _ after in
+            let x : drawn (event n (Draw hg.0 d g) ∷ q.older) ≤ drawn p.older = drawn_grows _ _ after in
             absurd (omega arith))
-            (λ (one : One m i n j (Draw c f) (Draw d g) p.older q.older).
+            (λ (one : One m i n j (Draw hf.0 c f) (Draw hg.0 d g) p.older q.older).
             let x : drawn p.older ≡ drawn q.older = ap drawn one.older in absurd (omega arith)) more)
-            (order_of es m i n j (Draw c f) (Draw d g) p q);
+            (order_of es m i n j (Draw hf.0 c f) (Draw hg.0 d g) p q);
         last = λ m i c f h e.
-            let p = moment_of es m i (Draw c f) h in
+            let p = moment_of es m i (Draw h.0 c f) h.1 in
             let k : f.clock ≡ drawn p.older = draw_clock guards seats small few es sound m i c f p in
-            sym (word_stays guards (event m (Draw c f) ∷ p.older) es p.tail (omega arith))
-            ∙ ap (λ w. (w + amount c) % 2 ^ 64) (sym (word m i c f p));
+            sym (word_stays guards (event m (Draw h.0 c f) ∷ p.older) es p.tail (omega arith))
+            ∙ ap (λ w. (w + amount c) % 2 ^ 64) (sym (word m i h.0 c f p));
       }
     where
       nil_tail : (xs : List ClockEvent) → Tail [] xs
@@ -147,11 +158,11 @@ module _ (guards seats : ℕ) (small : guards < 2 ^ 15) (few : seats ≤ 2 ^ 15)
             omega arith;
         drawn = λ m i n j c f g hf hg e.
             let p = moment_of es m i (Load f) hf in
-            let q = moment_of es n j (Draw c g) hg in
+            let q = moment_of es n j (Draw hg.0 c g) hg.1 in
             let k : f.clock ≡ drawn p.older = load_clock guards seats small few es sound m i f p in
             let l : g.clock ≡ drawn q.older = draw_clock guards seats small few es sound n j c g q in
             let drew : g ≡ found_of (word_after guards q.older) =
-            (sound_at guards seats small few es sound n j (Draw c g) q).2.0 in
+            (sound_at guards seats small few es sound n j (Draw hg.0 c g) q).2.0 in
             ⊎_elim
             (λ before.
             found m i f p
@@ -159,12 +170,12 @@ module _ (guards seats : ℕ) (small : guards < 2 ^ 15) (few : seats ≤ 2 ^ 15)
             (tail_more p.older (event m (Load f)) q.older before) (omega arith)) ∙ sym drew))
             (λ more. ⊎_elim
             (λ after.
-            let x : drawn (event n (Draw c g) ∷ q.older) ≤ drawn p.older = drawn_grows _ _ after in
+            let x : drawn (event n (Draw hg.0 c g) ∷ q.older) ≤ drawn p.older = drawn_grows _ _ after in
             absurd (omega arith))
-            (λ (one : One m i n j (Load f) (Draw c g) p.older q.older).
+            (λ (one : One m i n j (Load f) (Draw hg.0 c g) p.older q.older).
             found m i f p ∙ (ap (λ x. found_of (word_after guards x)) one.older ∙ sym drew))
             more)
-            (order_of es m i n j (Load f) (Draw c g) p q);
+            (order_of es m i n j (Load f) (Draw hg.0 c g) p q);
         standing = λ m i f h e.
             let p = moment_of es m i (Load f) h in
             let k : f.clock ≡ drawn p.older = load_clock guards seats small few es sound m i f p in

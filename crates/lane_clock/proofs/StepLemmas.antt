@@ -4,6 +4,7 @@ use Rattle.std.proofs.lemmas.List.{set-get_or}
 use Rattle.atomic_table.specs.Table.{State, Me, keeps, step, Allows}
 use Rattle.atomic_table.proofs.Lists.{set_again}
 use mathlib.Core.Option.{none}
+use Rattle.asio_types.specs.declared.event.Event.{Event}
 use Rattle.lane_clock.specs.declared.found.Change.{Change}
 use Rattle.lane_clock.specs.declared.step.ClockStep.TheVariants.{Draw, Load}
 use Rattle.lane_clock.specs.declared.step.View.{View}
@@ -30,29 +31,29 @@ module _ (plan : Layout) {S : Type 0} (slots id : ℕ) (me : Me S View)
         refl,
       )
 
-  drawing : (c : Change) → step_count draw_count (steps_at me.0.known me.0.number) < 65536 →
+  drawing : (shown : Event) (c : Change) → step_count draw_count (steps_at me.0.known me.0.number) < 65536 →
       Allows (λ s. HasOneHistory plan {S = S} s) slots id me 0 (λ n. (n + amount c) % 2 ^ 64)
-      (draws (step slots 0 (amount c) 0 none) me)
-  drawing c few s kept homes at small =
+      (draws shown (step slots 0 (amount c) 0 none) me)
+  drawing shown c few s kept homes at small =
       let found = found_of (slice_index s.words 0) in
-      let st = Draw c found in
+      let st = Draw shown c found in
       let whole = (kept.each id me.0 at).whole me.0.number mine in (
         step_view me.0 st,
         keeps,
         tt,
         steps_keep plan s kept id me.0 at st (set s.words 0 ((slice_index s.words 0 + amount c) % 2 ^ 64)) s.homes mine
             (ap found_of kept.words.clock, subst (λ ss. step_count draw_count ss < 65536) whole few)
-            (drawn_words plan kept.history s.words kept.words me.0.number c found),
-        ap (λ (x : Change). (step_view me.0 (Draw x found), me.1)) (sym (change_of-amount c)),
+            (drawn_words plan kept.history s.words kept.words me.0.number shown c found),
+        ap (λ (x : Change). (step_view me.0 (Draw shown x found), me.1)) (sym (change_of-amount c)),
       )
 
-  pub may_draw : (c : Change) (k : ℕ) → k ≡ amount c → step_count draw_count (steps_at me.0.known me.0.number) < 65536
-      → Allows (λ s. HasOneHistory plan {S = S} s) slots id me 0 (λ n. (n + k) % 2 ^ 64) (draws (step slots 0 k 0 none) me)
-  may_draw c k e few =
+  pub may_draw : (shown : Event) (c : Change) (k : ℕ) → k ≡ amount c → step_count draw_count (steps_at me.0.known me.0.number) < 65536
+      → Allows (λ s. HasOneHistory plan {S = S} s) slots id me 0 (λ n. (n + k) % 2 ^ 64) (draws shown (step slots 0 k 0 none) me)
+  may_draw shown c k e few =
       subst
       (λ k.
       Allows (λ s. HasOneHistory plan {S = S} s) slots id me 0 (λ n. (n + k) % 2 ^ 64)
-      (draws (step slots 0 k 0 none) me)) (sym e) (drawing c few)
+      (draws shown (step slots 0 k 0 none) me)) (sym e) (drawing shown c few)
 
 -- a load of any word leaves all as it is, and tells that what was heard agrees
 pub may_hear : (plan : Layout) {S : Type 0} (slots id : ℕ) (me : Me S View) (word : ℕ)

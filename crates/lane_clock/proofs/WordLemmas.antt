@@ -4,6 +4,7 @@ use Rattle.std.proofs.lemmas.List.{length-set, set-get_or, get_or-set_same, get_
 use Rattle.std.proofs.lemmas.Bool.{false≢true}
 use mathlib.Core.Logic.{dite}
 use native.Mathlib.Decide.{ℕ_discrete}
+use Rattle.asio_types.specs.declared.event.Event.{Event}
 use Rattle.lane_clock.specs.declared.found.Found.{Found}
 use Rattle.lane_clock.specs.declared.found.Change.{Change}
 use Rattle.lane_clock.specs.declared.found.Change.TheVariants.{Same, Up, Down, DownTwo, Stop}
@@ -81,9 +82,9 @@ module _ (plan : Layout) (es : List ClockEvent) (ws : List ℕ) (w : AreWords pl
   pub joined_words : (counts : List ℕ) → AreWords plan (event n (Join counts) ∷ es) ws
   joined_words counts = record { count = w.count; clock = w.clock; places = w.places; cells = w.cells }
 
-  pub drawn_words : (c : Change) (found : Found) →
-      AreWords plan (event n (Draw c found) ∷ es) (set ws 0 ((slice_index ws 0 + amount c) % 2 ^ 64))
-  drawn_words c found = let x : ℕ = (slice_index ws 0 + amount c) % 2 ^ 64 in record {
+  pub drawn_words : (shown : Event) (c : Change) (found : Found) →
+      AreWords plan (event n (Draw shown c found) ∷ es) (set ws 0 ((slice_index ws 0 + amount c) % 2 ^ 64))
+  drawn_words shown c found = let x : ℕ = (slice_index ws 0 + amount c) % 2 ^ 64 in record {
     count = length-set ws 0 x ∙ w.count;
     clock = get_or-set_same ws 0 x 0 (omega (arith, w.count)) ∙ ap (λ y. (y + amount c) % 2 ^ 64) w.clock;
     places = λ lane h. get_or-set_other ws 0 (place_word lane) x 0 (λ e. absurd (omega arith)) ∙ w.places lane h;

@@ -24,7 +24,7 @@ steps_under n (e ∷ es) = if n == e.by then steps_under n es ++ e.step ∷ [] e
 
 -- the clock word after a step, and after all
 abbrev pub word_with : ClockStep → ℕ → ℕ
-word_with (Draw change found) w = (w + amount change) % 2 ^ 64
+word_with (Draw shown change found) w = (w + amount change) % 2 ^ 64
 word_with (Load found) w = w
 word_with (Place lane place) w = w
 word_with (Put lane place note) w = w
@@ -42,7 +42,7 @@ drawn (e ∷ es) = draw_count e.step + drawn es
 
 -- how many places of a lane were drawn
 abbrev pub places_with : ℕ → ClockStep → ℕ → ℕ
-places_with lane (Draw change found) k = k
+places_with lane (Draw shown change found) k = k
 places_with lane (Load found) k = k
 places_with lane (Place at place) k = if lane == at then k + 1 else k
 places_with lane (Put at place note) k = k
@@ -55,7 +55,7 @@ places_after lane (e ∷ es) = places_with lane e.step (places_after lane es)
 
 -- what a cell holds
 abbrev pub cell_with : ℕ → ℕ → ClockStep → Option Note → Option Note
-cell_with lane place (Draw change found) held = held
+cell_with lane place (Draw shown change found) held = held
 cell_with lane place (Load found) held = held
 cell_with lane place (Place at p) held = held
 cell_with lane place (Put at p note) held = if (lane == at) && (place == p) then Some note else held
@@ -68,7 +68,7 @@ cell_after lane place (e ∷ es) = cell_with lane place e.step (cell_after lane 
 
 -- The step under the number n may come next: it finds what the words hold
 abbrev pub Fits : ℕ → List ClockEvent → ℕ → ClockStep → Type 0
-Fits guards es n (Draw change found) =
+Fits guards es n (Draw shown change found) =
     (found ≡ found_of (word_after guards es)) × MayDraw (steps_under n es)
 Fits guards es n (Load found) = found ≡ found_of (word_after guards es)
 Fits guards es n (Place lane place) = (place ≡ places_after lane es) × MayPlace (steps_under n es)

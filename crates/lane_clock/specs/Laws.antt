@@ -3,6 +3,7 @@ use Rattle.std.specs.Prelude.{◌≡◌, ℕ, ◌<◌, ◌≤◌, List, ◌∷�
 use lib.ListN.{get_elem?}
 use mathlib.Core.Option.{some}
 use Rattle.atomic_table.specs.Table.{State}
+use Rattle.asio_types.specs.declared.event.Event.{Event}
 use Rattle.lane_clock.specs.declared.found.Found.{Found}
 use Rattle.lane_clock.specs.declared.found.Change.{Change}
 use Rattle.lane_clock.specs.declared.note.Note.{Note}
@@ -123,7 +124,7 @@ ClocksCountDraws =
 -- A draw changes the parts that the next step finds, while each stays within its bounds
 abbrev pub DrawsChangeParts : Type 0
 DrawsChangeParts =
-    (guards : ℕ) (es : List ClockEvent) (n : ℕ) (change : Change) (found : Found)
+    (guards : ℕ) (es : List ClockEvent) (n : ℕ) (shown : Event) (change : Change) (found : Found)
     → guards < most_seats → StayParted change (found_of (word_after guards es))
-    → found_of (word_after guards (record { by = n; step = Draw change found } ∷ es))
+    → found_of (word_after guards (record { by = n; step = Draw shown change found } ∷ es))
     ≡ parts_with change (found_of (word_after guards es))

@@ -1,6 +1,7 @@
 -- What each step on the table does to the view of the seat that makes it.
 use Rattle.std.specs.Prelude.{true, ◌≡◌, ℕ, ◌-◌, List, [], length, replicate, slice_set, false, Some}
 use Rattle.atomic_table.specs.Table as table
+use Rattle.asio_types.specs.declared.event.Event.{Event}
 use Rattle.lane_clock.specs.declared.note.Note.{Note}
 use Rattle.lane_clock.specs.declared.step.ClockStep.{ClockStep}
 use Rattle.lane_clock.specs.declared.step.ClockStep.TheVariants.{Draw, Load, Place, Put, Look, Join}
@@ -62,8 +63,9 @@ module _ {S : Type 0} where
   abbrev pub Makes : table.Me S View → ClockStep → table.Me S View → Type 0
   Makes me step after = after ≡ (step_view me.0 step, me.1)
 
-  abbrev pub draws : table.Step S → table.Me S View → ℕ → table.Me S View → Type 0
-  draws st me n after = Makes me (Draw (change_of st.first) (found_of n)) after
+  -- the position of this event is drawn
+  abbrev pub draws : Event → table.Step S → table.Me S View → ℕ → table.Me S View → Type 0
+  draws shown st me n after = Makes me (Draw shown (change_of st.first) (found_of n)) after
 
   abbrev pub loads : table.Step S → table.Me S View → ℕ → table.Me S View → Type 0
   loads st me n after = Makes me (Load (found_of n)) after

@@ -3,6 +3,7 @@
 use Rattle.std.specs.Prelude.{◌≡◌, ℕ, ◌+◌, ◌*◌, ◌%◌, ◌^◌, ◌<◌, ◌≤◌, List, length, slice_index, Option, Some, None}
 use lib.ListN.{get_elem?}
 use mathlib.Core.Option.{some}
+use Rattle.asio_types.specs.declared.event.Event.{Event}
 use Rattle.lane_clock.specs.declared.found.Found.{Found}
 use Rattle.lane_clock.specs.declared.found.Change.{Change}
 use Rattle.lane_clock.specs.declared.note.Note.{Note}
@@ -24,7 +25,8 @@ clock_in words = words.clock_word % 2 ^ 32
 
 -- the step finds the clock word
 pub data IsFinding : ClockStep → Found → Type 0 where
-  by_draw : (change : Change) (found : Found) → IsFinding (Draw change found) found
+  by_draw : (shown : Event) (change : Change) (found : Found) →
+      IsFinding (Draw shown change found) found
   by_load : (found : Found) → IsFinding (Load found) found
 
 module _ (lists : ℕ → List ClockStep) where
@@ -32,8 +34,9 @@ module _ (lists : ℕ → List ClockStep) where
   abbrev pub StepAt : ℕ → ℕ → ClockStep → Type 0
   StepAt m i step = get_elem? (lists m) i ≡ some step
 
+  -- whichever event it draws
   abbrev pub Draws : ℕ → ℕ → Change → Found → Type 0
-  Draws m i change found = StepAt m i (Draw change found)
+  Draws m i change found = (shown : Event) × StepAt m i (Draw shown change found)
 
   abbrev pub Loads : ℕ → ℕ → Found → Type 0
   Loads m i found = StepAt m i (Load found)

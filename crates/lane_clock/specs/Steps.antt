@@ -6,7 +6,7 @@ use Rattle.lane_clock.specs.declared.step.ClockStep.TheVariants.{Draw, Load, Pla
 
 -- a draw of a position counts, or a draw of a place
 abbrev pub draw_count : ClockStep → ℕ
-draw_count (Draw change found) = 1
+draw_count (Draw shown change found) = 1
 draw_count (Load found) = 0
 draw_count (Place lane place) = 0
 draw_count (Put lane place note) = 0
@@ -14,7 +14,7 @@ draw_count (Look lane place held) = 0
 draw_count (Join others) = 0
 
 abbrev pub place_count : ClockStep → ℕ
-place_count (Draw change found) = 0
+place_count (Draw shown change found) = 0
 place_count (Load found) = 0
 place_count (Place lane place) = 1
 place_count (Put lane place note) = 0
@@ -23,7 +23,7 @@ place_count (Join others) = 0
 
 -- whether the step drew this place, and whether it put this cell
 abbrev pub is_place : ℕ → ℕ → ClockStep → Bool
-is_place lane place (Draw change found) = false
+is_place lane place (Draw shown change found) = false
 is_place lane place (Load found) = false
 is_place lane place (Place at p) = (lane == at) && (place == p)
 is_place lane place (Put at p note) = false
@@ -31,7 +31,7 @@ is_place lane place (Look at p held) = false
 is_place lane place (Join others) = false
 
 abbrev pub is_put : ℕ → ℕ → ClockStep → Bool
-is_put lane place (Draw change found) = false
+is_put lane place (Draw shown change found) = false
 is_put lane place (Load found) = false
 is_put lane place (Place at p) = false
 is_put lane place (Put at p note) = (lane == at) && (place == p)

@@ -13,12 +13,12 @@ use crate::found::{Change, Found, amount_of};
 use crate::note::Note;
 use crate::plan::ClockPlan;
 use crate::rule::{
-    Copies, Draws, DrawsPlaces, Hears, Loads, Looks, Puts, TableSeat, TakesIn, WordTable,
+    Copies, Drawing, Draws, DrawsPlaces, Hears, Loads, Looks, Puts, TableSeat, TakesIn, WordTable,
 };
 use crate::seat::{LaneCopy, LaneSeat, SeatList};
-use asio_types::NoMemory;
+use asio_types::{Event, NoMemory};
 use std::alloc::Global;
-use std::marker::Model;
+use std::marker::{Brand, Model};
 
 /// A clock: one word that gives events their positions and counts work and stops, a word of places
 /// for each lane, and a word for each cell. Any number of threads steps on it, each with a seat of
@@ -74,21 +74,35 @@ impl LaneClock {
         Ok((LaneClock { table, plan }, list))
     }
 
-    /// Draws a position, which is the clock found, and makes the change, in one step. A seat draws
-    /// at most 2^16 times.
-    pub fn draw(&self, seat: &mut LaneSeat, change: Change) -> Found
+    // Draws the position of the event that is named.
+    fn draw_named<E: Drawing>(&self, seat: &mut LaneSeat, change: Change, event: Event) -> Found
         requires clock { seat.old.clock ≡ self.now }
         requires room { MayDraw (own seat.old) }
-        ensures step { seat.new ≡ after_step seat.old (Draw change result) }
-        ensures own { own seat.new ≡ own seat.old ++ Draw change result ∷ [] }
+        requires named { event ≡ E.event }
+        ensures step { seat.new ≡ after_step seat.old (Draw E.event change result) }
+        ensures own { own seat.new ≡ own seat.old ++ Draw E.event change result ∷ [] }
         ensures keeps { Keeps seat.old seat.new }
         ensures parts { IsParted result }
     {
         let word = self
             .table
             .shared
-            .fetch_add::<Draws>(&mut seat.seat, 0, amount_of(change));
+            .fetch_add::<Draws<E>>(&mut seat.seat, 0, amount_of(change));
         Found::of_word(word)
+    }
+
+    /// Draws the position of an event, which is the clock found, and makes the change, in one step.
+    /// The step says which event it is: what the event tells was had before its position was drawn.
+    /// A seat draws at most 2^16 times.
+    pub fn draw(&self, seat: &mut LaneSeat, change: Change, event: Event) -> Found
+        requires clock { seat.old.clock ≡ self.now }
+        requires room { MayDraw (own seat.old) }
+        ensures step { seat.new ≡ after_step seat.old (Draw event change result) }
+        ensures own { own seat.new ≡ own seat.old ++ Draw event change result ∷ [] }
+        ensures keeps { Keeps seat.old seat.new }
+        ensures parts { IsParted result }
+    {
+        self.draw_named::<Brand>(seat, change, event)
     }
 
     /// What the clock word holds at this step.

@@ -3,6 +3,7 @@ use crate::plan::ClockPlan;
 use crate::step::View;
 use atomic_table::{Join, Play, Seat, Split, Table, TableRule};
 use std::alloc::Global;
+use std::marker::{Brand, PhantomData};
 
 /// The table's words and all that seats know are parts of one history.
 pub(crate) struct Chronicle;
@@ -19,12 +20,27 @@ pub(crate) type WordTable = Table<(), View, ClockPlan, Chronicle, Global>;
 
 pub(crate) type TableSeat = Seat<(), View>;
 
-pub(crate) struct Draws;
+/// Names the event whose position is drawn, for contracts alone.
+pub(crate) trait Drawing {
+    ghost use Rattle.asio_types.specs.declared.event.Event.{Event};
 
-impl Play<(), View> for Draws {
+    ghost event: { Event };
+}
+
+impl Drawing for Brand {
+    ghost use Rattle.asio_types.specs.declared.event.Event.TheVariants as event;
+
+    ghost event = { event.Last };
+}
+
+pub(crate) struct Draws<E: Drawing> {
+    of: PhantomData<E>,
+}
+
+impl<E: Drawing> Play<(), View> for Draws<E> {
     ghost use Rattle.lane_clock.specs.Plays.{draws};
 
-    ghost then = { draws };
+    ghost then = { draws E.event };
 }
 
 pub(crate) struct Loads;

@@ -1,12 +1,14 @@
 use crate::found::{Change, Found};
 use crate::note::Note;
 use crate::plan::ClockPlan;
+use asio_types::Event;
 use std::collections::LinkedList;
 
 /// One step of a seat, with what it found. No value of it is made: contracts list what a seat did.
 pub enum ClockStep {
-    /// A position was drawn, which is the clock found.
-    Draw(Change, Found),
+    /// The position of this event was drawn, which is the clock found. Which event it is was told to
+    /// the draw: so all that the event says, as the run mark of an end, was had before.
+    Draw(Event, Change, Found),
     /// The clock word was read.
     Load(Found),
     /// A place of this lane was drawn.

@@ -37,6 +37,9 @@ mod workers_apart;
 
 pub use at_rest::AtRest;
 pub use context::Context;
+// What its calls answer and take, by the names that its callers need.
+pub use lane_logs::{Logs, Receipt};
+pub use lane_turns::{Baton, One, RunEnd};
 pub use parts::Parts;
 pub use round_end::RoundEnd;
 pub use side_by_side::{Runner, run_each, run_side_by_side};

@@ -27,7 +27,7 @@ pub(crate) fn new_pen(seat: LaneSeat, log: Vec<LogEntry>) -> Pen
     requires none { log.items ≡ [] }
     ensures { IsNewPen seat.clock seat.number (vec_capacity log) result }
 {
-    Pen { seat, log }
+    Pen::of(seat, log)
 }
 
 /// Pens with these logs and the next seats of a clock, into `pens`, which has room for them.

@@ -64,7 +64,7 @@ pub opening_passed : (script : ScriptModel) (steps : List ClockStep) (stand : St
     stand.opening ≡ step_count draw_count steps + more → stand_from script stand steps ≡ record stand { opening = more }
 opening_passed script [] stand more is =
     let left : stand.opening ≡ more = omega (arith, is) in ap (λ n. record stand { opening = n }) left
-opening_passed script (Draw change found ∷ steps) stand more is =
+opening_passed script (Draw shown change found ∷ steps) stand more is =
     let left : stand.opening ≡ suc (step_count draw_count steps + more) = omega (arith, is) in
     ap (λ n. stand_from script (after_opening_draw n script stand found) steps) left
     ∙ opening_passed script steps (record stand { opening = step_count draw_count steps + more }) more refl
@@ -135,7 +135,7 @@ closings_by script stand found (suc opening) = omega arith
 pub closings_rise : (script : ScriptModel) (steps : List ClockStep) (stand : Stand) →
     stand.closings ≤ (stand_from script stand steps).closings
 closings_rise script [] stand = omega arith
-closings_rise script (Draw change found ∷ steps) stand =
+closings_rise script (Draw shown change found ∷ steps) stand =
     omega (
       arith,
       closings_by script stand found stand.opening,

@@ -4,6 +4,7 @@
 use Rattle.std.specs.Prelude.{◌≡◌, ℕ, suc, ◌<◌, List, Some, All, Bool, true, false, slice_index, take}
 use lib.ListN.{get_elem?}
 use mathlib.Core.Option.{some}
+use Rattle.asio_types.specs.declared.event.Event.{Event}
 use Rattle.session_script.specs.Script.{ScriptModel}
 use Rattle.lane_clock.specs.declared.found.Change.{Change}
 use Rattle.lane_clock.specs.declared.found.Change.TheVariants as change
@@ -19,9 +20,10 @@ use Rattle.lane_logs.specs.Stand.{stand_of}
 -- the opener's step j draws an event that all others take in: the last of `open`, or one that
 -- restarts or closes a round
 pub record IsEventAt (script : ScriptModel) (lists : ℕ → List ClockStep) (j : ℕ) : Type 0 where
+  pub shown : Event
   pub changes : Change
   pub found : Found
-  pub drawn : StepAt lists (opener_seat script) j (Draw changes found)
+  pub drawn : StepAt lists (opener_seat script) j (Draw shown changes found)
   pub opened : (stand_of script (take (suc j) (lists (opener_seat script)))).opening ≡ 0
 
 -- how many steps of a number the opener had taken in before its step j
@@ -45,11 +47,12 @@ pub record HasStarted (steps : List ClockStep) (lane place : ℕ) : Type 0 where
   pub at : ℕ
   pub note : Note
   pub load : Found
+  pub shown : Event
   pub changes : Change
   pub found : Found
   pub sees : get_elem? steps at ≡ some (Look lane place (Some note))
   pub loads : get_elem? steps (suc at) ≡ some (Load load)
-  pub draws : get_elem? steps (suc (suc at)) ≡ some (Draw changes found)
+  pub draws : get_elem? steps (suc (suc at)) ≡ some (Draw shown changes found)
 
 -- the notes at the first places of a lane were executed or taken
 abbrev pub HaveStarted : List ClockStep → ℕ → ℕ → Type 0
@@ -63,7 +66,7 @@ is_stop_change change.DownTwo = false
 is_stop_change change.Stop = true
 
 abbrev pub is_stop_draw : ClockStep → Bool
-is_stop_draw (Draw changes found) = is_stop_change changes
+is_stop_draw (Draw shown changes found) = is_stop_change changes
 is_stop_draw (Load found) = false
 is_stop_draw (Place lane place) = false
 is_stop_draw (Put lane place note) = false

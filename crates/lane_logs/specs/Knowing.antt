@@ -9,7 +9,7 @@ use Rattle.lane_clock.specs.Seats.{SeatView}
 -- how many steps of a number were taken in by some steps
 abbrev pub joined_count : ℕ → List ClockStep → ℕ
 joined_count n [] = 0
-joined_count n (Draw change found ∷ steps) = joined_count n steps
+joined_count n (Draw shown change found ∷ steps) = joined_count n steps
 joined_count n (Load found ∷ steps) = joined_count n steps
 joined_count n (Place lane place ∷ steps) = joined_count n steps
 joined_count n (Put lane place note ∷ steps) = joined_count n steps

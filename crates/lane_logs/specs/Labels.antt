@@ -29,7 +29,7 @@ pub data Labelled : Type 0 where
 
 abbrev pub step_of : Labelled → ClockStep
 step_of (silent step) = step
-step_of (shows shown changes found) = Draw changes found
+step_of (shows shown changes found) = Draw shown changes found
 step_of (allots act lane place) = Place lane place
 
 abbrev pub steps_in : List Labelled → List ClockStep

@@ -99,7 +99,7 @@ module _ (names : SessionNames) (opener : List ClockStep) (lane : ℕ) where
 
   -- a step by itself: of its own cells the lane looks at the next
   abbrev pub IsIdleStep : List Part → ClockStep → Type 0
-  IsIdleStep parts (Draw change found) = ⊥
+  IsIdleStep parts (Draw shown change found) = ⊥
   IsIdleStep parts (Load found) = Unit {0}
   IsIdleStep parts (Place at place) = ⊥
   IsIdleStep parts (Put at place note) = ⊥

@@ -1,6 +1,7 @@
 pub mod AtRest
 pub mod Calls
 pub mod Cuts
+pub mod Drawn
 pub mod Drops
 pub mod Half
 pub mod KeptLogs

@@ -66,7 +66,7 @@ opener_steps parts = steps_in (labels_of_opener parts)
 
 -- a step by itself: no draw, no place and no put
 abbrev pub IsRestingStep : ClockStep → Type 0
-IsRestingStep (Draw changes found) = ⊥
+IsRestingStep (Draw shown changes found) = ⊥
 IsRestingStep (Load found) = Unit {0}
 IsRestingStep (Place lane place) = ⊥
 IsRestingStep (Put lane place note) = ⊥

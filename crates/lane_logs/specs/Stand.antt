@@ -53,7 +53,7 @@ after_draw script stand found = after_opening_draw stand.opening script stand fo
 
 abbrev pub stand_from : ScriptModel → Stand → List ClockStep → Stand
 stand_from script stand [] = stand
-stand_from script stand (Draw change found ∷ steps) =
+stand_from script stand (Draw shown change found ∷ steps) =
     stand_from script (after_draw script stand found) steps
 stand_from script stand (Load found ∷ steps) = stand_from script stand steps
 stand_from script stand (Place lane place ∷ steps) = stand_from script stand steps

@@ -2,7 +2,7 @@ ghost use Rattle.std.specs.Prelude.{◌≡◌, ◌<◌, List, [], length};
 ghost use Rattle.lane_clock.specs.History.{ClockEvent, drawn};
 ghost use Rattle.lane_clock.specs.Seats.{Keeps, Owns, OwnsAll, Remembers, own};
 
-use asio_types::Code;
+use asio_types::{Code, Event};
 use lane_clock::{Change, Found, LaneClock, LaneCopy, LaneSeat, Note};
 use std::process::Abort;
 use std::test::Fail;
@@ -66,13 +66,13 @@ fn operation_changes_hands(rt: HostRuntime) -> Result<(), Fail> {
         code: Code::Ok,
         size: 0,
     };
-    let call = clock.draw(&mut first, Change::Up);
+    let call = clock.draw(&mut first, Change::Up, Event::Call { act: 1 });
     let place = clock.place_in(&mut first, 1).expect(&rt, "a free cell");
     clock.put_cell(&mut first, 1, place, note);
-    let back = clock.draw(&mut first, Change::Same);
+    let back = clock.draw(&mut first, Change::Same, Event::Back { act: 1 });
     let seen = clock.look(&mut second, 1, 0);
     let before = clock.load(&mut second);
-    let end = clock.draw(&mut second, Change::Down);
+    let end = clock.draw(&mut second, Change::Down, Event::End { op: 1, mark: 9 });
     let after = clock.load(&mut second);
     let beyond = clock.place_in(&mut first, 1);
     let empty = clock.look(&mut first, 0, 1);
@@ -90,9 +90,9 @@ fn stop_and_release(rt: HostRuntime) -> Result<(), Fail> {
     let (clock, mut seats) = LaneClock::make(rt.alloc(), &[1, 1], 1, 2)?;
     let mut first = seats.next().expect(&rt, "the seat of lane 0");
     let mut second = seats.next().expect(&rt, "the seat of lane 1");
-    let stop = clock.draw(&mut first, Change::Stop);
+    let stop = clock.draw(&mut first, Change::Stop, Event::Stop { act: None });
     let seen = clock.load(&mut second);
-    let release = clock.draw(&mut second, Change::DownTwo);
+    let release = clock.draw(&mut second, Change::DownTwo, Event::Take { act: 3 });
     let last = clock.load(&mut second);
     assert!(rt; stop == found(0, 2, 0) && seen == found(1, 2, 1));
     assert!(rt; release == found(1, 2, 1) && last == found(2, 0, 1));
@@ -105,7 +105,7 @@ fn copy_tells_another_seat(rt: HostRuntime) -> Result<(), Fail> {
     let (clock, mut seats) = LaneClock::make(rt.alloc(), &[1], 1, 3)?;
     let mut lane = seats.next().expect(&rt, "the lane's seat");
     let mut worker = seats.next().expect(&rt, "the worker's seat");
-    let drawn = clock.draw(&mut lane, Change::Down);
+    let drawn = clock.draw(&mut lane, Change::Down, Event::End { op: 1, mark: 9 });
     let early = clock.split(&mut lane);
     let late = clock.split(&mut lane);
     meet_two(&clock, &mut worker, late, early);
@@ -132,7 +132,9 @@ fn play(clock: &LaneClock, mut seat: LaneSeat) -> Report
     ensures clock { result.seat.clock ≡ clock.now }
     ensures keeps { Keeps seat result.seat }
 {
-    let call = clock.draw(&mut seat, Change::Up).clock;
+    let call = clock
+        .draw(&mut seat, Change::Up, Event::Call { act: 7 })
+        .clock;
     let Some(place) = clock.place_in(&mut seat, 0) else {
         return Report {
             seat,
@@ -147,7 +149,9 @@ fn play(clock: &LaneClock, mut seat: LaneSeat) -> Report
         size: 9,
     };
     clock.put_cell(&mut seat, 0, place, note);
-    let back = clock.draw(&mut seat, Change::Same).clock;
+    let back = clock
+        .draw(&mut seat, Change::Same, Event::Back { act: 7 })
+        .clock;
     let seen = clock.look(&mut seat, 0, place);
     let seen = if seen == Some(note) {
         Some(place)

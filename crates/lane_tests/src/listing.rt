@@ -1,6 +1,7 @@
 //! The list of what executions posted, and the history of which it is a part.
 
 ghost use Rattle.std.specs.Prelude.{◌≡◌, ◌∷◌, ◌++◌, []};
+ghost use Rattle.strand_core.specs.declared.posted.Posted.{Posted};
 
 use crate::wanted::MEMORY;
 use asio_types::{ActNo, Code, Event, OpNo};
@@ -8,7 +9,7 @@ use op_handlers::Ran;
 use session_script::Script;
 use std::alloc::Global;
 use std::process::Abort;
-use strand_core::{Posted, Poster};
+use strand_core::{Answered, Posted, Poster};
 
 /// Keeps the list of its calls until it is cleared, and the events of all.
 pub(crate) struct Listing<'a, R> {
@@ -44,6 +45,17 @@ impl<'a, R: Abort> Listing<'a, R> {
         ensures { self.new.posted.items ≡ self.old.posted.items }
     {
         self.events.push(event).expect(&self.rt, MEMORY);
+    }
+
+    /// An act is called, by a handler or by `open`.
+    pub(crate) fn note_call(&mut self, act: ActNo)
+        ensures { self.new.posted.items ≡ self.old.posted.items ++ Posted.Call act ∷ [] }
+    {
+        self.record(Event::Call { act });
+        if act < self.script.acts() && self.script.is_stop(act) {
+            self.record(Event::Stop { act: Some(act) });
+        }
+        self.push(Posted::Call { act });
     }
 
     fn push(&mut self, posted: Posted)
@@ -83,12 +95,8 @@ impl<'a, R: Abort> Poster for Listing<'a, R> {
         begun
     }
 
-    fn call(&mut self, act: ActNo) {
-        self.record(Event::Call { act });
-        if act < self.script.acts() && self.script.is_stop(act) {
-            self.record(Event::Stop { act: Some(act) });
-        }
-        self.push(Posted::Call { act });
+    fn call(&mut self, act: ActNo, answered: &Answered) {
+        self.note_call(act);
     }
 
     fn back(&mut self, act: ActNo) {

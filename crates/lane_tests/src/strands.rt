@@ -161,7 +161,7 @@ fn destroy<'a, 'b, R: Abort>(
 /// Makes the calls of `open`.
 fn open<R: Abort>(script: &Script, listing: &mut Listing<'_, R>) {
     for &act in script.opening() {
-        listing.call(act);
+        listing.note_call(act);
         listing.back(act);
     }
 }

@@ -77,10 +77,10 @@ module _ (script : ScriptModel) (before : SeatView) (first last : OpenerView) (o
   old_number : attended.old.pen.seat.number ≡ o
   old_number = attended.since.number ∙ first_number
 
-  first_own : lists_of first.pen.seat o ≡ (own before ++ drawn.front) ++ Draw drawn.changes drawn.found ∷ []
+  first_own : lists_of first.pen.seat o ≡ (own before ++ drawn.front) ++ Draw drawn.shown drawn.changes drawn.found ∷ []
   first_own =
       ap (lists_of first.pen.seat) (sym first_number) ∙ drawn.steps
-      ∙ sym (append_assoc (own before) drawn.front (Draw drawn.changes drawn.found ∷ []))
+      ∙ sym (append_assoc (own before) drawn.front (Draw drawn.shown drawn.changes drawn.found ∷ []))
 
   -- what the opener knew before its event it knows in the end
   till_last : (n : ℕ) → StartOf (lists_of first.pen.seat n) (lists_of last.pen.seat n)
@@ -92,7 +92,7 @@ module _ (script : ScriptModel) (before : SeatView) (first last : OpenerView) (o
   front_same =
       let xs : List ClockStep = own before ++ drawn.front in
       let start : StartOf xs (lists_of last.pen.seat o) =
-      start_trans xs (lists_of first.pen.seat o) _ (Draw drawn.changes drawn.found ∷ [], first_own) (till_last o) in
+      start_trans xs (lists_of first.pen.seat o) _ (Draw drawn.shown drawn.changes drawn.found ∷ [], first_own) (till_last o) in
       take_start event_index xs (lists_of last.pen.seat o) start (omega arith) ∙ take-length xs
 
   -- of the number it had then taken in all steps
@@ -126,7 +126,7 @@ module _ (script : ScriptModel) (before : SeatView) (first last : OpenerView) (o
       (subst (λ steps. StartOf steps (lists_of attended.new.pen.seat new.number)) (copied_steps new.known new.number)
       (attended.met.heard.met.met.learns new.number)) (attended.till.remembers new.number)) in
       let long : length (lists_of first.pen.seat o) ≡ event_index + 1 =
-      ap length first_own ∙ length-append (own before ++ drawn.front) (Draw drawn.changes drawn.found ∷ []) in
+      ap length first_own ∙ length-append (own before ++ drawn.front) (Draw drawn.shown drawn.changes drawn.found ∷ []) in
       record {
         counts = taken;
         joins =

@@ -26,6 +26,7 @@ drawn_last labels shown changes found old new quiet gone =
     let all : List ClockStep = steps_in (labels ++ shows shown changes found ∷ []) in
     record {
       front = steps_in labels;
+      shown = shown;
       changes = changes;
       found = found;
       steps = gone.steps ∙ ap (λ steps. own old.seat ++ steps) (steps-append labels (shows shown changes found ∷ []));

@@ -27,7 +27,7 @@ cuts_on script a b remembers same cuts j n is below =
     let o : ℕ = opener_seat script in
     let was : IsEventAt script (lists_of a) j =
     event_before script (lists_of a) (lists_of b) (remembers o) same j is in
-    let within = index_within (lists_of a o) j (Draw was.changes was.found) was.drawn in
+    let within = index_within (lists_of a o) j (Draw was.shown was.changes was.found) was.drawn in
     cut_outlives script a b j n remembers (omega (arith, within)) (cuts j n was below)
 
 own_draws : (script : ScriptModel) (a b : OpenerView) → a.pen.seat.number ≡ opener_seat script → HasGoneOn a b →
@@ -121,7 +121,7 @@ module _ {L W : Type 0} (lane : L → SeatView) (worker : W → SeatView) (scrip
       IsCut script (lists_of last.pen.seat) j n
   cut_before j n was below =
       let o : ℕ = opener_seat script in
-      let within = index_within (lists_of before.pen.seat o) j (Draw was.changes was.found) was.drawn in
+      let within = index_within (lists_of before.pen.seat o) j (Draw was.shown was.changes was.found) was.drawn in
       cut_outlives script before.pen.seat last.pen.seat j n
       (λ k. start_trans _ _ _ (remembers k) (on.remembers k)) (omega (arith, within)) (cuts j n was below)
 

@@ -58,11 +58,11 @@ drawn_remembers script before after number drawn n =
 no_cuts : (script : ScriptModel) (lists : ℕ → List ClockStep) →
     step_count draw_count (lists (opener_seat script)) ≡ 0 → EventsAreCuts script lists
 no_cuts script lists none j n is below =
-    absurd (none_there (lists (opener_seat script)) j is.changes is.found none is.drawn)
+    absurd (none_there (lists (opener_seat script)) j is.shown is.changes is.found none is.drawn)
 
 -- entries of the opener's log are as many as its draws
 resting_sized : (step : ClockStep) → IsRestingStep step → draw_count step ≡ 0
-resting_sized (Draw changes found) is = absurd is
+resting_sized (Draw shown changes found) is = absurd is
 resting_sized (Load found) is = refl
 resting_sized (Place lane place) is = absurd is
 resting_sized (Put lane place note) is = absurd is

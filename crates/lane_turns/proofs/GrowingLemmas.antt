@@ -31,7 +31,7 @@ module _ (names : SessionNames) (opener longer : List ClockStep) (lane : ℕ) (m
 
   still_idle : (parts : List Part) (step : ClockStep) → IsIdleStep names opener lane parts step →
       IsIdleStep names longer lane parts step
-  still_idle parts (Draw change found) is = is
+  still_idle parts (Draw shown change found) is = is
   still_idle parts (Load found) is = is
   still_idle parts (Place at place) is = is
   still_idle parts (Put at place note) is = is

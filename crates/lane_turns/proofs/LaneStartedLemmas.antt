@@ -3,6 +3,8 @@ use Rattle.std.proofs.Common.{◌≡◌, ⊎_elim, ℕ, suc, ◌+◌, ◌<◌, �
 use mathlib.Core.Option.{some}
 use lib.ListN.{get_elem?}
 use Rattle.std.proofs.lemmas.Bool.{cases_lt}
+use Rattle.asio_types.specs.declared.event.Event.{Event}
+use Rattle.asio_types.specs.declared.event.Event.TheVariants as event
 use Rattle.session_script.specs.Script.{ScriptModel}
 use Rattle.strand_core.specs.Execution.{execution_of}
 use Rattle.strand_core.specs.declared.posted.Posted.{Posted}
@@ -32,6 +34,7 @@ started_start xs all lane place start is =
       at = is.at;
       note = is.note;
       load = is.load;
+      shown = is.shown;
       changes = is.changes;
       found = is.found;
       sees = at_start xs all is.at _ start is.sees;
@@ -47,6 +50,7 @@ started_behind xs ys lane place is =
       at = length xs + is.at;
       note = is.note;
       load = is.load;
+      shown = is.shown;
       changes = is.changes;
       found = is.found;
       sees = at_back xs ys is.at ∙ is.sees;
@@ -56,10 +60,11 @@ started_behind xs ys lane place is =
 
 -- the first step of some labels is a draw
 record StartsByDraw (labels : List Labelled) : Type 0 where
+  shown : Event
   changes : Change
   found : Found
   rest : List ClockStep
-  same : steps_in labels ≡ Draw changes found ∷ rest
+  same : steps_in labels ≡ Draw shown changes found ∷ rest
 
 abbrev IsBegin : Posted → Type 0
 IsBegin (posted.Begin op code size begun) = Unit {0}
@@ -75,7 +80,7 @@ Heads (call ∷ calls) labels = IsBegin call → StartsByDraw labels
 draws_begin : (script : ScriptModel) (call : Posted) (made : List Labelled) → IsDrawn script call made → IsBegin call →
     StartsByDraw made
 draws_begin script _ _ (begins {op} {size} {with_code} {found}) is =
-    record { changes = change.Same; found = found; rest = []; same = refl }
+    record { shown = event.Begin op with_code size; changes = change.Same; found = found; rest = []; same = refl }
 draws_begin script _ _ (posts going outside) is = absurd is
 draws_begin script _ _ (dispatches going inside) is = absurd is
 draws_begin script _ _ (stops_context stopping) is = absurd is
@@ -90,6 +95,7 @@ heads_on script (first ∷ calls) call labels made heads drawn =
     λ is.
     let was : StartsByDraw labels = heads is in
     record {
+      shown = was.shown;
       changes = was.changes;
       found = was.found;
       rest = was.rest ++ steps_in made;
@@ -104,13 +110,15 @@ heads_of script (one_drawn {calls} {call} {labels} {made} before now) =
 
 module _ (names : SessionNames) (opener : List ClockStep) (lane : ℕ) where
   -- a look that saw a note, a load and a draw
-  started_here : (at place : ℕ) (note : Note) (load found : Found) (changes : Change) (rest : List ClockStep) → place ≡ at →
-      HasStarted (Look lane at (Some note) ∷ Load load ∷ Draw changes found ∷ rest) lane place
-  started_here at place note load found changes rest same =
+  started_here : (at place : ℕ) (note : Note) (load found : Found) (shown : Event) (changes : Change) (rest : List ClockStep) →
+      place ≡ at →
+      HasStarted (Look lane at (Some note) ∷ Load load ∷ Draw shown changes found ∷ rest) lane place
+  started_here at place note load found shown changes rest same =
       record {
         at = 0;
         note = note;
         load = load;
+        shown = shown;
         changes = changes;
         found = found;
         sees = ap (λ n. some (Look lane n (Some note))) (sym same);
@@ -122,7 +130,7 @@ module _ (names : SessionNames) (opener : List ClockStep) (lane : ℕ) where
       place < at + cond (takes_place start) 1 0 →
       HasStarted (steps_in (start_labels names.script lane at load found start ++ tail)) lane place
   turn_started (takes note changes) at place load found tail behind less =
-      started_here at place note load found changes (steps_in tail) (omega (arith, behind, less))
+      started_here at place note load found (event.Take note.op) changes (steps_in tail) (omega (arith, behind, less))
   turn_started (passes shown) at place load found tail behind less = absurd (omega (arith, behind, less))
 
   part_started : (parts : List Part) (part : Part) → MayFollow names opener lane parts part → (place : ℕ) →
@@ -135,7 +143,7 @@ module _ (names : SessionNames) (opener : List ClockStep) (lane : ℕ) where
       begun part.calls part.labels head follows.whole.begun follows.whole.mark follows.whole.body follows.whole.is in
       subst (λ steps. HasStarted (Look lane part.place (Some part.note) ∷ Load part.load ∷ steps) lane place)
       (sym draw.same)
-      (started_here part.place place part.note part.load draw.found draw.changes draw.rest
+      (started_here part.place place part.note part.load draw.found draw.shown draw.changes draw.rest
       (omega (arith, behind, less, follows.next)))
     where
       begun : (calls : List Posted) (labels : List Labelled) → Heads calls labels → (at mark : ℕ) (body : List Posted) →

@@ -50,7 +50,7 @@ chosen false false false xs ys = inl refl
 pub joined_more : (n : ℕ) (xs : List ClockStep) (taken : List ℕ) →
     joined_count n (xs ++ Join taken ∷ []) ≡ max (joined_count n xs) (slice_index taken n)
 joined_more n [] taken = omega arith
-joined_more n (Draw change found ∷ xs) taken = joined_more n xs taken
+joined_more n (Draw shown change found ∷ xs) taken = joined_more n xs taken
 joined_more n (Load found ∷ xs) taken = joined_more n xs taken
 joined_more n (Place lane place ∷ xs) taken = joined_more n xs taken
 joined_more n (Put lane place note ∷ xs) taken = joined_more n xs taken
@@ -62,7 +62,7 @@ joined_more n (Join first ∷ xs) taken =
 -- the first of some steps took in no more
 pub joined_less : (n : ℕ) (xs ys : List ClockStep) → joined_count n xs ≤ joined_count n (xs ++ ys)
 joined_less n [] ys = omega arith
-joined_less n (Draw change found ∷ xs) ys = joined_less n xs ys
+joined_less n (Draw shown change found ∷ xs) ys = joined_less n xs ys
 joined_less n (Load found ∷ xs) ys = joined_less n xs ys
 joined_less n (Place lane place ∷ xs) ys = joined_less n xs ys
 joined_less n (Put lane place note ∷ xs) ys = joined_less n xs ys

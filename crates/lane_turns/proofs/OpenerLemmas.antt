@@ -28,7 +28,7 @@ use Rattle.lane_turns.proofs.SteppingLemmas.{joined_on, stepped_known, stepped_n
 pub stand_from-append : (script : ScriptModel) (stand : Stand) (xs ys : List ClockStep) →
     stand_from script stand (xs ++ ys) ≡ stand_from script (stand_from script stand xs) ys
 stand_from-append script stand [] ys = refl
-stand_from-append script stand (Draw change found ∷ xs) ys =
+stand_from-append script stand (Draw shown change found ∷ xs) ys =
     stand_from-append script (after_draw script stand found) xs ys
 stand_from-append script stand (Load found ∷ xs) ys = stand_from-append script stand xs ys
 stand_from-append script stand (Place lane place ∷ xs) ys = stand_from-append script stand xs ys

@@ -7,6 +7,7 @@ use Rattle.std.specs.Prelude.{◌||◌, nat_lt, slice_index, if◌then◌else◌
 use Rattle.asio_types.specs.declared.event.Event.{Event}
 use Rattle.asio_types.specs.declared.outside.Point.{Point}
 use Rattle.asio_types.specs.declared.outside.Point.TheVariants as point
+use Rattle.asio_types.specs.declared.event.Event.TheVariants as event
 use Rattle.session_script.specs.declared.act.Act.{Act}
 use Rattle.session_script.specs.Script.{ScriptModel, act_of}
 use Rattle.history_rules.specs.Legal.{reactor_after}
@@ -80,8 +81,8 @@ fault_remembered script a b remembers some =
 fault_stops : (front : List Labelled) (found : Found) → SomeStop (steps_in (front ++ fault_label found ∷ []))
 fault_stops front found =
     subst SomeStop (sym (steps-append front (fault_label found ∷ [])))
-    (stop_behind (steps_in front) (Draw change.Stop found ∷ [])
-    (Any-from_list_any is_stop_draw (Draw change.Stop found ∷ []) refl))
+    (stop_behind (steps_in front) (Draw event.Fault change.Stop found ∷ [])
+    (Any-from_list_any is_stop_draw (Draw event.Fault change.Stop found ∷ []) refl))
 
 end_stops : (front : List Labelled) (end : TurnEnd) → is_failing end ≡ true → SomeStop (steps_in (front ++ end_labels end))
 end_stops front (tells labels) isnt = absurd (cc isnt)

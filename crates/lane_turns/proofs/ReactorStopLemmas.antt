@@ -2,6 +2,7 @@
 use Rattle.std.proofs.Common.{◌≡◌, ℕ, Bool, true, false, cond, List, [], ◌∷◌, ◌++◌, None, refl, sym, ap, subst, ◌∙◌, arith}
 use Rattle.std.proofs.lemmas.List.Elements.{All-append, All-cons, All-from_recursion, All-nil}
 use Rattle.std.specs.Prelude.{◌||◌, nat_lt, slice_index, if◌then◌else◌}
+use Rattle.asio_types.specs.declared.event.Event.TheVariants as event
 use Rattle.session_script.specs.Script.{ScriptModel}
 use Rattle.history_rules.specs.Kinds.{is_act, is_control}
 use Rattle.history_rules.specs.State.{ReactorHalf}
@@ -52,8 +53,8 @@ told_goes_on script told from (one_told {labels} op with_code size place found b
     let lane : ℕ = home_lane script op in
     let puts : List ClockStep = steps_in (put_within script lane place (done_note op with_code size)) in
     none_stop_in labels (done_labels script op with_code size place found) (told_goes_on script told from before)
-    (All-cons IsNoStop (Place lane place) (Draw change.Same found ∷ puts) refl
-    (All-cons IsNoStop (Draw change.Same found) puts refl
+    (All-cons IsNoStop (Place lane place) (Draw (event.Done op with_code size) change.Same found ∷ puts) refl
+    (All-cons IsNoStop (Draw (event.Done op with_code size) change.Same found) puts refl
     (put_goes_on (nat_lt place (slice_index (cells_of script) lane)) lane place (done_note op with_code size))))
 
 start_goes_on : (script : ScriptModel) (half : ReactorHalf) (running : Bool) (lane place : ℕ) (load found : Found)
@@ -71,8 +72,8 @@ start_goes_on script half running lane place load found (passes shown) may =
         (cond within (silent (Look lane place None) ∷ []) []
         ++ silent (Load load) ∷ shows shown change.Same found ∷ []))
     by_cell true =
-        All-from_recursion IsNoStop (Look lane place None ∷ Load load ∷ Draw change.Same found ∷ []) (refl, (refl, (refl, tt)))
-    by_cell false = All-from_recursion IsNoStop (Load load ∷ Draw change.Same found ∷ []) (refl, (refl, tt))
+        All-from_recursion IsNoStop (Look lane place None ∷ Load load ∷ Draw shown change.Same found ∷ []) (refl, (refl, (refl, tt)))
+    by_cell false = All-from_recursion IsNoStop (Load load ∷ Draw shown change.Same found ∷ []) (refl, (refl, tt))
 
 end_goes_on : (script : ScriptModel) (told : Bool) (from : ReactorHalf) (end : TurnEnd) → EndsTurn script told from end →
     is_failing end ≡ false → NoneStops (steps_in (end_labels end))
@@ -86,7 +87,7 @@ either_false false b is = (refl, is)
 module _ (names : SessionNames) (opener : List ClockStep) (lane : ℕ) (last : lane ≡ reactor_lane names.script) where
   step_goes_on : (parts : List Part) (step : ClockStep) → IsIdleStep names opener lane parts step →
       NoneStops (step ∷ [])
-  step_goes_on parts (Draw changes found) is = absurd is
+  step_goes_on parts (Draw shown changes found) is = absurd is
   step_goes_on parts (Load found) is = All-from_recursion IsNoStop (Load found ∷ []) (refl, tt)
   step_goes_on parts (Place at place) is = absurd is
   step_goes_on parts (Put at place note) is = absurd is

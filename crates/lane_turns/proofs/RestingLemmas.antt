@@ -17,7 +17,7 @@ use Rattle.lane_turns.proofs.CutLemmas.{at_back}
 use Rattle.lane_turns.proofs.EventIndexLemmas.{index_front, index_within}
 
 pub look_rests : (step : ClockStep) → IsLook step → IsRestingStep step
-look_rests (Draw changes found) is = is
+look_rests (Draw shown changes found) is = is
 look_rests (Load found) is = tt
 look_rests (Place lane place) is = is
 look_rests (Put lane place note) is = is

@@ -37,7 +37,7 @@ opener_same script lane labels old new number there gone =
 pub joined_on : (n : ℕ) (xs ys : List ClockStep) → joined_count n ys ≡ 0 →
     joined_count n (xs ++ ys) ≡ joined_count n xs
 joined_on n [] ys none = none
-joined_on n (Draw change found ∷ xs) ys none = joined_on n xs ys none
+joined_on n (Draw shown change found ∷ xs) ys none = joined_on n xs ys none
 joined_on n (Load found ∷ xs) ys none = joined_on n xs ys none
 joined_on n (Place lane place ∷ xs) ys none = joined_on n xs ys none
 joined_on n (Put lane place note ∷ xs) ys none = joined_on n xs ys none

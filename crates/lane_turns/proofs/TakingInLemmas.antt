@@ -7,6 +7,7 @@ use Rattle.std.proofs.Math.ListN.{get_or-append}
 use Rattle.std.proofs.Math.Seq.{get_or-append_seam}
 use mathlib.Core.Option.{some, some-ne-none}
 use lib.ListN.{get_elem?}
+use Rattle.asio_types.specs.declared.event.Event.{Event}
 use Rattle.session_script.specs.Script.{ScriptModel}
 use Rattle.lane_clock.specs.declared.found.Change.{Change}
 use Rattle.lane_clock.specs.declared.found.Found.{Found}
@@ -32,14 +33,14 @@ use Rattle.lane_turns.proofs.MeetingLemmas.{met_either, start_both}
 use Rattle.lane_turns.proofs.RestingLemmas.{rests_behind, rests_here, rests_on}
 
 -- a draw among some steps and a join behind them is among the steps
-draw_before : (xs : List ClockStep) (taken : List ℕ) (j : ℕ) (changes : Change) (found : Found) →
-    get_elem? (xs ++ Join taken ∷ []) j ≡ some (Draw changes found) →
-    (get_elem? xs j ≡ some (Draw changes found)) × (j < length xs)
-draw_before [] taken zero changes found is = absurd (cc is)
-draw_before [] taken (suc j) changes found is = absurd (some-ne-none _ (sym is))
-draw_before (x ∷ xs) taken zero changes found is = (is, omega arith)
-draw_before (x ∷ xs) taken (suc j) changes found is =
-    let rest = draw_before xs taken j changes found is in (rest.0, omega (arith, rest.1))
+draw_before : (xs : List ClockStep) (taken : List ℕ) (j : ℕ) (shown : Event) (changes : Change) (found : Found) →
+    get_elem? (xs ++ Join taken ∷ []) j ≡ some (Draw shown changes found) →
+    (get_elem? xs j ≡ some (Draw shown changes found)) × (j < length xs)
+draw_before [] taken zero shown changes found is = absurd (cc is)
+draw_before [] taken (suc j) shown changes found is = absurd (some-ne-none _ (sym is))
+draw_before (x ∷ xs) taken zero shown changes found is = (is, omega arith)
+draw_before (x ∷ xs) taken (suc j) shown changes found is =
+    let rest = draw_before xs taken j shown changes found is in (rest.0, omega (arith, rest.1))
 
 module _ (script : ScriptModel) (old new : OpenerView) (other : SeatView) (joined : HasJoined script other old new) where
   abbrev o : ℕ
@@ -108,13 +109,14 @@ module _ (script : ScriptModel) (old new : OpenerView) (other : SeatView) (joine
       let before : List ClockStep = lists_of old.pen.seat o in
       let steps : lists_of new.pen.seat o ≡ before ++ Join (counts other.known) ∷ [] =
       joined_own in
-      let drawn = draw_before before (counts other.known) j event.changes event.found
-      (subst (λ xs. get_elem? xs j ≡ some (Draw event.changes event.found)) steps event.drawn) in
+      let drawn = draw_before before (counts other.known) j event.shown event.changes event.found
+      (subst (λ xs. get_elem? xs j ≡ some (Draw event.shown event.changes event.found)) steps event.drawn) in
       let front : take (suc j) (lists_of new.pen.seat o) ≡ take (suc j) before =
       take_start (suc j) before (lists_of new.pen.seat o) (met.remembers o) (omega (arith, drawn.1)) in
       cut_outlives script old.pen.seat new.pen.seat j n met.remembers (omega (arith, drawn.1))
       (cuts j n
       (record {
+        shown = event.shown;
         changes = event.changes;
         found = event.found;
         drawn = drawn.0;

@@ -3,6 +3,7 @@ use Rattle.std.proofs.Common.{◌≡◌, ℕ, ◌≤◌, Bool, true, false, cond
 use Rattle.std.specs.Prelude.{◌||◌, nat_lt, slice_index}
 use Rattle.std.proofs.lemmas.Bool.{lt-ltb, ltb-true}
 use Rattle.asio_types.specs.declared.event.Event.TheVariants as event
+use Rattle.asio_types.specs.declared.event.Event.{Event}
 use Rattle.session_script.specs.Script.{ScriptModel}
 use Rattle.lane_clock.specs.declared.found.Change.{Change}
 use Rattle.lane_clock.specs.declared.found.Change.TheVariants as change
@@ -19,17 +20,17 @@ use Rattle.lane_turns.specs.Telling.{HasPlace, HasPlaceBeyond, HasToldDone}
 use Rattle.lane_turns.proofs.PenLemmas.{gone_on, may_go_on}
 
 -- a draw leaves what was drawn and put
-pub still_drawn : (lane place : ℕ) (before after : List ClockStep) (changes : Change) (found : Found) →
-    after ≡ before ++ Draw changes found ∷ [] → has_drawn lane place before ≡ true → has_drawn lane place after ≡ true
-still_drawn lane place before after changes found same is =
-    ap (has_drawn lane place) same ∙ has_drawn-push lane place before (Draw changes found)
-    ∙ ap (λ b. b || is_place lane place (Draw changes found)) is
+pub still_drawn : (lane place : ℕ) (before after : List ClockStep) (shown : Event) (changes : Change) (found : Found) →
+    after ≡ before ++ Draw shown changes found ∷ [] → has_drawn lane place before ≡ true → has_drawn lane place after ≡ true
+still_drawn lane place before after shown changes found same is =
+    ap (has_drawn lane place) same ∙ has_drawn-push lane place before (Draw shown changes found)
+    ∙ ap (λ b. b || is_place lane place (Draw shown changes found)) is
 
-pub still_fresh : (lane place : ℕ) (before after : List ClockStep) (changes : Change) (found : Found) →
-    after ≡ before ++ Draw changes found ∷ [] → has_put lane place before ≡ false → has_put lane place after ≡ false
-still_fresh lane place before after changes found same is =
-    ap (has_put lane place) same ∙ has_put-push lane place before (Draw changes found)
-    ∙ ap (λ b. b || is_put lane place (Draw changes found)) is
+pub still_fresh : (lane place : ℕ) (before after : List ClockStep) (shown : Event) (changes : Change) (found : Found) →
+    after ≡ before ++ Draw shown changes found ∷ [] → has_put lane place before ≡ false → has_put lane place after ≡ false
+still_fresh lane place before after shown changes found same is =
+    ap (has_put lane place) same ∙ has_put-push lane place before (Draw shown changes found)
+    ∙ ap (λ b. b || is_put lane place (Draw shown changes found)) is
 
 -- a place leaves room for a draw
 pub placed_room : (act lane place : ℕ) (old new : PenView) → HasGone (allots act lane place ∷ []) old new →

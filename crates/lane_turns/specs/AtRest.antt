@@ -25,7 +25,7 @@ abbrev pub rest_lists : RestView → ℕ → List ClockStep
 rest_lists view = lists_of view.known
 
 abbrev pub IsLook : ClockStep → Type 0
-IsLook (Draw changes found) = ⊥
+IsLook (Draw shown changes found) = ⊥
 IsLook (Load found) = ⊥
 IsLook (Place lane place) = ⊥
 IsLook (Put lane place note) = ⊥

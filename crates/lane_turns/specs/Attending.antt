@@ -1,6 +1,7 @@
 -- Whom the opener meets at an event, lanes and workers alike: before it the opener takes in what
 -- each did, and behind it each takes in the event, and the opener that.
 use Rattle.std.specs.Prelude.{◌≡◌, ◌≢◌, ℕ, ◌+◌, ◌<◌, List, [], ◌∷◌, ◌++◌, Some, slice_get}
+use Rattle.asio_types.specs.declared.event.Event.{Event}
 use Rattle.session_script.specs.Script.{ScriptModel}
 use Rattle.lane_clock.specs.declared.found.Change.{Change}
 use Rattle.lane_clock.specs.declared.found.Found.{Found}
@@ -51,9 +52,10 @@ pub record HaveAttended {T : Type 0} (seat : T → SeatView) (script : ScriptMod
 -- the opener's own steps since, of which the last is a draw; they took nothing in
 pub record HasDrawnLast (before after : SeatView) : Type 0 where
   pub front : List ClockStep
+  pub shown : Event
   pub changes : Change
   pub found : Found
-  pub steps : own after ≡ own before ++ (front ++ Draw changes found ∷ [])
+  pub steps : own after ≡ own before ++ (front ++ Draw shown changes found ∷ [])
   pub quiet : (n : ℕ) → joined_count n front ≡ 0
   pub number : after.number ≡ before.number
   pub others : (n : ℕ) → n ≢ before.number → lists_of after n ≡ lists_of before n

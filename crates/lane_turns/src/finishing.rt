@@ -52,8 +52,7 @@ fn part_opener<N: LaneSession>(opener: Opener<N>) -> (LaneSeat, Vec<LogEntry>)
         rounds: _,
         names: _,
     } = opener;
-    let Pen { seat, log } = pen;
-    (seat, log)
+    pen.into_parts()
 }
 
 /// The opener takes in all seats, and closes the clock. `logs` is the room for the logs of all

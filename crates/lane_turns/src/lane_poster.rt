@@ -10,7 +10,7 @@ use lane_map::LaneMap;
 use op_handlers::Ran;
 use session_script::Script;
 use std::marker::{Brand, Model, PhantomData};
-use strand_core::{Posted, Poster};
+use strand_core::{Answered, Posted, Poster};
 
 /// The names of a script and of a pen as it stands where an execution begins, for contracts alone:
 /// who makes a poster picks them.
@@ -92,7 +92,7 @@ impl<'c, 'a, S: PenStart> Poster for LanePoster<'c, 'a, S> {
         begun
     }
 
-    fn call(&mut self, act: ActNo) {
+    fn call(&mut self, act: ActNo, answered: &Answered) {
         draw_call(&mut self.pen, self.clock, self.script, self.map, act);
         self.made.push_reserved(Posted::Call { act });
     }

@@ -1,4 +1,4 @@
-ghost use Rattle.std.specs.Prelude.{◌≡◌, ℕ, ◌<◌, ◌≤◌, [], ◌∷◌, length, slice_index, IfNone, IfSome, IsFalse, IsTrue};
+ghost use Rattle.std.specs.Prelude.{◌≡◌, ℕ, ◌-◌, ◌<◌, ◌≤◌, [], ◌∷◌, length, slice_index, vec_capacity, vec_len, IfNone, IfSome, IsFalse, IsTrue};
 ghost use Rattle.lane_clock.specs.declared.step.ClockStep.TheVariants.{Load, Look, Put};
 ghost use Rattle.lane_clock.specs.ClockWord.{IsParted};
 ghost use Rattle.lane_clock.specs.Seats.{IsSourceOf, Keeps, copy_seat, own};
@@ -15,11 +15,12 @@ use lane_logs::LogEntry;
 use session_script::Script;
 use std::marker::Model;
 
-/// A seat and the log of what it draws.
+/// A seat and the log of what it draws. Only a draw adds an entry, which has the event that the draw
+/// was told.
 #[derive(Drop)]
 pub struct Pen {
-    pub seat: LaneSeat,
-    pub log: Vec<LogEntry>,
+    seat: LaneSeat,
+    log: Vec<LogEntry>,
 }
 
 impl Model for Pen {
@@ -33,13 +34,38 @@ impl Model for Pen {
 }
 
 impl Pen {
+    /// The pen of a seat, whose log has nothing yet.
+    pub fn of(seat: LaneSeat, log: Vec<LogEntry>) -> Pen
+        requires { log.items ≡ [] }
+        ensures { result ≡
+            record { seat = seat; log = log.items; room = vec_capacity log - vec_len log } }
+    {
+        Pen { seat, log }
+    }
+
+    /// The entries so far.
+    pub fn log(&self) -> &[LogEntry]
+        ensures { result.now ≡ self.now.log }
+    {
+        self.log.as_slice()
+    }
+
+    /// The seat and the log, for the end of a session.
+    pub fn into_parts(self) -> (LaneSeat, Vec<LogEntry>)
+        ensures seat { result.0 ≡ self.seat }
+        ensures log { result.1.items ≡ self.log }
+    {
+        let Pen { seat, log } = self;
+        (seat, log)
+    }
+
     /// Draws the position of an event, which gets an entry in the log.
     pub fn draw(&mut self, clock: &LaneClock, change: Change, event: Event) -> Found
         requires clock { self.old.seat.clock ≡ clock.now }
         requires room { MayGo self.old 1 0 }
         ensures { HasGone (shows event change result ∷ []) self.old self.new }
     {
-        let found = clock.draw(&mut self.seat, change);
+        let found = clock.draw(&mut self.seat, change, event);
         self.log.push_reserved(LogEntry {
             position: found.clock,
             event,

@@ -174,7 +174,7 @@ impl<'a, X: Reactor, N: LaneSession> ReactorBaton<'a, X, N> {
 
     /// What it has shown.
     fn log(&self) -> &[LogEntry] {
-        self.lane.pen.log.as_slice()
+        self.lane.pen.log()
     }
 
     /// The number of its lane.

@@ -41,7 +41,7 @@ pub fn take_in_all<N: LaneSession>(
     let mut all = logs;
     let mut rest = pens.into_iter();
     while let Some(pen) = rest.next() {
-        let Pen { seat, log } = pen;
+        let (seat, log) = pen.into_parts();
         opener.take_in(clock, seat);
         all.push_reserved(log);
     }

@@ -17,7 +17,7 @@ steps_on (x ∷ xs) ys = λ k. step_of x ∷ steps_on xs ys k
 look_on : (xs ys : List ClockStep) → first_look (xs ++ ys) ≡ option_or (first_look xs) (first_look ys)
 look_on [] ys = refl
 look_on (Look at place held ∷ xs) ys = refl
-look_on (Draw changes found ∷ xs) ys = look_on xs ys
+look_on (Draw shown changes found ∷ xs) ys = look_on xs ys
 look_on (Load found ∷ xs) ys = look_on xs ys
 look_on (Place at place ∷ xs) ys = look_on xs ys
 look_on (Put at place note ∷ xs) ys = look_on xs ys
@@ -26,7 +26,7 @@ look_on (Join counts ∷ xs) ys = look_on xs ys
 seeing_on : (xs ys : List ClockStep) → draws_unseeing xs ≡ false → draws_unseeing ys ≡ false → draws_unseeing (xs ++ ys) ≡ false
 seeing_on [] ys first then_ = then_
 seeing_on (Look at place held ∷ xs) ys first then_ = refl
-seeing_on (Draw changes found ∷ xs) ys first then_ = first
+seeing_on (Draw shown changes found ∷ xs) ys first then_ = first
 seeing_on (Load found ∷ xs) ys first then_ = seeing_on xs ys first then_
 seeing_on (Place at place ∷ xs) ys first then_ = seeing_on xs ys first then_
 seeing_on (Put at place note ∷ xs) ys first then_ = seeing_on xs ys first then_
@@ -49,7 +49,7 @@ module _ (names : SessionNames) (opener : List ClockStep) (lane : ℕ) (strand :
   look_next None parts (idle (Look at place held)) first follows = λ k. (follows.0 k, (follows.1 ∙ first) k)
   look_next None parts (idle (Load found)) first follows = omega (arith, first)
   look_next None parts (idle (Join counts)) first follows = omega (arith, first)
-  look_next None parts (idle (Draw changes found)) first follows = absurd follows
+  look_next None parts (idle (Draw shown changes found)) first follows = absurd follows
   look_next None parts (idle (Place at place)) first follows = absurd follows
   look_next None parts (idle (Put at place note)) first follows = absurd follows
   look_next None parts (executed part) first follows = λ k. (lane, (follows.next ∙ first) k)
@@ -73,7 +73,7 @@ module _ (names : SessionNames) (opener : List ClockStep) (lane : ℕ) (strand :
   seeing_in parts (idle (Look at place held)) follows = refl
   seeing_in parts (idle (Load found)) follows = refl
   seeing_in parts (idle (Join counts)) follows = refl
-  seeing_in parts (idle (Draw changes found)) follows = absurd follows
+  seeing_in parts (idle (Draw shown changes found)) follows = absurd follows
   seeing_in parts (idle (Place at place)) follows = absurd follows
   seeing_in parts (idle (Put at place note)) follows = absurd follows
   seeing_in parts (executed part) follows = refl

@@ -58,7 +58,8 @@ note_of op = record { op = op; code = code.Ok; size = 0 }
 abbrev pub steps_of : ℕ → ℕ → ℕ → ℕ → List ClockStep → List ClockStep
 steps_of place op events work steps =
     Look 0 place (Some (note_of op)) ∷ Load (later events work)
-    ∷ Draw change.Same (later events work) ∷ Draw change.Down (later (events + 1) work) ∷ steps
+    ∷ Draw (event.Begin op code.Ok 0) change.Same (later events work)
+    ∷ Draw (event.End op (1000 + op)) change.Down (later (events + 1) work) ∷ steps
 
 abbrev pub entries_for : ℕ → ℕ → List LogEntry → List LogEntry
 entries_for op events entries =
@@ -75,7 +76,8 @@ exchanged_entries = entries_for 1 0 (entries_for 0 2 [])
 -- the handler of place 0 begins behind a load, and nothing was looked at
 abbrev pub unlooked_steps : List ClockStep
 unlooked_steps =
-    Load (later 0 2) ∷ Draw change.Same (later 0 2) ∷ Draw change.Down (later 1 2) ∷ []
+    Load (later 0 2) ∷ Draw (event.Begin 0 code.Ok 0) change.Same (later 0 2)
+    ∷ Draw (event.End 0 1000) change.Down (later 1 2) ∷ []
 
 abbrev pub unlooked_entries : List LogEntry
 unlooked_entries = entries_for 0 0 []
@@ -84,7 +86,7 @@ unlooked_entries = entries_for 0 0 []
 abbrev pub first_look : List ClockStep → Option (ℕ × ℕ)
 first_look [] = None
 first_look (Look at place held ∷ steps) = Some (at, place)
-first_look (Draw changes found ∷ steps) = first_look steps
+first_look (Draw shown changes found ∷ steps) = first_look steps
 first_look (Load found ∷ steps) = first_look steps
 first_look (Place at place ∷ steps) = first_look steps
 first_look (Put at place note ∷ steps) = first_look steps
@@ -94,7 +96,7 @@ first_look (Join counts ∷ steps) = first_look steps
 abbrev pub draws_unseeing : List ClockStep → Bool
 draws_unseeing [] = false
 draws_unseeing (Look at place held ∷ steps) = false
-draws_unseeing (Draw changes found ∷ steps) = true
+draws_unseeing (Draw shown changes found ∷ steps) = true
 draws_unseeing (Load found ∷ steps) = draws_unseeing steps
 draws_unseeing (Place at place ∷ steps) = draws_unseeing steps
 draws_unseeing (Put at place note ∷ steps) = draws_unseeing steps

@@ -3,6 +3,7 @@ ghost use Rattle.session_script.specs.Lanes.{is_inline};
 ghost use Rattle.strand_core.specs.Answer.{CanExecute, HasRun, HasExecuted, IfMissing, IfWhole, TakesWhole};
 ghost use Rattle.strand_core.specs.Hands.{HasInlineOf, held_at};
 
+use crate::answered::Answered;
 use crate::hands::Hands;
 use crate::poster::Poster;
 use asio_types::{Code, OpNo};
@@ -56,15 +57,17 @@ fn run<P: Poster, H: CompletionHandler>(
     parents_come_first(script);
     let Completed { op, code, size } = completed;
     let begun = poster.begin(op, code, size);
-    let ran = handler.call(Call {
+    let call = Call {
         op,
         code,
         size,
         begun,
-    });
+    };
+    let answered = Answered::by(handler, call);
+    let ran = answered.ran();
     for &act in script.branch(op, ran.class) {
         if is_inline(script, act) {
-            poster.call(act);
+            poster.call(act, &answered);
             match hands.take(act) {
                 Some(inner) => {
                     let completed = Completed {
@@ -78,7 +81,7 @@ fn run<P: Poster, H: CompletionHandler>(
             }
             poster.back(act);
         } else {
-            poster.call(act);
+            poster.call(act, &answered);
             poster.back(act);
         }
     }

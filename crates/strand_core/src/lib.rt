@@ -4,6 +4,7 @@
 //! handlers that weren't spent stay. The contexts stand on it.
 #![tactic(auto)]
 
+mod answered;
 mod execution;
 mod hands;
 mod lane;
@@ -14,6 +15,7 @@ mod posted;
 mod poster;
 mod racks;
 
+pub use answered::Answered;
 pub use execution::{Execution, execute};
 pub use hands::Hands;
 pub use law::executions_keep_room;

@@ -1,6 +1,7 @@
 ghost use Rattle.std.specs.Prelude.{◌≡◌, ℕ, List, [], ◌∷◌, ◌++◌};
 ghost use Rattle.strand_core.specs.declared.posted.Posted.{Posted};
 
+use crate::answered::Answered;
 use asio_types::{ActNo, Code, OpNo};
 use op_handlers::Ran;
 
@@ -21,8 +22,8 @@ pub trait Poster {
         ensures rest { (rest : List Posted) →
             takes self.old (Posted.Begin op code size result ∷ rest) → takes self.new rest };
 
-    /// An act of the handler that executes is initiated.
-    fn call(&mut self, act: ActNo)
+    /// An act of the handler that executes is initiated, which has answered before.
+    fn call(&mut self, act: ActNo, answered: &Answered)
         requires { takes self.old (Posted.Call act ∷ []) }
         ensures made { made self.new ≡ made self.old ++ Posted.Call act ∷ [] }
         ensures rest { (rest : List Posted) → takes self.old (Posted.Call act ∷ rest) →

@@ -10,7 +10,7 @@ use asio_types::{ActNo, Code, OpNo};
 use op_handlers::{CompletionHandler, Ran};
 use session_script::Script;
 use std::marker::{Brand, Model, PhantomData};
-use strand_core::{Execution, Hands, Posted, Poster, execute};
+use strand_core::{Answered, Execution, Hands, Posted, Poster, execute};
 
 /// A script, where its history stands when an execution begins, and the room for its calls, for
 /// contracts alone: who makes posts picks them.
@@ -110,7 +110,7 @@ impl<'a, S: HistoryStart> Poster for Posts<'a, S> {
         begun
     }
 
-    fn call(&mut self, act: ActNo) {
+    fn call(&mut self, act: ActNo, answered: &Answered) {
         let events = events_of_call(self.script, act);
         self.keep(Posted::Call { act }, events);
     }

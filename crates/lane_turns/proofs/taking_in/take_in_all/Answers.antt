@@ -1,6 +1,7 @@
 use Rattle.std.proofs.Common.{◌≡◌, ◌∷◌, ◌++◌, [], List, arith, map, ap, refl, subst, ◌∙◌}
 use Rattle.std.specs.Vec.Iter.{into_iter_items}
 use Rattle.std.proofs.lemmas.List.{length-map, map-append}
+use Rattle.lane_clock.specs.Seats.{SeatView}
 use Rattle.lane_logs.specs.declared.log.LogEntry.{LogEntry}
 use Rattle.lane_turns.specs.Pens.{PenView}
 use Rattle.lane_turns.specs.TakingIn.{HasJoined}
@@ -19,8 +20,7 @@ loop-pen-init g c =
 
 pub take_in-requires-clause-same : goal.take_in-requires-clause-same
 take_in-requires-clause-same g c =
-    let e : c.pen.inside.seat.clock ≡ c.in-Some.pen.seat.clock = ap (λ (pen : PenView). pen.seat.clock) c.pen.view_is in
-    e
+    ap (λ (seat : SeatView). seat.clock) c.into_parts-seat.ensures.seat
     ∙ next_holds (λ (pen : PenView). pen.seat.clock ≡ g.N.LaneSession.clock) g.N.LaneSession.names.script
     c.args.pens.items (into_iter_items c.loop-pen.rest) (into_iter_items c.next.new.self) c.args.opener.now
     c.loop-pen.opener (map (λ log. log.items) c.args.logs.items) (map (λ log. log.items) c.loop-pen.all.items)
@@ -50,13 +50,13 @@ loop-pen-preserved g c =
           (map (λ log. log.items) c.args.logs.items) (map (λ log. log.items) c.loop-pen.all.items)
           (map (λ log. log.items) c.push_reserved.new.self.items) c.in-Some.pen c.requires.apart c.requires.owns
           c.in-Some.ensures.items
-          (subst (λ (pen : PenView).
-          HasJoined g.N.LaneSession.names.script pen.seat c.loop-pen.opener c.take_in.new.self) c.pen.view_is
+          (subst (λ (seat : SeatView).
+          HasJoined g.N.LaneSession.names.script seat c.loop-pen.opener c.take_in.new.self) c.into_parts-seat.ensures.seat
           c.take_in.ensures)
           (ap (map (λ log. log.items)) c.push_reserved.ensures.items
-          ∙ map-append (λ log. log.items) c.loop-pen.all.items (c.pen.inside.log ∷ [])
+          ∙ map-append (λ log. log.items) c.loop-pen.all.items (c.into_parts-seat.result.1 ∷ [])
           ∙ ap (λ (log : List LogEntry). map (λ log. log.items) c.loop-pen.all.items ++ log ∷ [])
-          (ap (λ (pen : PenView). pen.log) c.pen.view_is))
+          c.into_parts-seat.ensures.log)
           c.loop-pen.invariant.taking;
       capacity = c.push_reserved.ensures.capacity ∙ c.loop-pen.invariant.capacity;
     }

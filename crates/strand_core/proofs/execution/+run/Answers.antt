@@ -25,7 +25,7 @@ next : (g : Over) (t : ℕ) (c : After-is_inline g t) →
 next g t c =
     let same : c.branch-act-items.result.now
     ≡ branch_of c.args.script.now c.args.completed.op (class_of_code c.args.completed.code) =
-    c.branch-act-items.ensures ∙ ap (branch_of c.args.script.now c.args.completed.op) c.call-ran.ensures.class in
+    c.branch-act-items.ensures ∙ ap (branch_of c.args.script.now c.args.completed.op) (ap (λ (r : Ran). r.class) c.ran-ran.ensures ∙ c.by-answered.ensures.class) in
     record {
       ordered = c.parents_come_first.ensures;
       same_script = c.requires.script;
@@ -178,23 +178,23 @@ end-requires g t c =
       arith,
       c.loop-act-test.false,
       ap length (c.branch-act-items.ensures
-          ∙ ap (branch_of c.args.script.now c.args.completed.op) c.call-ran.ensures.class),
+          ∙ ap (branch_of c.args.script.now c.args.completed.op) (ap (λ (r : Ran). r.class) c.ran-ran.ensures ∙ c.by-answered.ensures.class)),
     )) in
     subst (λ (ran : Ran). g.P.Poster.takes c.loop-act.poster (posted.End c.args.completed.op ran ∷ []))
-    (sym (ran_is _ _ _ _ refl c.call-ran.ensures.class c.call-ran.ensures.begun))
+    (sym (ran_is _ _ _ _ refl (ap (λ (r : Ran). r.class) c.ran-ran.ensures ∙ c.by-answered.ensures.class) (ap (λ (r : Ran). r.begun) c.ran-ran.ensures ∙ c.by-answered.ensures.begun)))
     (takes_rest c.loop-act.invariant c.requires.takes []
-    (subst (λ acts. AreCalls c.args.script.now AnyMark acts []) (sym done) no_act) c.call-ran.result.mark)
+    (subst (λ acts. AreCalls c.args.script.now AnyMark acts []) (sym done) no_act) c.ran-ran.result.mark)
 
 pub returns : goal.returns
 returns g t c =
-    let mark : ℕ = c.call-ran.result.mark in
+    let mark : ℕ = c.ran-ran.result.mark in
     let same =
-    ran_is c.call-ran.result mark (class_of_code c.args.completed.code) c.begin-begun.result refl
-    c.call-ran.ensures.class c.call-ran.ensures.begun in
+    ran_is c.ran-ran.result mark (class_of_code c.args.completed.code) c.begin-begun.result refl
+    (ap (λ (r : Ran). r.class) c.ran-ran.ensures ∙ c.by-answered.ensures.class) (ap (λ (r : Ran). r.begun) c.ran-ran.ensures ∙ c.by-answered.ensures.begun) in
     let end : Posted =
     posted.End c.args.completed.op
     (record { mark = mark; class = class_of_code c.args.completed.code; begun = c.begin-begun.result }) in
-    let is_end : posted.End c.args.completed.op c.call-ran.result ≡ end = ap (posted.End c.args.completed.op) same in
+    let is_end : posted.End c.args.completed.op c.ran-ran.result ≡ end = ap (posted.End c.args.completed.op) same in
     let made : g.P.Poster.made c.end.new.self ≡ g.P.Poster.made c.loop-act.poster ++ end ∷ [] =
     c.end.ensures.made ∙ ap (λ call. g.P.Poster.made c.loop-act.poster ++ call ∷ []) is_end in
     let rest : (rest : List Posted) → g.P.Poster.takes c.loop-act.poster (end ∷ rest) →
@@ -213,7 +213,7 @@ returns g t c =
             arith,
             c.loop-act-test.false,
             ap length (c.branch-act-items.ensures
-                ∙ ap (branch_of c.args.script.now c.args.completed.op) c.call-ran.ensures.class),
+                ∙ ap (branch_of c.args.script.now c.args.completed.op) (ap (λ (r : Ran). r.class) c.ran-ran.ensures ∙ c.by-answered.ensures.class)),
           )) c.loop-act.invariant
-          (has_called c.loop-act.hands end _ _ _ _ (λ n. refl) made rest) c.call-ran.ensures.mark;
+          (has_called c.loop-act.hands end _ _ _ _ (λ n. refl) made rest) (ap (λ (r : Ran). r.mark) c.ran-ran.ensures ∙ c.by-answered.ensures.mark);
     }

@@ -22,12 +22,12 @@ put-requires-clause-cell c = (c.in-Some.ensures.within c.args.note.op).within
 
 pub put-requires-clause-drawn : goal.put-requires-clause-drawn
 put-requires-clause-drawn c =
-    still_drawn c.args.lane c.in-Some.place _ _ _ c.draw.result c.draw.ensures.steps
+    still_drawn c.args.lane c.in-Some.place _ _ _ _ c.draw.result c.draw.ensures.steps
     (c.in-Some.ensures.within c.args.note.op).drawn
 
 pub put-requires-clause-fresh : goal.put-requires-clause-fresh
 put-requires-clause-fresh c =
-    still_fresh c.args.lane c.in-Some.place _ _ _ c.draw.result c.draw.ensures.steps
+    still_fresh c.args.lane c.in-Some.place _ _ _ _ c.draw.result c.draw.ensures.steps
     (c.in-Some.ensures.within c.args.note.op).fresh
 
 pub draw-requires-in-None-clause-clock : goal.draw-requires-in-None-clause-clock
