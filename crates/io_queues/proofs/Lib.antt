@@ -1,8 +1,10 @@
 pub mod CallLemmas
 pub mod EntryLemmas
+pub mod FoundLemmas
 pub mod ItemLemmas
 pub mod MadeLemmas
 pub mod NumberLemmas
+pub mod OrderLemmas
 pub mod PartLemmas
 pub mod PathLemmas
 pub mod QueuedLemmas

@@ -168,6 +168,46 @@ module _ {T : Type 0} (places last : ℕ) (next before : List ℕ) (items : List
       (first_entry places last next before items s q queue item (subst (λ k. k < places) read lt)
       (subst (λ k. item_of items k ≡ Some item) read is))
 
+-- the second of a queue, as it is read
+module _ {T : Type 0} (places last : ℕ) (next before : List ℕ) (items : List (Option T))
+    (s : IsQueued places last next before items) (q : ℕ) (queue : q < length (seen places last next items).queues)
+    (x y : ℕ) (read : x ≡ linked next (places + q)) (low : x < places) (more : y ≡ linked next x) where
+  front_is : HasFirst x (queue_of s.queues q)
+  front_is = read_first places last next before items s q queue x read low
+
+  second_is : y ≡ first_or (front_is.rest ++ ring_behind places s.queues q) last
+  second_is =
+      let is = ap length (queue_is places last next before items s q) in
+      let many = length-entries items (queue_of s.queues q) (places_there places last next before items s q) in
+      let one = ap length front_is.is in
+      more ∙ ap (linked next) read
+      ∙ steps_are places last next before items s q queue 1 (omega (arith, is, many, one))
+      ∙ ap (λ l. first_or (drop 1 l ++ ring_behind places s.queues q) last) front_is.is
+
+  rest_is : drop 1 (queue_at (seen places last next items) q) ≡ entries_at items front_is.rest
+  rest_is =
+      ap (drop 1) (queue_is places last next before items s q)
+      ∙ sym (entries-drop items (queue_of s.queues q) 1 (places_there places last next before items s q))
+      ∙ ap (λ l. entries_at items (drop 1 l)) front_is.is
+
+  rest_below : AreBelow places front_is.rest
+  rest_below = (subst (AreBelow places) front_is.is (all_get places s.queues q s.links.all_below)).1
+
+  pub second_place : y < places → place_first (drop 1 (queue_at (seen places last next items) q)) ≡ Some y
+  second_place lt =
+      let there = (subst (AreThere items) front_is.is (places_there places last next before items s q)).1 in
+      let second = first_in places y last front_is.rest (ring_behind places s.queues q) rest_below
+      (behind_high places last next before items s q queue) second_is lt in
+      ap place_first rest_is ∙ ap (λ l. place_first (entries_at items l)) second.is
+      ∙ entry_first y (item_of items y) (entries_at items second.rest)
+      (there_first items y front_is.rest second.rest second.is there)
+
+  pub second_none : places ≤ y → place_first (drop 1 (queue_at (seen places last next items) q)) ≡ None
+  second_none le =
+      ap place_first rest_is
+      ∙ ap (λ l. place_first (entries_at items l))
+      (none_in places y last front_is.rest (ring_behind places s.queues q) rest_below second_is le)
+
 -- links that are read
 pub last_link : {T : Type 0} (places last : ℕ) (next before : List ℕ) (items : List (Option T)) →
     IsQueued places last next before items → (x : ℕ) → x ≡ slice_index_or next last x → x ≡ linked next last

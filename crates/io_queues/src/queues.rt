@@ -1,4 +1,4 @@
-ghost use Rattle.std.specs.Prelude.{◌≡◌, ◌↔◌, ◌<◌, ◌≤◌, ℕ, [], false, true, length, slice_get, IfNone, IfOk, IfSome, IsTrue, None, Some};
+ghost use Rattle.std.specs.Prelude.{◌≡◌, ◌↔◌, ◌<◌, ◌≤◌, ℕ, [], drop, false, true, length, slice_get, IfNone, IfOk, IfSome, IsTrue, None, Some};
 ghost use Rattle.std.specs.Borrow.{Lends, sem};
 ghost use Rattle.std.specs.List.{slice_index_or, slice_set};
 ghost use Rattle.std.specs.Option.{is_some};
@@ -246,6 +246,23 @@ impl<T> Queues<T> {
         let front = self.next[begin as usize];
         if front < self.places {
             return Some(front);
+        }
+        None
+    }
+
+    /// The place of a queue's second, if any.
+    pub fn second(&self, queue: u32) -> Option<u32>
+        requires { queue < length self.now.queues }
+        ensures { result ≡ place_first (drop 1 (queue_at self.now queue)) }
+    {
+        let begin = node_before(self.places, queue, self.last);
+        let front = self.next[begin as usize];
+        if front >= self.places {
+            return None;
+        }
+        let behind = self.next[front as usize];
+        if behind < self.places {
+            return Some(behind);
         }
         None
     }
