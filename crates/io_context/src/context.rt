@@ -3,44 +3,49 @@ ghost use Rattle.io_rules.specs.declared.control.Control.TheVariants as control;
 ghost use Rattle.io_rules.specs.declared.event.Event.TheVariants as event;
 ghost use Rattle.io_rules.specs.Legal.{state_of};
 ghost use Rattle.io_context.specs.Naming.{most_parts};
-ghost use Rattle.io_scheduler.specs.Tallied.{is_idle};
+ghost use Rattle.io_scheduler.specs.Tallied.{is_at_rest};
 
-use crate::clock::ContextClock;
 use crate::new_context::NewContext;
+use crate::poller::Poller;
 use crate::shared::Shared;
 use crate::sleepers::Wake;
 use crate::worker::Worker;
 use asio_types::NoMemory;
 use io_handlers::Handler;
 use io_history::{HistoryTable, Keeper, Named};
+use io_reactor::{Edges, Reactor};
 use io_rules::Limits;
 use io_scheduler::{Scheduler, Section};
 use std::alloc::Global;
+use std::sync::atomic::{AtomicBool, Ordering};
 use std::sync::ledger::Share;
 use std::sync::{Condvar, Mutex, Wait};
-use std::time::Clock;
 
 /// An `io_context`. It must be finished.
-pub struct Context<H: Handler, C: Named> {
+pub struct Context<H: Handler, C: Named, W: Reactor> {
     pub(crate) table: HistoryTable,
     pub(crate) limits: Limits,
     pub(crate) shared: Mutex<Shared<H, C>>,
-    pub(crate) clock: ContextClock,
-    // where workers sleep
+    pub(crate) reactor: W,
+    // with the one that waits for the reactor
+    pub(crate) poller: Mutex<Poller<W>>,
+    // whether waiting has failed
+    pub(crate) failed: AtomicBool,
+    // where all others sleep
     pub(crate) more: Condvar,
-    // where the one sleeps that watches the clock
-    pub(crate) watch: Condvar,
     ghost named: { table ≡ C.table },
 }
 
-impl<H: Handler, C: Named> Context<H, C> {
-    /// A new context, whose clock begins, and the share of which those of its workers are cut. Takes memory
-    /// for all that the context may ever keep; `NoMemory` where it is refused.
-    pub fn make<R: Clock>(
-        rt: &R,
+impl<H: Handler, C: Named, W: Reactor> Context<H, C, W> {
+    /// A new context over this reactor, whose clock it has, and the share of which those of its workers are
+    /// cut. Takes memory for all that the context may ever keep; `NoMemory` where it is refused, and then the
+    /// reactor is finished.
+    pub fn make(
         alloc: Global,
         new: NewContext,
-    ) -> Result<(Context<H, C>, Share<C>), NoMemory>
+        reactor: W,
+        poll: W::Poll,
+    ) -> Result<(Context<H, C, W>, Share<C>), NoMemory>
         requires table { new.table ≡ C.table }
         requires limits { new.limits ≡ C.limits }
         requires name { new.name ≡ C.name }
@@ -55,20 +60,29 @@ impl<H: Handler, C: Named> Context<H, C> {
             limits,
             ledger,
         } = new;
+        let Ok(edges) = Edges::make(alloc) else {
+            reactor.finish(poll);
+            return Err(NoMemory);
+        };
+        let poller = Poller { poll, edges };
         let (ended, share) = ledger.open::<C>();
         match Scheduler::make(alloc, limits, Keeper::of(seat, ended)) {
             Ok(scheduler) => Ok((
                 Context {
                     table,
                     limits,
-                    clock: ContextClock::start(rt),
                     shared: Mutex::new(Shared::new(scheduler)),
+                    reactor,
+                    poller: Mutex::new(poller),
+                    failed: AtomicBool::new(false),
                     more: Condvar::new(),
-                    watch: Condvar::new(),
                 },
                 share,
             )),
-            Err(_) => Err(NoMemory),
+            Err(_) => {
+                poller.finish(reactor);
+                Err(NoMemory)
+            }
         }
     }
 
@@ -89,12 +103,18 @@ impl<H: Handler, C: Named> Context<H, C> {
         match wake {
             Wake::Nobody => {}
             Wake::One => self.more.notify_one(),
-            Wake::Watcher => self.watch.notify_one(),
+            Wake::Watcher => self.reactor.wake(),
             Wake::All => {
                 self.more.notify_all();
-                self.watch.notify_all();
+                self.reactor.wake();
             }
         }
+    }
+
+    /// Whether waiting for the reactor has failed, which stops the context: calls of `run` return as after
+    /// `stop`.
+    pub fn has_failed(&self) -> bool {
+        self.failed.load(Ordering::SeqCst)
     }
 
     /// No handler begins any more, and calls of `run` return as soon as they can (`io_context::stop`).
@@ -111,7 +131,7 @@ impl<H: Handler, C: Named> Context<H, C> {
     /// Handlers may begin again (`io_context::restart`). Answers whether it has: none executes meanwhile,
     /// since whoever runs the context borrows it.
     pub fn restart(&mut self) -> (bool, Section<C>)
-        ensures restarted { result.0 ≡ is_idle (state_of C.limits result.1.before) }
+        ensures restarted { result.0 ≡ is_at_rest (state_of C.limits result.1.before) }
         ensures noted { result.1.after ≡ (if result.0 then event.Restarted ∷ result.1.before else result.1.before) }
     {
         let (restarted, wake) = self.shared.get_mut().restart(&self.table);

@@ -7,21 +7,22 @@ use crate::sleepers::Rest;
 use crate::worker::Worker;
 use io_handlers::Handler;
 use io_history::Named;
-use std::sync::{CondvarTimeouts, MutexGuard, Wait};
-use std::time::{Clock, Duration};
+use io_reactor::Reactor;
+use std::sync::atomic::Ordering;
+use std::sync::{MutexGuard, Wait};
 
-impl<H: Handler, C: Named> Context<H, C> {
+impl<H: Handler, C: Named, W: Reactor> Context<H, C, W> {
     /// The first handler that a worker invokes.
-    pub(crate) fn first<R: Wait + Clock>(&self, rt: &R, waits: bool) -> Option<Invocation<H, C>> {
-        let now = self.clock.read(rt);
+    pub(crate) fn first<R: Wait>(&self, rt: &R, waits: bool) -> Option<Invocation<H, C>> {
+        let now = Some(self.reactor.now());
         let mut shared = self.shared.lock(rt);
         let next = shared.begin(&self.table, now, waits);
         self.go_on(rt, shared, next, waits)
     }
 
     /// Invokes a handler with the lock free, ends it, and takes the next one, behind what is due if the
-    /// worker looks at the clock.
-    pub(crate) fn execute<R: Wait + Clock>(
+    /// worker looks at the clock. It does, too, where an expiry counts from when the handler has returned.
+    pub(crate) fn execute<R: Wait>(
         &self,
         rt: &R,
         invocation: Invocation<H, C>,
@@ -41,10 +42,10 @@ impl<H: Handler, C: Named> Context<H, C> {
             None => unreachable!(),
             Some(staging) => staging,
         };
-        let mut io = staging.begin(running.places());
+        let mut io = staging.begin(running.places(), running.spares());
         let (mark, state) = invoke(handler, done, state, &mut io);
         staging = io.returned();
-        let now = if looks { self.clock.read(rt) } else { None };
+        let now = self.read_if(looks || staging.delays());
         let mut shared = self.shared.lock(rt);
         let by = &mut worker.share;
         let next = shared.end(
@@ -64,8 +65,17 @@ impl<H: Handler, C: Named> Context<H, C> {
         self.go_on(rt, shared, next, waits)
     }
 
+    /// What the clock shows, if it is to be read.
+    fn read_if(&self, looks: bool) -> Option<u64> {
+        if looks {
+            Some(self.reactor.now())
+        } else {
+            None
+        }
+    }
+
     /// Invokes what begins, with the lock free.
-    fn go_on<'a, R: Wait + Clock>(
+    fn go_on<'a, R: Wait>(
         &'a self,
         rt: &R,
         shared: MutexGuard<'a, Shared<H, C>>,
@@ -82,8 +92,19 @@ impl<H: Handler, C: Named> Context<H, C> {
         }
     }
 
+    /// Waits for the reactor until this time, or until it is woken. Where that fails the context stops.
+    fn watch<R: Wait>(&self, rt: &R, until: u64) {
+        let mut poller = self.poller.lock(rt);
+        let waited = poller.wait(rt, &self.reactor, until);
+        drop(poller);
+        if waited.is_err() {
+            self.failed.store(true, Ordering::SeqCst);
+            let _section = self.stop(rt);
+        }
+    }
+
     /// Sleeps until it is called, or until this time.
-    fn sleep<'a, R: Wait + Clock>(
+    fn sleep<'a, R: Wait>(
         &'a self,
         rt: &R,
         shared: MutexGuard<'a, Shared<H, C>>,
@@ -91,18 +112,16 @@ impl<H: Handler, C: Named> Context<H, C> {
     ) -> MutexGuard<'a, Shared<H, C>> {
         match rest {
             Rest::Sleep => self.more.wait(rt, shared),
-            Rest::Watch(expiry) => match self.clock.read(rt) {
-                None => self.watch.wait(rt, shared),
-                Some(now) => {
-                    let left = Duration::from_nanos(expiry.saturating_sub(now));
-                    self.watch.wait_timeout(rt, shared, left).0
-                }
-            },
+            Rest::Watch(expiry) => {
+                drop(shared);
+                self.watch(rt, expiry);
+                self.shared.lock(rt)
+            }
         }
     }
 
     /// Waits until a handler begins, if the worker waits; `None` where its call of `run` is to return.
-    fn pause<'a, R: Wait + Clock>(
+    fn pause<'a, R: Wait>(
         &'a self,
         rt: &R,
         shared: MutexGuard<'a, Shared<H, C>>,
@@ -122,14 +141,14 @@ impl<H: Handler, C: Named> Context<H, C> {
                     drop(shared);
                     self.wake(wake);
                     H::retire(state);
-                    let now = self.clock.read(rt);
+                    let now = Some(self.reactor.now());
                     shared = self.shared.lock(rt);
                     shared.begin(&self.table, now, waits)
                 }
                 Pause::Rest(rest, wake) => {
                     self.wake(wake);
                     shared = self.sleep(rt, shared, rest);
-                    shared.begin_awake(&self.table, self.clock.read(rt), rest)
+                    shared.begin_awake(&self.table, Some(self.reactor.now()), rest)
                 }
             };
             match next {

@@ -9,6 +9,7 @@ use crate::history::History;
 use crate::shared::Shared;
 use io_handlers::Handler;
 use io_history::{HistoryTable, Keeper, Named};
+use io_reactor::Reactor;
 use io_rules::{
     each_handler_is_called_once, handlers_of_a_strand_are_alone,
     handlers_of_a_strand_begin_in_order, nothing_begins_while_stopped,
@@ -77,7 +78,7 @@ fn history<C: Named>(table: HistoryTable, keeper: Keeper<C>, executed: Share<C>)
     History { table, keeper }
 }
 
-impl<H: Handler, C: Named> Context<H, C> {
+impl<H: Handler, C: Named, W: Reactor> Context<H, C, W> {
     /// Destroys the context (`io_context::~io_context`), and answers its whole history. Each handler that is
     /// left is discarded, in the order of the calls, and each strand's state is retired. Waits while a
     /// handler executes; none does, since whoever runs the context borrows it. Where the shares of all
@@ -91,11 +92,13 @@ impl<H: Handler, C: Named> Context<H, C> {
         let Context {
             table,
             limits: _,
-            clock: _,
             shared,
+            reactor,
+            poller,
+            failed: _,
             more: _,
-            watch: _,
         } = self;
+        poller.into_inner().finish(reactor);
         let Shared {
             scheduler,
             sleepers: _,

@@ -8,6 +8,7 @@ ghost use Rattle.io_scheduler.specs.Holding.{may_hold};
 use crate::context::Context;
 use io_handlers::Handler;
 use io_history::Named;
+use io_reactor::Reactor;
 use io_scheduler::Section;
 use std::marker::PhantomData;
 use std::sync::Wait;
@@ -18,7 +19,7 @@ pub struct WorkGuard<C: Named> {
     of: PhantomData<C>,
 }
 
-impl<H: Handler, C: Named> Context<H, C> {
+impl<H: Handler, C: Named, W: Reactor> Context<H, C, W> {
     /// One more work guard; none exactly where 2^64 - 1 are there already.
     pub fn hold<R: Wait>(&self, rt: &R) -> (Option<WorkGuard<C>>, Section<C>)
         ensures held { is_some result.0 ≡ may_hold (state_of C.limits result.1.before) }

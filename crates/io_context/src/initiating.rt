@@ -10,11 +10,12 @@ use crate::context::Context;
 use crate::refused::Refused;
 use io_handlers::Handler;
 use io_history::Named;
+use io_reactor::Reactor;
 use io_rules::{Lane, Operation};
 use io_scheduler::Receipt;
 use std::sync::Wait;
 
-impl<H: Handler, C: Named> Context<H, C> {
+impl<H: Handler, C: Named, W: Reactor> Context<H, C, W> {
     /// Posts a handler from outside of all handlers.
     fn initiate<R: Wait>(
         &self,

@@ -120,6 +120,7 @@ pub(crate) fn invoke<H: Handler>(
     ensures mark { result.0 ≡ (H.marks handler).run }
     ensures state { is_some result.1 ≡ is_some state }
     ensures granted { io.new.granted ≡ io.old.granted }
+    ensures kept { io.new.kept ≡ io.old.kept }
     ensures may { IsInvoked H.may H.may_free handler done state result.1 io.old io.new }
 {
     match state {

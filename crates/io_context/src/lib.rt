@@ -3,7 +3,6 @@
 //! whenever the lock is free and whole at its end, in which the laws of the rules hold. Programs stand on it.
 #![tactic(auto)]
 
-mod clock;
 mod context;
 mod executing;
 mod finishing;
@@ -12,6 +11,7 @@ mod history;
 mod initiating;
 mod invocation;
 mod new_context;
+mod poller;
 mod refused;
 mod running;
 mod shared;
@@ -25,6 +25,7 @@ pub use guard::WorkGuard;
 pub use history::History;
 pub use io_handlers::{Completion, Full, Handler, Initiator, Marks};
 pub use io_history::Named;
+pub use io_reactor::{ClockPoll, ClockReactor, Reactor};
 pub use io_rules::{Lane, Limits, Name};
 pub use io_scheduler::{Receipt, Section};
 pub use new_context::NewContext;

@@ -5,34 +5,34 @@ use crate::worker::Worker;
 use asio_types::NoMemory;
 use io_handlers::Handler;
 use io_history::Named;
+use io_reactor::Reactor;
 use std::alloc::Global;
 use std::sync::Wait;
 use std::sync::ledger::Share;
 use std::thread;
 use std::thread::Threads;
-use std::time::Clock;
 
 /// A worker that never pauses looks at the clock once in so many handlers.
 const LOOKS_EACH: u64 = 16;
 
-impl<H: Handler, C: Named> Context<H, C> {
+impl<H: Handler, C: Named, W: Reactor> Context<H, C, W> {
     /// Executes handlers until the context is stopped or out of work (`io_context::run`), and answers how
     /// many it executed. Waits complete once their timers' expiries have passed. Any number of threads may call it at the same time, each with a worker of its own.
-    pub fn run<R: Wait + Clock>(&self, rt: &R, worker: &mut Worker<H, C>) -> u64
+    pub fn run<R: Wait>(&self, rt: &R, worker: &mut Worker<H, C>) -> u64
         ensures { worker.new.executed ≡ worker.old.executed + result }
     {
         self.serve(rt, worker, true)
     }
 
     /// Executes handlers until none may begin (`io_context::poll`), those of waits that are due too, and answers how many it executed.
-    pub fn poll<R: Wait + Clock>(&self, rt: &R, worker: &mut Worker<H, C>) -> u64
+    pub fn poll<R: Wait>(&self, rt: &R, worker: &mut Worker<H, C>) -> u64
         ensures { worker.new.executed ≡ worker.old.executed + result }
     {
         self.serve(rt, worker, false)
     }
 
     /// Executes handlers until none may begin; a worker that waits does while more may come.
-    fn serve<R: Wait + Clock>(&self, rt: &R, worker: &mut Worker<H, C>, waits: bool) -> u64
+    fn serve<R: Wait>(&self, rt: &R, worker: &mut Worker<H, C>, waits: bool) -> u64
         ensures { worker.new.executed ≡ worker.old.executed + result }
     {
         let mut next = self.first(rt, waits);
@@ -64,9 +64,9 @@ fn destroy_all<H, C: Named>(workers: Vec<Worker<H, C>>, share: &mut Share<C>)
 }
 
 /// So many workers of a context, whose shares are cut off this one.
-fn make_workers<H: Handler, C: Named>(
+fn make_workers<H: Handler, C: Named, W: Reactor>(
     alloc: Global,
-    context: &Context<H, C>,
+    context: &Context<H, C, W>,
     many: usize,
     share: &mut Share<C>,
 ) -> Result<Vec<Worker<H, C>>, NoMemory>
@@ -90,15 +90,21 @@ fn make_workers<H: Handler, C: Named>(
 
 /// Calls `run` on so many threads, until all are back; how many handlers they executed is added to this
 /// share. Takes the memory of their workers first; `NoMemory` where it is refused, and then nothing ran.
-pub fn run_on_threads<R: Threads + Wait + Clock + Sync, H: Handler + Send, C: Named + Send + Sync>(
+pub fn run_on_threads<
+    R: Threads + Wait + Sync,
+    H: Handler + Send,
+    C: Named + Send + Sync,
+    W: Reactor + Sync,
+>(
     rt: &R,
     alloc: Global,
-    context: &Context<H, C>,
+    context: &Context<H, C, W>,
     threads: usize,
     share: &mut Share<C>,
 ) -> Result<(), NoMemory>
 where
     H::State: Send,
+    W::Poll: Send,
     requires { threads < share.old.parts }
     ensures parts { share.new.parts ≡ share.old.parts }
     ensures amount { share.old.amount ≤ share.new.amount }

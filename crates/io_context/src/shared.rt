@@ -8,6 +8,7 @@ ghost use Rattle.io_rules.specs.Legal.{state_of};
 ghost use Rattle.io_rules.specs.Names.{any_free, is_alive};
 ghost use Rattle.io_rules.specs.Operations.{is_posting};
 ghost use Rattle.io_context.specs.Refused.{NoStrandWasFree, WaitWasRefused, WasRefused};
+ghost use Rattle.io_handlers.specs.Initiated.{with_none};
 ghost use Rattle.io_scheduler.specs.Accepted.{waiting_on};
 ghost use Rattle.io_scheduler.specs.Begun.{is_strand};
 ghost use Rattle.io_scheduler.specs.Come.{NotesAllIf, changes};
@@ -15,7 +16,7 @@ ghost use Rattle.io_scheduler.specs.Ended.{mark_of};
 ghost use Rattle.io_scheduler.specs.Holding.{may_hold};
 ghost use Rattle.io_scheduler.specs.Posted.{posting};
 ghost use Rattle.io_scheduler.specs.Sections.{Notes, NotesIf, NotesNothing};
-ghost use Rattle.io_scheduler.specs.Tallied.{is_idle};
+ghost use Rattle.io_scheduler.specs.Tallied.{is_at_rest};
 ghost use Rattle.io_scheduler.specs.Timing.{control_of};
 
 use crate::invocation::{Next, Pause, take_next};
@@ -112,8 +113,8 @@ impl<H: Handler, C: Named> Shared<H, C> {
         take_next(&mut self.scheduler, &mut self.sleepers, table, now, true)
     }
 
-    /// A handler has returned this mark, which counts in the share of its worker, and what it initiated takes
-    /// effect. Then the next one begins, if one may.
+    /// A handler has returned this mark, which counts in the share of its worker, and the clock was read or
+    /// not. What it initiated takes effect. Then the next one begins, if one may.
     pub(crate) fn end(
         &mut self,
         table: &HistoryTable,
@@ -129,12 +130,16 @@ impl<H: Handler, C: Named> Shared<H, C> {
         requires mark { mark_of running.held ≡ Some mark }
         requires state { is_some state ≡ is_strand running.lane }
         requires granted { staging.old.granted ≡ running.places }
+        requires kept { staging.old.kept ≡ running.spares }
         requires part { 0 < by.old.parts }
         ensures counted { by.new.amount ≡ by.old.amount + 1 }
         ensures parts { by.new.parts ≡ by.old.parts }
-        ensures taken { staging.new ≡ record staging.old { staged = [] } }
+        ensures taken { staging.new ≡ with_none staging.old }
     {
-        match self.scheduler.end(table, running, state, mark, staging, by) {
+        match self
+            .scheduler
+            .end(table, running, state, mark, staging, by, now)
+        {
             Some(state) => Next::Pause(Pause::Retire(state, self.sleepers.call(&self.scheduler))),
             None => take_next(&mut self.scheduler, &mut self.sleepers, table, now, waits),
         }
@@ -153,7 +158,7 @@ impl<H: Handler, C: Named> Shared<H, C> {
     /// Handlers may begin again.
     pub(crate) fn restart(&mut self, table: &HistoryTable) -> ((bool, Section<C>), Wake)
         requires { table.now ≡ C.table }
-        ensures restarted { result.0.0 ≡ is_idle self.old }
+        ensures restarted { result.0.0 ≡ is_at_rest self.old }
         ensures noted { NotesIf result.0.0 C.limits event.Restarted
             result.0.1.before result.0.1.after self.old self.new }
     {

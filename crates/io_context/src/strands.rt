@@ -10,11 +10,12 @@ use crate::context::Context;
 use crate::refused::Refused;
 use io_handlers::Handler;
 use io_history::Named;
+use io_reactor::Reactor;
 use io_rules::Name;
 use io_scheduler::Section;
 use std::sync::Wait;
 
-impl<H: Handler, C: Named> Context<H, C> {
+impl<H: Handler, C: Named, W: Reactor> Context<H, C, W> {
     /// Makes a strand with this state (`make_strand`), which comes back where no strand is free.
     pub fn make_strand<R: Wait>(
         &self,

@@ -14,12 +14,13 @@ use crate::context::Context;
 use crate::refused::Refused;
 use io_handlers::Handler;
 use io_history::Named;
+use io_reactor::Reactor;
 use io_rules::{Lane, Name};
 use io_scheduler::{Receipt, Section, TimerChange};
 use std::sync::Wait;
-use std::time::{Clock, Duration};
+use std::time::Duration;
 
-impl<H: Handler, C: Named> Context<H, C> {
+impl<H: Handler, C: Named, W: Reactor> Context<H, C, W> {
     /// Makes a timer, whose expiry has passed (`basic_waitable_timer`); where no timer is free, answers the
     /// critical section in which that was so.
     pub fn make_timer<R: Wait>(&self, rt: &R) -> Result<(Name, Section<C>), Section<C>>
@@ -58,18 +59,11 @@ impl<H: Handler, C: Named> Context<H, C> {
     }
 
     /// Likewise to so much later than now (`basic_waitable_timer::expires_after`), and answers the expiry.
-    /// Where the clock can't be read, now is when the context was made.
-    pub fn expires_after<R: Wait + Clock>(
-        &self,
-        rt: &R,
-        timer: Name,
-        after: Duration,
-    ) -> (u64, Section<C>)
+    pub fn expires_after<R: Wait>(&self, rt: &R, timer: Name, after: Duration) -> (u64, Section<C>)
         ensures { result.1.after ≡ changed_by C.limits timer (change.ExpiresAt result.0) result.1.before }
     {
         let later = u64::try_from(after.as_nanos()).unwrap_or(u64::MAX);
-        let now = self.clock.read(rt).unwrap_or(0);
-        let at = now.saturating_add(later);
+        let at = self.reactor.now().saturating_add(later);
         (at, self.expires_at(rt, timer, at))
     }
 

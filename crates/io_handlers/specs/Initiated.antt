@@ -1,16 +1,22 @@
 -- What a handler initiates while it executes (Asio reference, Requirements on asynchronous operations;
 -- that it takes effect when the handler has returned is this project's own).
-use Rattle.std.specs.Prelude.{◌≡◌, ◌<◌, ◌≤◌, ℕ, ◌+◌, ◌-◌, ◌||◌, nat_lt, Bool, true, false, List, [], ◌∷◌, ◌++◌, length, None}
+use Rattle.std.specs.Prelude.{◌≡◌, ◌<◌, ◌≤◌, ℕ, ◌+◌, ◌-◌, ◌||◌, min, nat_lt, Bool, true, false, List, [], ◌∷◌, ◌++◌, length, None, Some}
+use Rattle.std.specs.Duration.{as_nanos}
+use Rattle.std.specs.declared.time.Duration.{Duration}
 use Rattle.io_rules.specs.declared.control.Control.{Control}
 use Rattle.io_rules.specs.declared.control.Control.TheVariants as control
 use Rattle.io_rules.specs.declared.name.Kind.{Kind}
 use Rattle.io_rules.specs.declared.name.Kind.TheVariants as kind
 use Rattle.io_rules.specs.declared.name.Lane.{Lane}
+use Rattle.io_rules.specs.declared.name.Name.{Name}
 use Rattle.io_rules.specs.declared.operation.Operation.{Operation}
+use Rattle.io_rules.specs.declared.operation.Operation.TheVariants as operation
 use Rattle.io_rules.specs.declared.request.Marks.{Marks}
 use Rattle.io_rules.specs.declared.request.Request.{Request}
 use Rattle.io_rules.specs.Operations.{is_posting}
+use Rattle.io_rules.specs.declared.spares.Spares.{Spares}
 use Rattle.io_rules.specs.Room.{one_if}
+use Rattle.io_rules.specs.Spares.{no_spares, spare_of, without_spare}
 use Rattle.io_handlers.specs.declared.staged.Initiating.{Initiating}
 use Rattle.io_handlers.specs.declared.staged.Staged.{Staged}
 use Rattle.io_handlers.specs.declared.staged.Staged.TheVariants as staged
@@ -28,6 +34,12 @@ pub record Initiated (H : Type 0) : Type 0 where
   pub room : ℕ
   -- for how many there is when a handler begins
   pub most : ℕ
+  -- the names that are kept for what it makes
+  pub kept : Spares
+  -- those that it hasn't used
+  pub spares : Spares
+  -- whether a call counts from when it has returned
+  pub delays : Bool
 
 -- the first operation has room of its own
 abbrev pub IsRoomFor : Bool → ℕ → Type 0
@@ -54,43 +66,90 @@ called call i = record i {
   room = room_after i.first i.room;
 }
 
-abbrev pub changed : {H : Type 0} → Control → Initiated H → Initiated H
-changed change i = record i { staged = i.staged ++ staged.Changed change ∷ []; room = i.room - 1 }
+-- what is made has one of the names that are left, which isn't left then
+abbrev pub IsMadeOf : Control → Spares → Type 0
+IsMadeOf (control.Make kind name) spares = spare_of kind spares ≡ Some name
+IsMadeOf _ spares = Unit {0}
 
--- a posting, without a cancellation slot
+abbrev pub spares_made : Control → Spares → Spares
+spares_made (control.Make kind name) spares = without_spare kind spares
+spares_made _ spares = spares
+
+abbrev pub changed : {H : Type 0} → Control → Initiated H → Initiated H
+changed change i = record i {
+  staged = i.staged ++ staged.Changed change ∷ [];
+  room = i.room - 1;
+  spares = spares_made change i.spares;
+}
+
+-- so many nanoseconds, at most as many as there are
+abbrev pub delay_of : Duration → ℕ
+delay_of after = min (as_nanos after) 18446744073709551615
+
+abbrev pub delayed : {H : Type 0} → Name → ℕ → Initiated H → Initiated H
+delayed timer after i = record i {
+  staged = i.staged ++ staged.ExpiresAfter timer after ∷ [];
+  room = i.room - 1;
+  delays = true;
+}
+
+-- without a cancellation slot
 abbrev pub initiating : {H : Type 0} → Lane → Operation → H → Initiating H
 initiating lane kind handler =
     record { lane = lane; binding = None; kind = kind; handler = handler }
 
 abbrev pub new_initiated : {H : Type 0} → ℕ → Initiated H
-new_initiated most =
-    record { staged = []; granted = 0; places = 0; first = false; room = 0; most = most }
+new_initiated most = record {
+  staged = [];
+  granted = 0;
+  places = 0;
+  first = false;
+  room = 0;
+  most = most;
+  kept = no_spares;
+  spares = no_spares;
+  delays = false;
+}
 
--- a handler begins, and may initiate so many
-abbrev pub renewed : {H : Type 0} → ℕ → Initiated H → Initiated H
-renewed places i =
-    record i { granted = places; places = places; first = true; room = i.most }
+-- a handler begins, and may initiate so many, and make something under these names
+abbrev pub renewed : {H : Type 0} → ℕ → Spares → Initiated H → Initiated H
+renewed places spares i = record i {
+  granted = places;
+  places = places;
+  first = true;
+  room = i.most;
+  kept = spares;
+  spares = spares;
+  delays = false;
+}
 
 abbrev pub operations_of : {H : Type 0} → Staged H → ℕ
 operations_of (staged.Called call) = 1
 operations_of (staged.Changed change) = 0
+operations_of (staged.ExpiresAfter timer after) = 0
 
 -- how many operations are initiated by these calls
 abbrev pub operations_in : {H : Type 0} → List (Staged H) → ℕ
 operations_in [] = 0
 operations_in (call ∷ calls) = operations_of call + operations_in calls
 
--- a posting, without a cancellation slot
-pub record IsPosting {H : Type 0} (call : Initiating H) : Type 0 where
-  pub posting : is_posting call.kind ≡ true
+-- a posting, or a wait
+abbrev pub is_offered_kind : Operation → Bool
+is_offered_kind (operation.Wait timer) = true
+is_offered_kind kind = is_posting kind
+
+-- without a cancellation slot
+pub record IsOfferedCall {H : Type 0} (call : Initiating H) : Type 0 where
+  pub offered : is_offered_kind call.kind ≡ true
   pub unbound : call.binding ≡ None
 
 abbrev pub is_timer : Kind → Bool
 is_timer kind.Timer = true
 is_timer _ = false
 
--- a stop, or what is done with a timer: a new expiry, a cancellation, its end
+-- a stop, or what is done with a timer: that it is made, a new expiry, a cancellation, its end
 abbrev pub is_offered_change : Control → Bool
+is_offered_change (control.Make of name) = is_timer of
 is_offered_change control.Stop = true
 is_offered_change (control.Expires timer at) = true
 is_offered_change (control.Cancel timer) = true
@@ -99,12 +158,36 @@ is_offered_change (control.Free of name) = is_timer of
 is_offered_change _ = false
 
 abbrev pub IsOffered : {H : Type 0} → Staged H → Type 0
-IsOffered (staged.Called call) = IsPosting call
+IsOffered (staged.Called call) = IsOfferedCall call
 IsOffered (staged.Changed change) = is_offered_change change ≡ true
+IsOffered (staged.ExpiresAfter timer after) = Unit {0}
 
 abbrev pub AreOffered : {H : Type 0} → List (Staged H) → Type 0
 AreOffered [] = Unit {0}
 AreOffered (call ∷ calls) = IsOffered call × AreOffered calls
+
+-- what this call makes has one of these names
+abbrev pub IsMade : {H : Type 0} → Staged H → Spares → Type 0
+IsMade (staged.Changed change) kept = IsMadeOf change kept
+IsMade _ kept = Unit {0}
+
+-- those that are left behind it
+abbrev pub left_by : {H : Type 0} → Staged H → Spares → Spares
+left_by (staged.Changed change) kept = spares_made change kept
+left_by _ kept = kept
+
+-- likewise of these calls, one after another
+abbrev pub AreMade : {H : Type 0} → List (Staged H) → Spares → Type 0
+AreMade [] kept = Unit {0}
+AreMade (call ∷ calls) kept = IsMade call kept × AreMade calls (left_by call kept)
+
+abbrev pub left_by_all : {H : Type 0} → List (Staged H) → Spares → Spares
+left_by_all [] kept = kept
+left_by_all (call ∷ calls) kept = left_by_all calls (left_by call kept)
+
+-- all calls have taken effect
+abbrev pub with_none : {H : Type 0} → Initiated H → Initiated H
+with_none i = record i { staged = []; kept = left_by_all i.staged i.kept }
 
 -- the memory of this capacity has room for all that it may still take, here and when it begins anew
 pub record HasRoom {H : Type 0} (capacity : ℕ) (i : Initiated H) : Type 0 where
@@ -112,6 +195,8 @@ pub record HasRoom {H : Type 0} (capacity : ℕ) (i : Initiated H) : Type 0 wher
   pub anew : i.most + 1 ≤ capacity
   pub granted : operations_in i.staged + i.places ≤ i.granted
   pub offered : AreOffered i.staged
+  pub made : AreMade i.staged i.kept
+  pub left : i.spares ≡ left_by_all i.staged i.kept
 
 -- the request of such a call
 abbrev pub request_of : {H : Type 0} → (H → Marks) → Initiating H → Request

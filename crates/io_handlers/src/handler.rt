@@ -26,12 +26,14 @@ pub trait Handler: Sized {
     fn call(self, done: Completion, state: &mut Self::State, io: &mut Initiator<Self>) -> u64
         ensures may { may self done state.old state.new io.old io.new }
         ensures grant { io.new.granted ≡ io.old.granted }
+        ensures kept { io.new.kept ≡ io.old.kept }
         ensures mark { result ≡ (marks self).run };
 
     /// Executes it on no strand, and answers its run mark.
     fn call_free(self, done: Completion, io: &mut Initiator<Self>) -> u64
         ensures may { may_free self done io.old io.new }
         ensures grant { io.new.granted ≡ io.old.granted }
+        ensures kept { io.new.kept ≡ io.old.kept }
         ensures mark { result ≡ (marks self).run };
 
     /// Destroys it without a call, and answers its drop mark.

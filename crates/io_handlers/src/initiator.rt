@@ -1,13 +1,15 @@
-ghost use Rattle.std.specs.Prelude.{◌≡◌, if◌then◌else◌, nat_lt, IfErr, OnErr, OnOk};
+ghost use Rattle.std.specs.Prelude.{◌≡◌, ◌<◌, ◌&&◌, if◌then◌else◌, false, nat_lt, IfErr, IfNone, IfSome, OnErr, OnOk, Some};
+ghost use Rattle.std.specs.Option.{is_some};
 ghost use Rattle.io_rules.specs.declared.control.Control.TheVariants as control;
 ghost use Rattle.io_rules.specs.declared.name.Kind.TheVariants as kind;
 ghost use Rattle.io_rules.specs.declared.operation.Operation.TheVariants as operation;
-ghost use Rattle.io_handlers.specs.Initiated.{MayInitiate, called, changed, initiating};
+ghost use Rattle.io_handlers.specs.Initiated.{MayInitiate, called, changed, delay_of, delayed, initiating};
 
 use crate::staged::{Full, Initiating};
 use crate::staging::Staging;
 use io_rules::{Control, Kind, Lane, Name, Operation};
 use std::marker::Model;
+use std::time::Duration;
 
 /// What a handler that executes initiates operations with. What it takes is accepted, and takes effect in
 /// order when the handler has returned. Contracts see what is staged, and for how much more there is room.
@@ -21,6 +23,13 @@ impl<H> Model for Initiator<H> {
     ghost Value = { Initiated H };
 
     ghost view = { λ i. i.staging };
+}
+
+/// So many nanoseconds, at most as many as there are.
+fn delay_of(after: Duration) -> u64
+    ensures { result ≡ delay_of after }
+{
+    u64::try_from(after.as_nanos()).unwrap_or(u64::MAX)
 }
 
 impl<H> Initiator<H> {
@@ -79,12 +88,55 @@ impl<H> Initiator<H> {
         })
     }
 
+    /// `basic_waitable_timer::async_wait`: a handler that is ready once the timer's expiry has passed, or once
+    /// the wait is cancelled. Where the timer or the strand is gone by then, it completes at once with
+    /// bad_descriptor, without a strand where that one is gone. Likewise.
+    pub fn wait(&mut self, timer: Name, lane: Lane, handler: H) -> Result<(), Full<H>>
+        ensures may { OnOk result (MayInitiate self.old) }
+        ensures called { OnOk result
+            (self.new ≡ called (initiating lane (operation.Wait timer) handler) self.old) }
+        ensures full { OnErr result (¬ MayInitiate self.old) }
+        ensures same { OnErr result (self.new ≡ self.old) }
+        ensures back { IfErr result (λ full. full.0 ≡ handler) }
+    {
+        let kind = Operation::Wait { timer };
+        self.staging.initiate(Initiating {
+            lane,
+            binding: None,
+            kind,
+            handler,
+        })
+    }
+
     /// `io_context::stop`; answers whether there was room for the call, and where not nothing has changed.
     pub fn stop(&mut self) -> bool
         ensures room { result ≡ nat_lt 0 self.old.room }
         ensures stopped { self.new ≡ (if result then changed control.Stop self.old else self.old) }
     {
         self.staging.change(Control::Stop)
+    }
+
+    /// Makes a timer, whose expiry has passed (`basic_waitable_timer`), under a name that is kept for the
+    /// handler: it can be named at once, also in what the handler initiates. `None` where no name is left, or
+    /// no room for the call, and then nothing has changed.
+    pub fn make_timer(&mut self) -> Option<Name>
+        ensures kept { IfSome result (λ name. self.old.spares.timer ≡ Some name) }
+        ensures room { IfSome result (λ name. 0 < self.old.room) }
+        ensures made { IfSome result (λ name. self.new ≡ changed (control.Make kind.Timer name) self.old) }
+        ensures refused { IfNone result ((nat_lt 0 self.old.room && is_some self.old.spares.timer) ≡ false) }
+        ensures same { IfNone result (self.new ≡ self.old) }
+    {
+        match self.staging.spares().timer {
+            None => None,
+            Some(name) => {
+                let kind = Kind::Timer;
+                if self.staging.change(Control::Make { kind, name }) {
+                    Some(name)
+                } else {
+                    None
+                }
+            }
+        }
     }
 
     /// `basic_waitable_timer::expires_at`: a timer's expiry, in nanoseconds since the context was made. What
@@ -95,6 +147,15 @@ impl<H> Initiator<H> {
         ensures changed { self.new ≡ (if result then changed (control.Expires timer at) self.old else self.old) }
     {
         self.staging.change(Control::Expires { timer, at })
+    }
+
+    /// `basic_waitable_timer::expires_after`: likewise so much later than the clock shows when the handler has
+    /// returned.
+    pub fn expires_after(&mut self, timer: Name, after: Duration) -> bool
+        ensures room { result ≡ nat_lt 0 self.old.room }
+        ensures delayed { self.new ≡ (if result then delayed timer (delay_of after) self.old else self.old) }
+    {
+        self.staging.delay(timer, delay_of(after))
     }
 
     /// `basic_waitable_timer::cancel`: likewise, and the expiry stays.

@@ -6,6 +6,7 @@
 mod completion;
 mod handler;
 mod initiator;
+mod spares;
 mod staged;
 mod staging;
 
@@ -13,5 +14,6 @@ pub use completion::Completion;
 pub use handler::Handler;
 pub use initiator::Initiator;
 pub use io_rules::Marks;
+pub use spares::without_spare;
 pub use staged::{Full, Initiating, Staged};
 pub use staging::Staging;

@@ -1,4 +1,4 @@
-use io_rules::{Binding, Control, Lane, Operation};
+use io_rules::{Binding, Control, Lane, Name, Operation};
 
 /// A call of an initiating function, with its handler.
 pub struct Initiating<H> {
@@ -18,6 +18,9 @@ pub enum Staged<H> {
     Called(Initiating<H>),
     /// A function that changes the context at once, and has no handler.
     Changed(Control),
+    /// `basic_waitable_timer::expires_after`: the timer expires so many nanoseconds after its handler has
+    /// returned.
+    ExpiresAfter { timer: Name, after: u64 },
 }
 
 /// No place is left for one more operation: its handler comes back.

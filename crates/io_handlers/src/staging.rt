@@ -1,10 +1,11 @@
-ghost use Rattle.std.specs.Prelude.{◌≡◌, ◌≤◌, ◌+◌, if◌then◌else◌, [], ◌∷◌, nat_lt, true, IfErr, IfNone, IfOk, IfSome, OnErr, OnOk, drop};
-ghost use Rattle.io_handlers.specs.Initiated.{IsOffered, IsPosting, IsRoomFor, MayInitiate, called, changed, is_offered_change, new_initiated, operations_in, renewed, room_after};
+ghost use Rattle.std.specs.Prelude.{◌≡◌, ◌≤◌, ◌+◌, if◌then◌else◌, [], ◌∷◌, nat_lt, true, IfErr, IfNone, IfOk, IfSome, OnErr, OnOk};
+ghost use Rattle.io_handlers.specs.Initiated.{IsMade, IsMadeOf, IsOffered, IsOfferedCall, IsRoomFor, MayInitiate, called, changed, delayed, is_offered_change, left_by, new_initiated, operations_in, renewed, room_after};
 
 use crate::initiator::Initiator;
+use crate::spares::{left_by, no_spares};
 use crate::staged::{Full, Initiating, Staged};
 use asio_types::NoMemory;
-use io_rules::Control;
+use io_rules::{Control, Name, Spares};
 use std::alloc::Global;
 use std::collections::VecDeque;
 use std::marker::Model;
@@ -24,6 +25,12 @@ pub struct Staging<H> {
     room: usize,
     // for how many there is when a handler begins
     most: usize,
+    // the names that are kept for what is staged and what it may still make
+    kept: Spares,
+    // those that nothing staged uses
+    spares: Spares,
+    // whether a call counts from when the handler has returned
+    delays: bool,
 }
 
 impl<H> Model for Staging<H> {
@@ -39,6 +46,9 @@ impl<H> Model for Staging<H> {
       first = i.first;
       room = i.room;
       most = i.most;
+      kept = i.kept;
+      spares = i.spares;
+      delays = i.delays;
     } };
 
     ghost invariant = { λ i. HasRoom (deque_capacity i.staged) (record {
@@ -48,6 +58,9 @@ impl<H> Model for Staging<H> {
       first = i.first;
       room = i.room;
       most = i.most;
+      kept = i.kept;
+      spares = i.spares;
+      delays = i.delays;
     }) };
 }
 
@@ -74,25 +87,32 @@ impl<H> Staging<H> {
             first: false,
             room: 0,
             most,
+            kept: no_spares(),
+            spares: no_spares(),
+            delays: false,
         })
     }
 
-    /// A handler begins, and may initiate so many operations. What was staged before has taken effect.
-    pub fn begin(self, places: u64) -> Initiator<H>
+    /// A handler begins, and may initiate so many operations, and make something under these names. What was
+    /// staged before has taken effect.
+    pub fn begin(self, places: u64, spares: Spares) -> Initiator<H>
         requires { self.staged ≡ [] }
-        ensures { result ≡ renewed places self }
+        ensures { result ≡ renewed places spares self }
     {
         let mut staging = self;
         staging.granted = places;
         staging.places = places;
         staging.first = true;
         staging.room = staging.most;
+        staging.kept = spares;
+        staging.spares = spares;
+        staging.delays = false;
         Initiator { staging }
     }
 
     /// Initiates an operation, or gives its handler back where no place or no room is left.
     pub(crate) fn initiate(&mut self, call: Initiating<H>) -> Result<(), Full<H>>
-        requires { IsPosting call }
+        requires { IsOfferedCall call }
         ensures may { OnOk result (MayInitiate self.old) }
         ensures called { OnOk result (self.new ≡ called call self.old) }
         ensures full { OnErr result (¬ MayInitiate self.old) }
@@ -117,7 +137,8 @@ impl<H> Staging<H> {
 
     /// A call that has no handler, as far as there is room for it; answers whether there is.
     pub(crate) fn change(&mut self, change: Control) -> bool
-        requires { is_offered_change change ≡ true }
+        requires offered { is_offered_change change ≡ true }
+        requires made { IsMadeOf change self.old.spares }
         ensures room { result ≡ nat_lt 0 self.old.room }
         ensures changed { self.new ≡ (if result then changed change self.old else self.old) }
     {
@@ -125,8 +146,39 @@ impl<H> Staging<H> {
             return false;
         }
         self.room -= 1;
-        self.staged.push_back_reserved(Staged::Changed(change));
+        let call = Staged::Changed(change);
+        self.spares = left_by(&call, self.spares);
+        self.staged.push_back_reserved(call);
         true
+    }
+
+    /// Likewise of an expiry that counts from when the handler has returned.
+    pub(crate) fn delay(&mut self, timer: Name, after: u64) -> bool
+        ensures room { result ≡ nat_lt 0 self.old.room }
+        ensures delayed { self.new ≡ (if result then delayed timer after self.old else self.old) }
+    {
+        if self.room < 1 {
+            return false;
+        }
+        self.room -= 1;
+        self.delays = true;
+        self.staged
+            .push_back_reserved(Staged::ExpiresAfter { timer, after });
+        true
+    }
+
+    /// The names that nothing staged uses.
+    pub(crate) fn spares(&self) -> Spares
+        ensures { result ≡ self.now.spares }
+    {
+        self.spares
+    }
+
+    /// Whether a call that was staged counts from when the handler has returned.
+    pub fn delays(&self) -> bool
+        ensures { result ≡ self.now.delays }
+    {
+        self.delays
     }
 
     /// What is staged lies within the grant.
@@ -140,10 +192,19 @@ impl<H> Staging<H> {
     pub fn next(&mut self) -> Option<Staged<H>>
         ensures first { IfSome result (λ call. self.old.staged ≡ call ∷ self.new.staged) }
         ensures offered { IfSome result IsOffered }
+        ensures made { IfSome result (λ call. IsMade call self.old.kept) }
         ensures none { IfNone result (self.old.staged ≡ []) }
-        ensures rest { self.new ≡ record self.old { staged = drop 1 self.old.staged } }
+        ensures rest { IfSome result (λ call. self.new
+            ≡ record self.old { staged = self.new.staged; kept = left_by call self.old.kept }) }
+        ensures same { IfNone result (self.new ≡ self.old) }
     {
-        self.staged.pop_front()
+        match self.staged.pop_front() {
+            None => None,
+            Some(call) => {
+                self.kept = left_by(&call, self.kept);
+                Some(call)
+            }
+        }
     }
 
     /// Ends its use; what was staged has taken effect.
@@ -157,6 +218,9 @@ impl<H> Staging<H> {
             first: _,
             room: _,
             most: _,
+            kept: _,
+            spares: _,
+            delays: _,
         } = self;
         staged.destroy_empty();
     }

@@ -5,14 +5,15 @@ use Rattle.std.proofs.lemmas.Bool.Decides.{eqb_tells, nat_tests}
 use Rattle.std.proofs.lemmas.List.{get_or-replicate, get_or-set_other, get_or-set_same, get_or_past, get_or_read, length-replicate, length-set, length_push}
 use Rattle.std.proofs.lemmas.List.Folds.{sum_by-replicate}
 use Rattle.std.proofs.lemmas.List.Sums.{count_by-le-length, sum_by-set}
-use Rattle.std.specs.Prelude.{◌≡◌, ◌<◌, ◌≤◌, ℕ, suc, ◌+◌, Bool, true, false, List, [], ◌∷◌, ◌++◌, count_by, length, nat_lt, replicate, ◌||◌}
+use Rattle.std.specs.Prelude.{◌≡◌, ◌<◌, ◌≤◌, ℕ, suc, ◌+◌, ◌==◌, not, if◌then◌else◌, Bool, true, false, List, [], ◌∷◌, ◌++◌, count_by, length, nat_lt, replicate, ◌||◌}
 use Rattle.std.specs.List.{list_any, slice_index_or, slice_set}
 use Rattle.io_rules.specs.declared.place.Life.{Life}
 use Rattle.io_rules.specs.declared.place.Life.TheVariants as life
 use Rattle.io_rules.specs.declared.place.Place.{Place}
+use Rattle.io_rules.specs.Completing.{others_than}
 use Rattle.io_rules.specs.Names.{any_free, is_unused, new_place, no_place, place_at}
 use Rattle.io_rules.specs.Room.{one_if}
-use Rattle.io_rules.proofs.TotalLemmas.{same}
+use Rattle.io_rules.proofs.TotalLemmas.{equal, same}
 use Rattle.io_names.specs.Free.{AreFree, times}
 
 abbrev unused : Place → Bool
@@ -86,6 +87,57 @@ taken p ps places new isnt free =
     left_none : (b : Bool) (n : ℕ) → suc n ≡ one_if b → n ≡ 0
     left_none true n is = omega (arith, is)
     left_none false n is = absurd (omega (arith, is))
+
+-- a place isn't listed any more
+here_if : (b : Bool) (x p : ℕ) (rest : List ℕ) → (x == p) ≡ b → times p rest ≡ 0 →
+    times p (if not b then x ∷ rest else rest) ≡ 0
+here_if true x p rest is none = none
+here_if false x p rest is none = let here = ap one_if is in omega (arith, here, none)
+
+left_here : (p : ℕ) (xs : List ℕ) → times p (others_than p xs) ≡ 0
+left_here p [] = refl
+left_here p (x ∷ xs) = here_if (x == p) x p (others_than p xs) refl (left_here p xs)
+
+else_if : (b : Bool) (x p n : ℕ) (rest xs : List ℕ) → (x == p) ≡ b → p ≢ n → times n rest ≡ times n xs →
+    times n (if not b then x ∷ rest else rest) ≡ times n (x ∷ xs)
+else_if true x p n rest xs is other same_times =
+    ⊎_elim
+    (λ (t : (eqb x n ≡ true) × (x ≡ n)). absurd (other (sym (equal x p is) ∙ t.1)))
+    (λ (t : (eqb x n ≡ false) × (x ≢ n)). let here = ap one_if t.0 in omega (arith, here, same_times)) (eqb_tells x n)
+else_if false x p n rest xs is other same_times = omega (arith, same_times)
+
+left_else : (p n : ℕ) (xs : List ℕ) → p ≢ n → times n (others_than p xs) ≡ times n xs
+left_else p n [] other = refl
+left_else p n (x ∷ xs) other = else_if (x == p) x p n (others_than p xs) xs refl other (left_else p n xs other)
+
+length_if : (b : Bool) (x : ℕ) (rest : List ℕ) (n m : ℕ) → length rest + n ≡ m →
+    length (if not b then x ∷ rest else rest) + (one_if b + n) ≡ suc m
+length_if true x rest n m is = omega (arith, is)
+length_if false x rest n m is = omega (arith, is)
+
+left_length : (p : ℕ) (xs : List ℕ) → length (others_than p xs) + times p xs ≡ length xs
+left_length p [] = omega arith
+left_length p (x ∷ xs) =
+    length_if (x == p) x (others_than p xs) (times p xs) (length xs) (left_length p xs)
+
+pub unlisted : (p : ℕ) (ps : List ℕ) (places : List Place) (new : Place) → p < length places →
+    unused (place_at places p) ≡ true → unused new ≡ false → AreFree ps places →
+    AreFree (others_than p ps) (slice_set places p new)
+unlisted p ps places new within was isnt free =
+    let step = counted_set places p new true false within was isnt in
+    let all = free.all in let left = left_length p ps in let one = free.once p ∙ ap one_if was in
+    record {
+      once = λ n.
+          ⊎_elim
+          (λ (t : (eqb p n ≡ true) × (p ≡ n)).
+          subst (λ k. times k (others_than p ps) ≡ 0) t.1 (left_here p ps)
+          ∙ sym (ap (λ at. one_if (unused at)) (place_here places p n new within t.1) ∙ ap one_if isnt))
+          (λ (t : (eqb p n ≡ false) × (p ≢ n)).
+          left_else p n ps t.1 ∙ free.once n
+          ∙ sym (ap (λ at. one_if (unused at)) (place_else places p n new t.1)))
+          (eqb_tells p n);
+      all = omega (arith, step, all, left, one);
+    }
 
 -- one more is free
 pub given : (p : ℕ) (ps : List ℕ) (places : List Place) (new : Place) → p < length places →

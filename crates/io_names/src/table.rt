@@ -1,7 +1,9 @@
 ghost use Rattle.std.specs.Prelude.{◌≡◌, false, true, replicate, IfNone, IfOk, IfSome, None};
 ghost use Rattle.io_rules.specs.declared.place.Life.TheVariants as life;
+ghost use Rattle.io_rules.specs.Completing.{others_than};
 ghost use Rattle.io_rules.specs.Names.{any_free, is_alive, is_free, is_leaving, is_unused, new_place, place_at, with_freed, with_life};
 ghost use Rattle.io_rules.specs.Spares.{MayKeep, with_life_of};
+ghost use Rattle.std.specs.VecDeque.{deque_capacity};
 ghost use Rattle.io_names.specs.Tables.{name_at};
 
 use asio_types::NoMemory;
@@ -30,6 +32,14 @@ impl Model for NameTable {
 
     ghost invariant = { λ t.
         AreFree t.free.items t.places.items × (length t.places.items ≤ deque_capacity t.free) };
+}
+
+/// This place isn't listed any more.
+fn unlist(free: &mut VecDeque<u32>, place: u32)
+    ensures items { free.new.items ≡ others_than place free.old.items }
+    ensures capacity { deque_capacity free.new ≡ deque_capacity free.old }
+{
+    free.retain(|other| *other != place);
 }
 
 impl NameTable {
@@ -86,6 +96,27 @@ impl NameTable {
                 })
             }
         }
+    }
+
+    /// Something is made under this name, which was kept for it. A name that was free isn't any more.
+    pub fn open(&mut self, name: Name)
+        ensures { self.new ≡ with_life life.Alive name self.old }
+    {
+        let place = name.place as usize;
+        if place >= self.places.len() {
+            return;
+        }
+        let at = self.places[place];
+        let alive = Place {
+            generation: at.generation,
+            life: Life::Alive,
+        };
+        if let Life::Free = at.life {
+            unlist(&mut self.free, name.place);
+            self.places[place] = alive;
+            return;
+        }
+        self.places[place] = alive;
     }
 
     /// A name that was kept and not used is free again.

@@ -5,11 +5,13 @@
 #![tactic(auto)]
 
 mod answer;
+mod clock_reactor;
 mod edges;
 mod idle_reactor;
 mod reactor;
 
 pub use answer::{Accepted, Linked, Transferred};
+pub use clock_reactor::{ClockPoll, ClockReactor, NoSocket};
 pub use edges::{Edge, Edges, MOST_EDGES, Readiness};
 pub use idle_reactor::{IdlePoll, IdleReactor, IdleSocket};
 pub use reactor::Reactor;

@@ -356,8 +356,8 @@ module _ {H S : Type 0} (marks : H → Marks) (limits : Limits) (past : List Eve
 
   pub abort_left : IsLegal limits past →
       IsCancelling marks limits counts names
-      (readied_cells wait.item.lane (ready_with wait.op code.Aborted 0 wait.item.handler) cells)
-      (readied_jobs wait.item.lane (ready_with wait.op code.Aborted 0 wait.item.handler) cells jobs)
+      (readied_cells wait.item.lane (ready_with wait.op code.Aborted 0 None None wait.item.handler) cells)
+      (readied_jobs wait.item.lane (ready_with wait.op code.Aborted 0 None None wait.item.handler) cells jobs)
       (without_wait wait.op timers) (tally_called tally) rest (after (event.Done wait.op code.Aborted 0) (state_of limits past))
   abort_left legal =
       let v = going.waiting in
@@ -365,7 +365,7 @@ module _ {H S : Type 0} (marks : H → Marks) (limits : Limits) (past : List Eve
         waiting = wait_done wait.op code.Aborted wait.item.lane v;
         is = sym step.is;
         strands = going.strands;
-        shows = shows_on marks limits counts names cells jobs v going.shows wait.op code.Aborted 0 wait.item.handler
+        shows = shows_on marks limits counts names cells jobs v going.shows wait.op code.Aborted 0 None None wait.item.handler
             (left_settled wait.op v.settled) (left_waits wait.op v.waits) (ap (left_settled wait.op) going.shows.settled)
             wait.item.lane (there legal) (unready marks v wait it);
         waits = waits_left marks limits timers v wait code.Aborted going.waits is;

@@ -14,6 +14,8 @@ use Rattle.io_rules.specs.declared.name.Lane.TheVariants as lane
 use Rattle.io_rules.specs.declared.name.Name.{Name}
 use Rattle.io_rules.specs.declared.op.Op.{Op}
 use Rattle.io_rules.specs.declared.op.Phase.TheVariants as phase
+use Rattle.io_rules.specs.declared.op.Wait.{Wait}
+use Rattle.io_rules.specs.declared.operation.Operation.{Operation}
 use Rattle.io_rules.specs.declared.operation.Operation.TheVariants as operation
 use Rattle.io_rules.specs.declared.request.Gone.TheVariants as gone
 use Rattle.io_rules.specs.declared.request.Marks.{Marks}
@@ -21,7 +23,7 @@ use Rattle.io_rules.specs.Calls.{gone_by, gone_of, is_lane_gone}
 use Rattle.io_rules.specs.Legal.{IsLegal, MayHappen, after, state_of}
 use Rattle.io_rules.specs.Names.{Names, is_alive, is_current, is_living, place_at}
 use Rattle.io_rules.specs.Room.{numbers_left, one_if, places_in}
-use Rattle.io_rules.specs.State.{ContextState, strand_at}
+use Rattle.io_rules.specs.State.{ContextState, StreamState, strand_at}
 use Rattle.io_rules.specs.Strands.{Later, called_on, on_lane}
 use Rattle.io_rules.proofs.OnceLemmas.{total-less}
 use Rattle.io_rules.proofs.RoomLemmas.{places_add_up}
@@ -54,15 +56,30 @@ use Rattle.io_scheduler.proofs.SpaceLemmas.{living_used, not_gone, there_if, the
 use Rattle.io_scheduler.proofs.SpareLemmas.{spares_push}
 use Rattle.io_scheduler.proofs.WaitsLemmas.{below_next}
 
--- the operation that waits
-abbrev pub wait_op : ℕ → Lane → Name → Marks → Op
-wait_op n on timer marks = record {
+-- an operation that waits for the outside
+abbrev pub pending_op : ℕ → Lane → Operation → Marks → Op
+pending_op n on kind marks = record {
   number = n;
   lane = on;
   binding = None;
-  kind = operation.Wait timer;
+  kind = kind;
   marks = marks;
   phase = phase.Pending 0 false;
+}
+
+abbrev pub wait_op : ℕ → Lane → Name → Marks → Op
+wait_op n on timer marks = pending_op n on (operation.Wait timer) marks
+
+-- the state behind the call of one, with what is settled then, what waits, and the streams
+abbrev pub accepted_with : ℕ → Lane → Operation → Marks → List ℕ → List Wait → List StreamState → ContextState → ContextState
+accepted_with n on kind marks settled waits streams s = record s {
+  next = s.next + 1;
+  room = s.room - 1;
+  ops = s.ops ++ pending_op n on kind marks ∷ [];
+  settled = settled;
+  waits = waits;
+  strands = on_lane on (called_on Later n) s.strands;
+  streams = streams;
 }
 
 -- the state behind its call
@@ -115,12 +132,13 @@ waits_none lane.Own = refl
 waits_none (lane.Strand name) = refl
 
 module _ {H S : Type 0} (marks : H → Marks) (limits : Limits) (counts : Counts) (names : Names) (cells : List (Cell H S))
-    (jobs : JobList (ReadyOp H)) (s : ContextState) (timer : Name) (handler : H) (op : ReadyOp H)
+    (jobs : JobList (ReadyOp H)) (s : ContextState) (kind : Operation) (settled : List ℕ) (waits : List Wait)
+    (streams : List StreamState) (none : settled ≡ []) (handler : H) (op : ReadyOp H)
     (shows : Shows marks limits counts names cells jobs s) where
   accepted_own : Shows marks limits (counts_posted counts) names cells jobs
-      (accepted_state s.next lane.Own timer (marks handler) s)
+      (accepted_with s.next lane.Own kind (marks handler) settled waits streams s)
   accepted_own =
-      let new = wait_op s.next lane.Own timer (marks handler) in
+      let new = pending_op s.next lane.Own kind (marks handler) in
       let count = own_count s.ops new in let all = shows.own_all in
       record {
         limits_are = shows.limits_are;
@@ -136,7 +154,7 @@ module _ {H S : Type 0} (marks : H → Marks) (limits : Limits) (counts : Counts
         own = ready-kept marks s.ops (s.ops ++ new ∷ []) lane.Own (own_ops jobs.ring) (keeps_posted s.ops new) shows.own;
         own_all = omega (arith, count, all);
         own_room = shows.own_room;
-        settled = ap (λ xs. xs ++ [] ++ []) shows.settled;
+        settled = none;
         going = shows.going;
       }
 
@@ -152,10 +170,10 @@ module _ {H S : Type 0} (marks : H → Marks) (limits : Limits) (counts : Counts
   accepted_strand : (name : Name) → is_current s.names.strands name ≡ true → name.place < length cells →
       is_there (cell_at cells name.place) ≡ true → op.number ≡ s.next →
       Shows marks limits (counts_posted counts) names (later_cells (lane.Strand name) op cells) jobs
-      (accepted_state s.next (lane.Strand name) timer (marks handler) s)
+      (accepted_with s.next (lane.Strand name) kind (marks handler) settled waits streams s)
   accepted_strand name current within is_here number =
       let n = s.next in
-      let new = wait_op n (lane.Strand name) timer (marks handler) in
+      let new = pending_op n (lane.Strand name) kind (marks handler) in
       let p = name.place in
       let old = cell_at cells p in
       let cell = called Later op old in
@@ -191,16 +209,16 @@ module _ {H S : Type 0} (marks : H → Marks) (limits : Limits) (counts : Counts
         own = ready-kept marks s.ops (s.ops ++ new ∷ []) lane.Own (own_ops jobs.ring) (keeps_posted s.ops new) shows.own;
         own_all = omega (arith, count, all);
         own_room = shows.own_room;
-        settled = ap (λ xs. xs ++ [] ++ []) shows.settled;
+        settled = none;
         going = shows.going;
       }
 
   -- what is kept behind it
-  pub shows_accepted : (on : Lane) → is_lane_gone s.names on ≡ false → op.number ≡ s.next →
+  pub shows_pending : (on : Lane) → is_lane_gone s.names on ≡ false → op.number ≡ s.next →
       Shows marks limits (counts_posted counts) names (later_cells on op cells) jobs
-      (accepted_state s.next on timer (marks handler) s)
-  shows_accepted lane.Own there number = accepted_own
-  shows_accepted (lane.Strand name) there number =
+      (accepted_with s.next on kind (marks handler) settled waits streams s)
+  shows_pending lane.Own there number = accepted_own
+  shows_pending (lane.Strand name) there number =
       let alive : is_alive s.names.strands name ≡ true = not_gone (is_alive s.names.strands name) there in
       accepted_strand name
       (both (is_current s.names.strands name) (is_living (place_at s.names.strands name.place).life) alive).one
@@ -209,8 +227,19 @@ module _ {H S : Type 0} (marks : H → Marks) (limits : Limits) (counts : Counts
       ∙ living_used (place_at s.names.strands name.place).life
       (both (is_current s.names.strands name) (is_living (place_at s.names.strands name.place).life) alive).other) number
 
+module _ {H S : Type 0} (marks : H → Marks) (limits : Limits) (counts : Counts) (names : Names) (cells : List (Cell H S))
+    (jobs : JobList (ReadyOp H)) (s : ContextState) (timer : Name) (handler : H) (op : ReadyOp H)
+    (shows : Shows marks limits counts names cells jobs s) where
+  pub shows_accepted : (on : Lane) → is_lane_gone s.names on ≡ false → op.number ≡ s.next →
+      Shows marks limits (counts_posted counts) names (later_cells on op cells) jobs
+      (accepted_state s.next on timer (marks handler) s)
+  shows_accepted on there number =
+      shows_pending marks limits counts names cells jobs s (operation.Wait timer) (s.settled ++ [] ++ [])
+      (s.waits ++ record { op = s.next; timer = timer } ∷ []) s.streams (ap (λ xs. xs ++ [] ++ []) shows.settled) handler op
+      shows on there number
+
   -- it may be tied
-  pub may_be_tied : (on : Lane) → is_lane_gone s.names on ≡ false → 0 < numbers_left s → MayBeTiedTo on cells
+  pub may_be_tied : (on : Lane) → is_lane_gone s.names on ≡ false → s.next < 18446744073709551615 → MayBeTiedTo on cells
   may_be_tied lane.Own there numbers = tt
   may_be_tied (lane.Strand name) there numbers =
       let alive : is_alive s.names.strands name ≡ true = not_gone (is_alive s.names.strands name) there in
@@ -317,7 +346,8 @@ module _ {H S : Type 0} (marks : H → Marks) (limits : Limits) (past : List Eve
   pub wait_tied : MayBeTiedTo on cells
   wait_tied =
       may_be_tied marks limits counts names cells jobs (state_of limits past) timer handler
-      (record { number = counts.next; code = code.Ok; size = 0; handler = handler }) shows on may.there may.numbers
+      (record { number = counts.next; code = code.Ok; size = 0; buffer = None; made = None; handler = handler }) shows on may.there
+      (let numbers = may.numbers in omega (arith, numbers))
 
   pub wait_within : timer.place < length timers.timers
   wait_within = timer_within marks limits timers (state_of limits past) waits timer may.timer_there

@@ -1,5 +1,7 @@
 -- A handler that executes initiates an operation: what is kept shows the state behind that.
 use Rattle.std.proofs.Common.{arith, ap, refl, subst, sym, ◌∙◌}
+use Rattle.std.proofs.lemmas.Bool.{true≢false}
+use Rattle.std.specs.Global.{Vec}
 use Rattle.std.specs.Prelude.{◌≡◌, ◌<◌, ℕ, ◌+◌, ◌-◌, ◌&&◌, nat_lt, Bool, true, false, List, [], ◌∷◌, ◌++◌, Option, Some, None, IsSome}
 use Rattle.asio_types.specs.declared.code.Code.{Code}
 use Rattle.asio_types.specs.declared.code.Code.TheVariants as code
@@ -11,18 +13,22 @@ use Rattle.io_rules.specs.declared.op.Op.{Op}
 use Rattle.io_rules.specs.declared.op.Phase.TheVariants as phase
 use Rattle.io_rules.specs.declared.op.Wait.{Wait}
 use Rattle.io_rules.specs.declared.operation.Operation.{Operation}
+use Rattle.io_rules.specs.declared.operation.Operation.TheVariants as operation
+use Rattle.io_rules.specs.declared.request.Gone.{Gone}
 use Rattle.io_rules.specs.declared.request.Gone.TheVariants as gone
 use Rattle.io_rules.specs.declared.request.Marks.{Marks}
 use Rattle.io_rules.specs.declared.spares.Spares.{Spares}
-use Rattle.io_rules.specs.Calls.{gone_by, is_lane_gone}
+use Rattle.io_rules.specs.Calls.{IsWithin, accepted, caller_lane, gone_by, gone_of, is_lane_gone, is_timer_gone, new_op, target_if}
 use Rattle.io_rules.specs.Legal.{IsLegal, MayHappen, after, state_of}
 use Rattle.io_rules.specs.Names.{Names}
-use Rattle.io_rules.specs.Operations.{is_posting}
+use Rattle.io_rules.specs.Operations.{is_posting, target_of, timer_of}
 use Rattle.io_rules.specs.Ops.{op_at, passes}
 use Rattle.io_rules.specs.Room.{has_place, one_if, place_given, place_given_by}
+use Rattle.io_rules.specs.Serving.{served}
 use Rattle.io_rules.specs.State.{ContextState}
-use Rattle.io_rules.specs.Strands.{called_on, entry_of_dispatch, entry_of_kind, on_lane}
+use Rattle.io_rules.specs.Strands.{called_on, entry_of, entry_of_dispatch, entry_of_kind, on_lane}
 use Rattle.io_rules.proofs.TotalLemmas.{lane-found}
+use Rattle.io_handlers.specs.Initiated.{is_offered_kind}
 use Rattle.io_history.specs.declared.view.Held.{Held}
 use Rattle.io_history.specs.Steps.{held_still, holding}
 use Rattle.io_history.proofs.AtLemmas.{at-push}
@@ -30,14 +36,15 @@ use Rattle.io_strands.specs.declared.ready.ReadyOp.{ReadyOp}
 use Rattle.io_strands.specs.Cell.{Cell}
 use Rattle.io_jobs.specs.Listed.{JobList}
 use Rattle.io_scheduler.specs.declared.counts.Counts.{Counts}
+use Rattle.io_scheduler.specs.Called.{gone_for, is_any_gone, lane_left}
+use Rattle.io_scheduler.specs.Counted.{counts_of}
 use Rattle.io_scheduler.specs.Ended.{mark_of}
 use Rattle.io_scheduler.specs.Entered.{HasRoomFor, entered_cells, entered_jobs}
 use Rattle.io_scheduler.specs.Posted.{counts_called, posting, ready_posting}
-use Rattle.io_scheduler.specs.Running.{IsExecution}
+use Rattle.io_scheduler.specs.Running.{HeldOp, IsExecution}
 use Rattle.io_scheduler.specs.Shown.{Shows}
-use Rattle.io_scheduler.proofs.EndedLemmas.{HeldOp}
 use Rattle.io_scheduler.proofs.GivenLemmas.{counts_given, given_phase, given_space, given_state, may_give, shows_given}
-use Rattle.io_scheduler.proofs.PostedLemmas.{after_posting, called_state, gone_posting, posted_op, shows_posted, within_posting}
+use Rattle.io_scheduler.proofs.PostedLemmas.{after_posting, called_state, posted_op, shows_posted}
 use Rattle.io_scheduler.proofs.ReadyLemmas.{at_changed}
 use Rattle.io_scheduler.proofs.SpaceLemmas.{entered_space}
 
@@ -62,15 +69,15 @@ taken_back room = omega arith
 
 pub shows_with : {H S : Type 0} (marks : H → Marks) (limits : Limits) (counts : Counts) (names : Names)
     (cells : List (Cell H S)) (jobs : JobList (ReadyOp H)) (s : ContextState) (first : Bool) (n by : ℕ) (on : Lane)
-    (kind : Operation) (code : Code) (handler : H) (settled : List ℕ) (waits : List Wait) → n ≡ s.next → settled ≡ [] →
+    (kind : Operation) (code : Code) (buffer : Option (Vec ℕ)) (handler : H) (settled : List ℕ) (waits : List Wait) → n ≡ s.next → settled ≡ [] →
     is_lane_gone s.names on ≡ false → Shows marks limits counts names cells jobs s →
-    Shows marks limits (counts_called counts) names (entered_cells first on (ready_posting n code handler) cells)
-    (entered_jobs first on (ready_posting n code handler) cells jobs)
+    Shows marks limits (counts_called counts) names (entered_cells first on (ready_posting n code buffer handler) cells)
+    (entered_jobs first on (ready_posting n code buffer handler) cells jobs)
     (called_with first n by on (posted_op n on kind (marks handler) code) settled waits s s.room)
-shows_with marks limits counts names cells jobs s first n by on kind code handler settled waits is none there shows =
+shows_with marks limits counts names cells jobs s first n by on kind code buffer handler settled waits is none there shows =
     let new = posted_op n on kind (marks handler) code in
-    let new_cells = entered_cells first on (ready_posting n code handler) cells in
-    let new_jobs = entered_jobs first on (ready_posting n code handler) cells jobs in
+    let new_cells = entered_cells first on (ready_posting n code buffer handler) cells in
+    let new_jobs = entered_jobs first on (ready_posting n code buffer handler) cells jobs in
     subst
     (λ room. Shows marks limits (counts_called counts) names new_cells new_jobs
     (called_with first n by on new settled waits s room))
@@ -79,19 +86,68 @@ shows_with marks limits counts names cells jobs s first n by on kind code handle
     (λ room. Shows marks limits (counts_with counts room) names new_cells new_jobs
     (called_with first n by on new settled waits s (s.room + 1 - 1)))
     (taken_back counts.room)
-    (shows_posted marks limits (counts_given counts) names cells jobs (given_state by s) first n on kind code handler
+    (shows_posted marks limits (counts_given counts) names cells jobs (given_state by s) first n on kind code buffer handler
     settled waits is none there (shows_given marks limits counts names cells jobs s by shows)))
 
-pub may_be_called : (s : ContextState) (n by : ℕ) (from on : Lane) (kind : Operation) (marks : Marks) (own gone_lane : Bool)
-    (grant : ℕ) (spares : Spares) (held : Option Held) → s.finishing ≡ false → n ≡ s.next → is_posting kind ≡ true →
-    is_lane_gone s.names on ≡ gone_lane → HeldOp s by from own grant spares held → 0 < one_if own + grant →
-    MayHappen s (event.Called n (Some by) (posting on kind marks) (gone_by gone_lane false false false))
-may_be_called s n by from on kind marks own gone_lane grant spares held going is posts there it some = record {
+pub gone_offered : (s : ContextState) (on : Lane) (kind : Operation) (marks : Marks) → is_offered_kind kind ≡ true →
+    gone_for s.names on kind ≡ gone_of s (posting on kind marks)
+gone_offered s on operation.Post marks is = refl
+gone_offered s on operation.Defer marks is = refl
+gone_offered s on operation.Dispatch marks is = refl
+gone_offered s on (operation.Wait timer) marks is = refl
+gone_offered s on _ marks is = absurd (true≢false (sym is))
+
+within_offered : (held : ℕ) (kind : Operation) → is_offered_kind kind ≡ true → IsWithin held kind
+within_offered held operation.Post is = tt
+within_offered held operation.Defer is = tt
+within_offered held operation.Dispatch is = tt
+within_offered held (operation.Wait timer) is = tt
+within_offered held _ is = absurd (true≢false (sym is))
+
+pub offered_posting : (kind : Operation) → is_posting kind ≡ true → is_offered_kind kind ≡ true
+offered_posting operation.Post is = refl
+offered_posting operation.Defer is = refl
+offered_posting operation.Dispatch is = refl
+offered_posting _ is = absurd (true≢false (sym is))
+
+-- what names nothing gone
+pub record AllThere (names : Names) (on : Lane) (kind : Operation) : Type 0 where
+  pub lane : is_lane_gone names on ≡ false
+  pub timer : is_timer_gone names (timer_of kind) ≡ false
+
+all_if : (b t : Bool) → gone.Nothing ≡ gone_by b false t false → (b ≡ false) × (t ≡ false)
+all_if false false is = (refl, refl)
+all_if true t is = absurd (cc)
+all_if false true is = absurd (cc)
+
+pub all_there : (names : Names) (on : Lane) (kind : Operation) → gone.Nothing ≡ gone_for names on kind →
+    AllThere names on kind
+all_there names on kind is =
+    let both = all_if (is_lane_gone names on) (is_timer_gone names (timer_of kind)) is in
+    record { lane = both.0; timer = both.1 }
+
+other_if : (b t : Bool) → gone.Other ≡ gone_by b false t false → b ≡ false
+other_if false t is = refl
+other_if true t is = absurd (cc)
+
+-- where the handler of a request executes that names something gone
+pub left_there : (names : Names) (on : Lane) (kind : Operation) (given : Gone) → given ≡ gone_for names on kind →
+    is_any_gone given ≡ true → is_lane_gone names (lane_left on given) ≡ false
+left_there names on kind gone.Nothing is any = absurd (true≢false (sym any))
+left_there names on kind gone.Strand is any = refl
+left_there names on kind gone.Other is any =
+    other_if (is_lane_gone names on) (is_timer_gone names (timer_of kind)) is
+
+pub may_be_called : (s : ContextState) (n by : ℕ) (from on : Lane) (kind : Operation) (marks : Marks) (given : Gone)
+    (own : Bool) (grant : ℕ) (spares : Spares) (held : Option Held) → s.finishing ≡ false → n ≡ s.next →
+    is_offered_kind kind ≡ true → given ≡ gone_for s.names on kind → HeldOp s by from own grant spares held →
+    0 < one_if own + grant → MayHappen s (event.Called n (Some by) (posting on kind marks) given)
+may_be_called s n by from on kind marks given own grant spares held going is offered given_is it some = record {
   going = going;
   number = is;
-  names = gone_posting s on kind marks gone_lane posts there;
+  names = given_is ∙ gone_offered s on kind marks offered;
   allowed = ap (passes has_place) it.is ∙ ap has_place it.runs ∙ may_give own grant spares some;
-  within = within_posting s.limits.held kind posts;
+  within = within_offered s.limits.held kind offered;
 }
 
 pub state_called : (s : ContextState) (first : Bool) (n by : ℕ) (from on : Lane) (kind : Operation) (marks : Marks)
@@ -108,16 +164,16 @@ pub shows_called : {H S : Type 0} (marks : H → Marks) (limits : Limits) (count
     (kind : Operation) (handler : H) (own : Bool) (grant : ℕ) (spares : Spares) (held : Option Held) → n ≡ s.next →
     is_posting kind ≡ true → is_lane_gone s.names on ≡ false → HeldOp s by from own grant spares held →
     entry_of_kind from on kind ≡ entry_of_dispatch first → Shows marks limits counts names cells jobs s →
-    Shows marks limits (counts_called counts) names (entered_cells first on (ready_posting n code.Ok handler) cells)
-    (entered_jobs first on (ready_posting n code.Ok handler) cells jobs)
+    Shows marks limits (counts_called counts) names (entered_cells first on (ready_posting n code.Ok None handler) cells)
+    (entered_jobs first on (ready_posting n code.Ok None handler) cells jobs)
     (after (event.Called n (Some by) (posting on kind (marks handler)) gone.Nothing) s)
 shows_called marks limits counts names cells jobs s first n by from on kind handler own grant spares held is
     posts there it enters shows =
     subst
-    (Shows marks limits (counts_called counts) names (entered_cells first on (ready_posting n code.Ok handler) cells)
-    (entered_jobs first on (ready_posting n code.Ok handler) cells jobs))
+    (Shows marks limits (counts_called counts) names (entered_cells first on (ready_posting n code.Ok None handler) cells)
+    (entered_jobs first on (ready_posting n code.Ok None handler) cells jobs))
     (sym (state_called s first n by from on kind (marks handler) own grant spares held posts it enters))
-    (shows_with marks limits counts names cells jobs s first n by on kind code.Ok handler (s.settled ++ [] ++ [])
+    (shows_with marks limits counts names cells jobs s first n by on kind code.Ok None handler (s.settled ++ [] ++ [])
     (s.waits ++ []) is (ap (λ xs. xs ++ [] ++ []) shows.settled) there shows)
 
 -- what it held is held still
@@ -134,14 +190,14 @@ held_behind s by from own grant spares None it executes at = absurd executes
 held_behind s by from own grant spares (Some h) it executes at =
     ap (λ k. holding k (op_at s.ops k)) executes.number ∙ ap (holding by) at
 
-pub still_held : (s : ContextState) (by : ℕ) (from : Lane) (was own : Bool) (had grant : ℕ) (spares : Spares)
+pub still_held : (s : ContextState) (by : ℕ) (from : Lane) (was own : Bool) (had grant : ℕ) (spares left : Spares)
     (held new : Option Held) (it : Op) → IsExecution by from was had spares held → op_at s.ops by ≡ Some it →
-    it.lane ≡ from → it.phase ≡ phase.Running own grant spares → mark_of held ≡ Some it.marks.run →
-    new ≡ held_still s held → StillHeld by from own grant spares held new
-still_held s by from was own had grant spares held new it executes at lane_is runs returns is =
+    it.lane ≡ from → it.phase ≡ phase.Running own grant left → mark_of held ≡ Some it.marks.run →
+    new ≡ held_still s held → StillHeld by from own grant left held new
+still_held s by from was own had grant spares left held new it executes at lane_is runs returns is =
     let new_is : Some (record { op = by; is = it }) ≡ new =
     sym (is ∙ held_behind s by from was had spares held it executes at) in
-    subst (StillHeld by from own grant spares held) new_is (record {
+    subst (StillHeld by from own grant left held) new_is (record {
       executes = record { number = refl; on = lane_is; runs = runs };
       some = refl;
       mark = sym returns;
@@ -156,22 +212,56 @@ pub held_called : (s new : ContextState) (by : ℕ) (from : Lane) (own : Bool) (
     HeldOp s by from own grant spares held → new.ops ≡ place_given_by (Some by) s.ops ++ last ∷ [] →
     still ≡ held_still new held → StillHeld by from (own && nat_lt 0 grant) (grant - 1) spares held still
 held_called s new by from own grant spares held still last executes it are is =
-    still_held new by from own (own && nat_lt 0 grant) grant (grant - 1) spares held still (with_less it.op) executes
+    still_held new by from own (own && nat_lt 0 grant) grant (grant - 1) spares spares held still (with_less it.op) executes
     (ap (λ ops. op_at ops by) are
     ∙ at-push by (place_given_by (Some by) s.ops) last (with_less it.op)
     (at_changed by (λ o. place_given o.phase) s.ops it.op it.is))
     it.at (ap place_given it.runs ∙ given_phase own grant spares) it.returns is
 
+-- the operations behind a call
+no_target : (kind : Operation) → is_offered_kind kind ≡ true → target_of kind ≡ None
+no_target operation.Post is = refl
+no_target operation.Defer is = refl
+no_target operation.Dispatch is = refl
+no_target (operation.Wait timer) is = refl
+no_target _ is = absurd (true≢false (sym is))
+
+none_if : (given : Gone) → target_if given None ≡ None
+none_if gone.Nothing = refl
+none_if gone.Strand = refl
+none_if gone.Other = refl
+
+pub ops_called : (s : ContextState) (n by : ℕ) (on : Lane) (kind : Operation) (marks : Marks) (given : Gone) →
+    is_offered_kind kind ≡ true →
+    (after (event.Called n (Some by) (posting on kind marks) given) s).ops
+    ≡ place_given_by (Some by) s.ops
+    ++ new_op (entry_of (caller_lane s.ops (Some by)) (posting on kind marks) given) n (posting on kind marks) given ∷ []
+ops_called s n by on kind marks given offered =
+    let request = posting on kind marks in
+    let t = accepted (entry_of (caller_lane s.ops (Some by)) request given) n (Some by) request given s in
+    ap (λ target. (served target t).ops)
+    (ap (target_if given) (no_target kind offered) ∙ none_if given)
+
+-- what executes does still
+pub held_calling : (s : ContextState) (n by : ℕ) (from on : Lane) (kind : Operation) (marks : Marks) (given : Gone)
+    (own : Bool) (grant : ℕ) (spares : Spares) (held still : Option Held) → is_offered_kind kind ≡ true →
+    IsExecution by from own grant spares held → HeldOp s by from own grant spares held →
+    still ≡ held_still (after (event.Called n (Some by) (posting on kind marks) given) s) held →
+    StillHeld by from (own && nat_lt 0 grant) (grant - 1) spares held still
+held_calling s n by from on kind marks given own grant spares held still offered executes it is =
+    held_called s (after (event.Called n (Some by) (posting on kind marks) given) s) by from own grant spares held still
+    (new_op (entry_of (caller_lane s.ops (Some by)) (posting on kind marks) given) n (posting on kind marks) given)
+    executes it (ops_called s n by on kind marks given offered) is
+
 -- what is needed of the numbers and of the room
-pub called_number : {H S : Type 0} (marks : H → Marks) (limits : Limits) (past : List Event) (counts : Counts) (names : Names)
-    (cells : List (Cell H S)) (jobs : JobList (ReadyOp H)) (by : ℕ) (from : Lane) (own : Bool) (grant : ℕ)
+pub called_number : (limits : Limits) (past : List Event) (counts : Counts) (by : ℕ) (from : Lane) (own : Bool) (grant : ℕ)
     (spares : Spares) (held : Option Held) → IsLegal limits past → HeldOp (state_of limits past) by from own grant spares held →
-    0 < one_if own + grant → Shows marks limits counts names cells jobs (state_of limits past) →
+    0 < one_if own + grant → (state_of limits past).finishing ≡ false → counts ≡ counts_of (state_of limits past) →
     counts.next < 18446744073709551615
-called_number marks limits past counts names cells jobs by from own grant spares held legal it some shows =
-    let space = given_space limits past by it.op own grant spares legal shows.going it.is it.runs some in
+called_number limits past counts by from own grant spares held legal it some going are =
+    let space = given_space limits past by it.op own grant spares legal going it.is it.runs some in
     let numbers = space.numbers in
-    let next = ap (λ (c : Counts). c.next) shows.counts_are in
+    let next = ap (λ (c : Counts). c.next) are in
     omega (arith, numbers, next)
 
 pub called_space : {H S : Type 0} (marks : H → Marks) (limits : Limits) (past : List Event) (counts : Counts) (names : Names)
@@ -184,24 +274,3 @@ called_space marks limits past counts names cells jobs by from on own grant spar
     entered_space marks limits (counts_given counts) names cells jobs (given_state by s) on
     (given_space limits past by it.op own grant spares legal shows.going it.is it.runs some) there
     (shows_given marks limits counts names cells jobs s by shows)
-
-pub held_posted : (s : ContextState) (first : Bool) (n by : ℕ) (from on : Lane) (kind : Operation) (marks : Marks)
-    (own : Bool) (grant : ℕ) (spares : Spares) (held still : Option Held) → is_posting kind ≡ true →
-    entry_of_kind from on kind ≡ entry_of_dispatch first → IsExecution by from own grant spares held →
-    HeldOp s by from own grant spares held →
-    still ≡ held_still (after (event.Called n (Some by) (posting on kind marks) gone.Nothing) s) held →
-    StillHeld by from (own && nat_lt 0 grant) (grant - 1) spares held still
-held_posted s first n by from on kind marks own grant spares held still posts enters executes it is =
-    held_called s (after (event.Called n (Some by) (posting on kind marks) gone.Nothing) s) by from own grant spares held still
-    (posted_op n on kind marks code.Ok) executes it
-    (ap (λ (t : ContextState). t.ops) (state_called s first n by from on kind marks own grant spares held posts it enters)) is
-
-pub held_twice : (one other : ContextState) (by : ℕ) (from : Lane) (own : Bool) (grant : ℕ) (spares : Spares)
-    (held between still : Option Held) (it : Op) → IsExecution by from own grant spares held → op_at one.ops by ≡ Some it →
-    op_at other.ops by ≡ Some it → between ≡ held_still one held → still ≡ held_still other between →
-    still ≡ held_still other held
-held_twice one other by from own grant spares held between still it executes first then was is =
-    let known : between ≡ Some (record { op = by; is = it }) =
-    was ∙ held_behind one by from own grant spares held it executes first in
-    is ∙ ap (held_still other) known ∙ ap (holding by) then
-    ∙ sym (held_behind other by from own grant spares held it executes then)

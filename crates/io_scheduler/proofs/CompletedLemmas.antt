@@ -3,7 +3,8 @@ use Rattle.std.proofs.Common.{arith, ap, refl, subst, sym, ◌∙◌}
 use Rattle.std.proofs.lemmas.Bool.{true≢false}
 use Rattle.std.proofs.lemmas.List.{get_or-set_other, get_or-set_same, length_push, map-set}
 use Rattle.std.proofs.Math.Seq.{map-set_same}
-use Rattle.std.specs.Prelude.{◌≡◌, ◌<◌, ℕ, ◌+◌, ◌==◌, Bool, true, false, List, [], ◌∷◌, ◌++◌, Some, length, map, sum_by}
+use Rattle.std.specs.Global.{Vec}
+use Rattle.std.specs.Prelude.{◌≡◌, ◌<◌, ℕ, ◌+◌, ◌==◌, Bool, true, false, List, [], ◌∷◌, ◌++◌, Option, Some, length, map, sum_by}
 use Rattle.std.specs.List.{slice_set}
 use Rattle.asio_types.specs.declared.code.Code.{Code}
 use Rattle.io_rules.specs.declared.limits.Limits.{Limits}
@@ -38,8 +39,9 @@ use Rattle.io_scheduler.proofs.ReadyLemmas.{Keeps, at_changed, ready-kept, ready
 use Rattle.io_scheduler.proofs.SpareLemmas.{spares_changed}
 
 -- what completes, with its handler
-abbrev pub ready_with : {H : Type 0} → ℕ → Code → ℕ → H → ReadyOp H
-ready_with n code size handler = record { number = n; code = code; size = size; handler = handler }
+abbrev pub ready_with : {H : Type 0} → ℕ → Code → ℕ → Option (Vec ℕ) → Option Name → H → ReadyOp H
+ready_with n code size buffer made handler =
+    record { number = n; code = code; size = size; buffer = buffer; made = made; handler = handler }
 
 -- the operation isn't ready yet, and its handler is to execute on this lane
 pub record IsUnready {H : Type 0} (marks : H → Marks) (ops : List Op) (on : Lane) (n : ℕ) (handler : H) : Type 0 where
@@ -75,9 +77,10 @@ none_completed marks ops on n it (r ∷ rest) at isnt are = (
   none_completed marks ops on n it rest at isnt are.2,
 )
 
-module _ {H : Type 0} (marks : H → Marks) (n : ℕ) (code : Code) (size : ℕ) (handler : H) where
+module _ {H : Type 0} (marks : H → Marks) (n : ℕ) (code : Code) (size : ℕ)
+    (buffer : Option (Vec ℕ)) (made : Option Name) (handler : H) where
   pub is_completed : (ops : List Op) (on : Lane) → IsUnready marks ops on n handler →
-      IsReadyAs marks (with_phase n (phase.Ready code size) ops) on (ready_with n code size handler)
+      IsReadyAs marks (with_phase n (phase.Ready code size) ops) on (ready_with n code size buffer made handler)
   is_completed ops on it = record {
     op = record it.op { phase = phase.Ready code size };
     is = at_changed n (λ o. phase.Ready code size) ops it.op it.is;
@@ -100,7 +103,8 @@ module _ {H : Type 0} (marks : H → Marks) (n : ℕ) (code : Code) (size : ℕ)
       waits_none lane.Own = refl
       waits_none (lane.Strand name) = refl
 
-module _ {H S : Type 0} (marks : H → Marks) (n : ℕ) (code : Code) (size : ℕ) (handler : H) where
+module _ {H S : Type 0} (marks : H → Marks) (n : ℕ) (code : Code) (size : ℕ)
+    (buffer : Option (Vec ℕ)) (made : Option Name) (handler : H) where
   -- what is ready elsewhere stays
   cell_elsewhere : (ops : List Op) (next : ℕ) (on at : Lane) (c : Cell H S) → IsUnready marks ops on n handler →
       ShowsCell marks ops next at c → ShowsCell marks (with_phase n (phase.Ready code size) ops) next at c
@@ -114,12 +118,12 @@ module _ {H S : Type 0} (marks : H → Marks) (n : ℕ) (code : Code) (size : �
   -- the strand of the operation
   cell_here : (ops : List Op) (next : ℕ) (on : Lane) (c : Cell H S) → IsUnready marks ops on n handler →
       ShowsCell marks ops next on c →
-      ShowsCell marks (with_phase n (phase.Ready code size) ops) next on (readied (ready_with n code size handler) c)
+      ShowsCell marks (with_phase n (phase.Ready code size) ops) next on (readied (ready_with n code size buffer made handler) c)
   cell_here ops next on c it shows = record {
-    ready = ready-push marks (with_phase n (phase.Ready code size) ops) on c.queue (ready_with n code size handler)
+    ready = ready-push marks (with_phase n (phase.Ready code size) ops) on c.queue (ready_with n code size buffer made handler)
         (ready-kept marks ops (with_phase n (phase.Ready code size) ops) on c.queue
         (keeps_completed n (phase.Ready code size) ops it.op it.is it.unready) shows.ready)
-        (is_completed marks n code size handler ops on it)
+        (is_completed marks n code size buffer made handler ops on it)
         (none_completed marks ops on n it.op c.queue it.is it.unready shows.ready);
     tied = shows.tied;
     idle = shows.idle;
@@ -130,14 +134,14 @@ module _ {H S : Type 0} (marks : H → Marks) (n : ℕ) (code : Code) (size : �
       (shows : Shows marks limits counts names cells jobs s) where
     -- without a strand
     pub completed_own : IsUnready marks s.ops lane.Own n handler →
-        Shows marks limits counts names cells (readied_jobs lane.Own (ready_with n code size handler) cells jobs)
+        Shows marks limits counts names cells (readied_jobs lane.Own (ready_with n code size buffer made handler) cells jobs)
         (completed_state n code size lane.Own settled waits s)
     completed_own it =
-        let ready = ready_with n code size handler in
+        let ready = ready_with n code size buffer made handler in
         let new = with_phase n (phase.Ready code size) s.ops in
         let push = own-push jobs.ring ready in
         let longer = length_push (own_ops jobs.ring) ready in
-        let count = own_completed marks n code size handler s.ops lane.Own it in let all = shows.own_all in
+        let count = own_completed marks n code size buffer made handler s.ops lane.Own it in let all = shows.own_all in
         record {
           limits_are = shows.limits_are;
           counts_are = shows.counts_are;
@@ -153,7 +157,7 @@ module _ {H S : Type 0} (marks : H → Marks) (n : ℕ) (code : Code) (size : �
               (ready-push marks new lane.Own (own_ops jobs.ring) ready
               (ready-kept marks s.ops new lane.Own (own_ops jobs.ring)
               (keeps_completed n (phase.Ready code size) s.ops it.op it.is it.unready) shows.own)
-              (is_completed marks n code size handler s.ops lane.Own it)
+              (is_completed marks n code size buffer made handler s.ops lane.Own it)
               (none_completed marks s.ops lane.Own n it.op (own_ops jobs.ring) it.is it.unready shows.own));
           own_all = ap length push ∙ omega (arith, longer, count, all);
           own_room = shows.own_room;
@@ -164,17 +168,17 @@ module _ {H S : Type 0} (marks : H → Marks) (n : ℕ) (code : Code) (size : �
     -- on a strand
     pub completed_strand : (name : Name) → is_current s.names.strands name ≡ true → name.place < length cells →
         IsUnready marks s.ops (lane.Strand name) n handler →
-        Shows marks limits counts names (readied_cells (lane.Strand name) (ready_with n code size handler) cells)
-        (readied_jobs (lane.Strand name) (ready_with n code size handler) cells jobs)
+        Shows marks limits counts names (readied_cells (lane.Strand name) (ready_with n code size buffer made handler) cells)
+        (readied_jobs (lane.Strand name) (ready_with n code size buffer made handler) cells jobs)
         (completed_state n code size (lane.Strand name) settled waits s)
     completed_strand name current within it =
-        let ready = ready_with n code size handler in
+        let ready = ready_with n code size buffer made handler in
         let new = with_phase n (phase.Ready code size) s.ops in
         let p = name.place in
         let old = cell_at cells p in
         let cell = readied ready old in
         let ring = own-if (may_begin cell) jobs p in
-        let count = own_completed marks n code size handler s.ops (lane.Strand name) it in let all = shows.own_all in
+        let count = own_completed marks n code size buffer made handler s.ops (lane.Strand name) it in let all = shows.own_all in
         record {
           limits_are = shows.limits_are;
           counts_are = shows.counts_are;

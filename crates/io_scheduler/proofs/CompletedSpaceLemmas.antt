@@ -2,7 +2,7 @@
 use Rattle.std.proofs.Common.{arith, ap, refl, subst, sym, ◌∙◌}
 use Rattle.std.proofs.lemmas.List.{get_or-replicate, length-map, length-replicate}
 use Rattle.std.proofs.Math.ListN.{get_or-map}
-use Rattle.std.specs.Prelude.{◌≡◌, ◌<◌, ◌≤◌, ℕ, ◌+◌, true, List, length, map}
+use Rattle.std.specs.Prelude.{◌≡◌, ◌<◌, ◌≤◌, ℕ, ◌+◌, true, List, None, length, map}
 use Rattle.std.specs.List.{slice_index_or}
 use Rattle.asio_types.specs.declared.code.Code.TheVariants as code
 use Rattle.io_rules.specs.declared.limits.Limits.{Limits}
@@ -63,7 +63,7 @@ module _ {H S : Type 0} (marks : H → Marks) (limits : Limits) (counts : Counts
   own_room it idle =
       let less = total-less waits_own (λ op. places_in op.phase) (λ op. own_place op.lane op.phase) new in
       let most = few lane.Own it idle in
-      let more = own_completed marks n code.Ok 0 handler s.ops lane.Own it in
+      let more = own_completed marks n code.Ok 0 None None handler s.ops lane.Own it in
       let waits = sum_by-total waits_own new in
       let all = shows.own_all in let are = owns_are jobs.ring in let room = shows.own_room in
       omega (arith, less, most, more, waits, all, are, room)

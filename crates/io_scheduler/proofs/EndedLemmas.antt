@@ -47,7 +47,7 @@ use Rattle.io_jobs.specs.Listed.{JobList}
 use Rattle.io_scheduler.specs.declared.counts.Counts.{Counts}
 use Rattle.io_scheduler.specs.Begun.{is_strand}
 use Rattle.io_scheduler.specs.Ended.{IsIdleAt, MayForget, MayLeaveFrom, RunsOn, counts_ended, forgotten_cells, forgotten_state, left_cells, left_jobs, mark_of}
-use Rattle.io_scheduler.specs.Running.{IsExecution}
+use Rattle.io_scheduler.specs.Running.{HeldOp, IsExecution}
 use Rattle.io_scheduler.specs.Ready.{AreReady, IsNone, own_ops}
 use Rattle.io_scheduler.specs.Shown.{AreBelow, IsUnusedSpare, Shows, ShowsCell, cell_at, is_used, is_used_place, lane_of_place, room_of, waits_own, waits_own_on}
 use Rattle.io_scheduler.proofs.BegunLemmas.{LeavesIt, ready_still}
@@ -308,14 +308,6 @@ runs_there marks limits past counts names cells jobs n it (lane.Strand m) legal 
     }
 
 -- what is held executes as its execution says
-pub record HeldOp (s : ContextState) (n : ℕ) (on : Lane) (own : Bool) (grant : ℕ) (spares : Spares) (held : Option Held) :
-    Type 0 where
-  pub op : Op
-  pub is : op_at s.ops n ≡ Some op
-  pub at : op.lane ≡ on
-  pub runs : op.phase ≡ phase.Running own grant spares
-  pub returns : mark_of held ≡ Some op.marks.run
-
 pub held_op_is : (s : ContextState) (n : ℕ) (on : Lane) (own : Bool) (grant : ℕ) (spares : Spares) (held : Option Held) →
     IsExecution n on own grant spares held → IsHeld s held → HeldOp s n on own grant spares held
 held_op_is s n on own grant spares None executes is = absurd executes

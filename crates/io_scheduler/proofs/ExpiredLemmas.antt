@@ -2,7 +2,8 @@
 use Rattle.std.proofs.Common.{arith, ap, refl, subst, sym, ◌∙◌, ⊎_elim}
 use Rattle.std.proofs.lemmas.Bool.{cases_lt, true≢false}
 use Rattle.std.proofs.lemmas.List.{get_or_past, length-map}
-use Rattle.std.specs.Prelude.{◌≡◌, ◌<◌, ◌≤◌, ℕ, ◌+◌, true, false, List, [], Some, length, map}
+use Rattle.std.specs.Global.{Vec}
+use Rattle.std.specs.Prelude.{◌≡◌, ◌<◌, ◌≤◌, ℕ, ◌+◌, true, false, List, [], Option, Some, None, length, map}
 use Rattle.asio_types.specs.declared.code.Code.{Code}
 use Rattle.asio_types.specs.declared.code.Code.TheVariants as code
 use Rattle.io_rules.specs.declared.event.Event.{Event}
@@ -73,14 +74,14 @@ module _ {H S : Type 0} (marks : H → Marks) (limits : Limits) (counts : Counts
       (used_within cells s.names.strands name.place shows.there there.1) there.1 it idle
 
   -- what is kept behind it
-  pub shows_on : (n : ℕ) (code : Code) (size : ℕ) (handler : H) (settled : List ℕ) (waits : List Wait) → settled ≡ [] →
+  pub shows_on : (n : ℕ) (code : Code) (size : ℕ) (buffer : Option (Vec ℕ)) (made : Option Name) (handler : H) (settled : List ℕ) (waits : List Wait) → settled ≡ [] →
       (on : Lane) → IsThere s.names.strands on → IsUnready marks s.ops on n handler →
-      Shows marks limits counts names (readied_cells on (ready_with n code size handler) cells)
-      (readied_jobs on (ready_with n code size handler) cells jobs) (completed_state n code size on settled waits s)
-  shows_on n code size handler settled waits none lane.Own there it =
-      completed_own marks n code size handler limits counts names cells jobs s settled waits none shows it
-  shows_on n code size handler settled waits none (lane.Strand name) there it =
-      completed_strand marks n code size handler limits counts names cells jobs s settled waits none shows name there.0
+      Shows marks limits counts names (readied_cells on (ready_with n code size buffer made handler) cells)
+      (readied_jobs on (ready_with n code size buffer made handler) cells jobs) (completed_state n code size on settled waits s)
+  shows_on n code size buffer made handler settled waits none lane.Own there it =
+      completed_own marks n code size buffer made handler limits counts names cells jobs s settled waits none shows it
+  shows_on n code size buffer made handler settled waits none (lane.Strand name) there it =
+      completed_strand marks n code size buffer made handler limits counts names cells jobs s settled waits none shows name there.0
       (used_within cells s.names.strands name.place shows.there there.1) it
 
   -- the strand of what is tied to one is there
@@ -126,16 +127,16 @@ module _ {H S : Type 0} (marks : H → Marks) (limits : Limits) (past : List Eve
       (strands_fit limits past legal shows.going) wait.item.lane there (unready marks s wait it) (ap stage_of it.phase)
 
   pub wait_shown : (code : Code) →
-      Shows marks limits counts names (readied_cells wait.item.lane (ready_with wait.op code 0 wait.item.handler) cells)
-      (readied_jobs wait.item.lane (ready_with wait.op code 0 wait.item.handler) cells jobs)
+      Shows marks limits counts names (readied_cells wait.item.lane (ready_with wait.op code 0 None None wait.item.handler) cells)
+      (readied_jobs wait.item.lane (ready_with wait.op code 0 None None wait.item.handler) cells jobs)
       (after (event.Done wait.op code 0) (state_of limits past))
   wait_shown code =
       let s = state_of limits past in
-      let ready = ready_with wait.op code 0 wait.item.handler in
+      let ready = ready_with wait.op code 0 None None wait.item.handler in
       subst
       (Shows marks limits counts names (readied_cells wait.item.lane ready cells)
       (readied_jobs wait.item.lane ready cells jobs)) (sym (after_wait marks s wait code it))
-      (shows_on marks limits counts names cells jobs s shows wait.op code 0 wait.item.handler
+      (shows_on marks limits counts names cells jobs s shows wait.op code 0 None None wait.item.handler
       (left_settled wait.op s.settled) (left_waits wait.op s.waits) (ap (left_settled wait.op) shows.settled)
       wait.item.lane there (unready marks s wait it))
 

@@ -1,19 +1,26 @@
 -- Before the first event.
 use Rattle.std.proofs.Common.{arith, ap, refl, subst, sym, ◌∙◌, ⊎_elim}
 use Rattle.std.proofs.lemmas.Bool.{cases_lt}
+use Rattle.std.proofs.lemmas.Bool.{true≢false}
 use Rattle.std.proofs.lemmas.List.{get_or-replicate, get_or_past, length-replicate}
-use Rattle.std.specs.Prelude.{◌≡◌, ◌<◌, ◌≤◌, ℕ, zero, suc, false, List, [], ◌∷◌, ◌++◌, map, replicate}
+use Rattle.std.specs.Prelude.{◌≡◌, ◌<◌, ◌≤◌, ℕ, ◌+◌, zero, suc, true, false, List, [], ◌∷◌, ◌++◌, None, Some, map, replicate}
+use Rattle.std.specs.List.{slice_index_or}
 use Rattle.io_rules.specs.declared.limits.Limits.{Limits}
 use Rattle.io_rules.specs.declared.request.Marks.{Marks}
 use Rattle.io_rules.specs.Names.{first_names, new_place}
-use Rattle.io_rules.specs.State.{first_state, new_timer}
+use Rattle.io_rules.specs.State.{first_state, new_stream, new_timer}
 use Rattle.io_strands.specs.Cell.{Cell, is_there, may_begin, vacant}
 use Rattle.io_strands.specs.Numbered.{numbered}
 use Rattle.io_jobs.specs.Listed.{no_jobs}
 use Rattle.io_scheduler.specs.Counted.{new_counts}
 use Rattle.io_timers.specs.Pending.{no_waits}
+use Rattle.io_rules.specs.declared.operation.Side.{Side}
+use Rattle.io_rules.specs.Cancelling.{is_out_for}
+use Rattle.io_scheduler.specs.Streams.{IsPlain, ShowsStreams}
 use Rattle.io_scheduler.specs.Waits.{ShowsWaits}
+use Rattle.io_streams.specs.Pending.{no_streams}
 use Rattle.io_scheduler.specs.Shown.{Shows, ShowsCell, cell_at, is_used_place, lane_of_place, room_of}
+use Rattle.io_scheduler.proofs.StreamingLemmas.{none_first}
 
 map-replicate : {A B : Type 0} (f : A → B) (n : ℕ) (x : A) → map f (replicate n x) ≡ replicate n (f x)
 map-replicate f zero x = refl
@@ -81,6 +88,33 @@ waits_first marks limits = record {
   waits_are = refl;
   rises = tt;
   each = tt;
-  all = refl;
+  all = ap (λ n. 0 + n) (none_first limits.streams);
   room = omega arith;
 }
+
+pub streams_first : {H : Type 0} (marks : H → Marks) (limits : Limits) →
+    ShowsStreams marks limits (no_streams limits.streams limits.operations) (first_state limits)
+streams_first marks limits = record {
+  streams_are = refl;
+  places = length-replicate limits.streams new_stream ∙ sym (length-replicate limits.streams new_place);
+  each = tt;
+  all = sym (none_first limits.streams);
+  room = omega arith;
+  plain = λ name. new_at limits.streams name.place;
+  heads = λ name side op head. absurd (none_is op head.numbered);
+  busy = λ name side out none. true≢false (sym out ∙ none_out limits.streams name.place side);
+}
+  where
+    none_is : {X : Type 0} (x : X) → None ≡ Some x → ⊥
+    none_is x is = cc
+
+    none_out : (n place : ℕ) (side : Side) →
+        is_out_for side (slice_index_or (replicate n new_stream) place new_stream).out ≡ false
+    none_out zero place side = refl
+    none_out (suc n) zero side = refl
+    none_out (suc n) (suc place) side = none_out n place side
+
+    new_at : (n place : ℕ) → IsPlain (slice_index_or (replicate n new_stream) place new_stream)
+    new_at zero place = record { held = refl; searched = refl; connects = refl }
+    new_at (suc n) zero = record { held = refl; searched = refl; connects = refl }
+    new_at (suc n) (suc place) = new_at n place

@@ -12,7 +12,7 @@ use Rattle.io_rules.specs.declared.spares.Spares.{Spares}
 use Rattle.io_rules.specs.Executions.{spares_in}
 use Rattle.io_rules.specs.Legal.{IsLegal, state_of}
 use Rattle.io_rules.specs.Names.{Names}
-use Rattle.io_rules.specs.Ops.{is_ready, op_at}
+use Rattle.io_rules.specs.Ops.{is_ready, op_at, phase_changed}
 use Rattle.io_rules.specs.Room.{has_place, numbers_in, one_if, place_given, place_given_by, places_in}
 use Rattle.io_rules.specs.State.{ContextState}
 use Rattle.io_rules.proofs.FitLemmas.{fits_at, runs_on, tied_to, waits_on}
@@ -71,49 +71,85 @@ given_state by s = record s {
 abbrev pub counts_given : Counts → Counts
 counts_given c = record c { promised = c.promised - 1; room = c.room + 1 }
 
-keeps_given : (by : ℕ) (ops : List Op) → Keeps ops (place_given_by (Some by) ops)
-keeps_given by ops n op is ready =
-    at-changed by n (λ o. place_given o.phase) ops op (λ here. ready_stays op.phase ready) is
+-- the phase of one operation changes, and not whether it is ready, nor the name of a strand that is kept for it
+pub record KeepsReady (g : Op → Phase) : Type 0 where
+  pub ready : (op : Op) → is_ready (g op) ≡ is_ready op.phase
+  pub same : (op : Op) → is_ready op.phase ≡ true → g op ≡ op.phase
+  pub strand : (op : Op) → (spares_in (g op)).strand ≡ (spares_in op.phase).strand
 
-own_given : (by : ℕ) (ops : List Op) → sum_by waits_own (place_given_by (Some by) ops) ≡ sum_by waits_own ops
-own_given by ops =
+keeps_rephased : (by : ℕ) (g : Op → Phase) (ops : List Op) → KeepsReady g → Keeps ops (phase_changed by g ops)
+keeps_rephased by g ops keeps n op is ready = at-changed by n g ops op (λ here. keeps.same op ready) is
+
+own_rephased : (by : ℕ) (g : Op → Phase) (ops : List Op) → KeepsReady g →
+    sum_by waits_own (phase_changed by g ops) ≡ sum_by waits_own ops
+own_rephased by g ops keeps =
     let old = sum_by-total waits_own ops in
-    let new = sum_by-total waits_own (place_given_by (Some by) ops) in
-    let same = total-kept waits_own by (λ o. place_given o.phase)
-    (λ op. ap (waits_own_on op.lane) (given_ready op.phase)) ops in
+    let new = sum_by-total waits_own (phase_changed by g ops) in
+    let same = total-kept waits_own by g (λ op. ap (waits_own_on op.lane) (keeps.ready op)) ops in
     omega (arith, old, new, same)
 
-cell_given : {H S : Type 0} (marks : H → Marks) (s : ContextState) (by k : ℕ) (c : Cell H S) →
-    ShowsCell marks s.ops s.next (lane_of_place s.names.strands k) c →
-    ShowsCell marks (place_given_by (Some by) s.ops) s.next (lane_of_place s.names.strands k) c
-cell_given marks s by k c shows = record {
-  ready = ready-kept marks s.ops (place_given_by (Some by) s.ops) (lane_of_place s.names.strands k) c.queue
-      (keeps_given by s.ops) shows.ready;
+cell_rephased : {H S : Type 0} (marks : H → Marks) (s : ContextState) (by : ℕ) (g : Op → Phase) (k : ℕ) (c : Cell H S) →
+    KeepsReady g → ShowsCell marks s.ops s.next (lane_of_place s.names.strands k) c →
+    ShowsCell marks (phase_changed by g s.ops) s.next (lane_of_place s.names.strands k) c
+cell_rephased marks s by g k c keeps shows = record {
+  ready = ready-kept marks s.ops (phase_changed by g s.ops) (lane_of_place s.names.strands k) c.queue
+      (keeps_rephased by g s.ops keeps) shows.ready;
   tied = shows.tied;
   idle = shows.idle;
+}
+
+pub shows_rephased : {H S : Type 0} (marks : H → Marks) (limits : Limits) (counts : Counts) (names : Names)
+    (cells : List (Cell H S)) (jobs : JobList (ReadyOp H)) (s : ContextState) (by : ℕ) (g : Op → Phase) → KeepsReady g →
+    Shows marks limits counts names cells jobs s →
+    Shows marks limits counts names cells jobs (record s { ops = phase_changed by g s.ops })
+shows_rephased marks limits counts names cells jobs s by g keeps shows = record {
+  limits_are = shows.limits_are;
+  counts_are = shows.counts_are;
+  names_are = shows.names_are;
+  below = below_begun s.next by g s.ops shows.below;
+  spares = spares_kept s.names.strands by g keeps.strand s.ops shows.spares;
+  strands = shows.strands;
+  there = shows.there;
+  rooms = shows.rooms;
+  each = λ k. cell_rephased marks s by g k (cell_at cells k) keeps (shows.each k);
+  listed = shows.listed;
+  own = ready-kept marks s.ops (phase_changed by g s.ops) _ (own_ops jobs.ring) (keeps_rephased by g s.ops keeps) shows.own;
+  own_all = shows.own_all ∙ sym (own_rephased by g s.ops keeps);
+  own_room = shows.own_room;
+  settled = shows.settled;
+  going = shows.going;
+}
+
+given_keeps : KeepsReady (λ o. place_given o.phase)
+given_keeps = record {
+  ready = λ op. given_ready op.phase;
+  same = λ op is. ready_stays op.phase is;
+  strand = λ op. ap (λ (spares : Spares). spares.strand) (given_spares op.phase);
 }
 
 pub shows_given : {H S : Type 0} (marks : H → Marks) (limits : Limits) (counts : Counts) (names : Names)
     (cells : List (Cell H S)) (jobs : JobList (ReadyOp H)) (s : ContextState) (by : ℕ) →
     Shows marks limits counts names cells jobs s →
     Shows marks limits (counts_given counts) names cells jobs (given_state by s)
-shows_given marks limits counts names cells jobs s by shows = record {
-  limits_are = shows.limits_are;
-  counts_are = ap counts_given shows.counts_are;
-  names_are = shows.names_are;
-  below = below_begun s.next by (λ o. place_given o.phase) s.ops shows.below;
-  spares = spares_kept s.names.strands by (λ o. place_given o.phase) (λ op. given_spares op.phase) s.ops shows.spares;
-  strands = shows.strands;
-  there = shows.there;
-  rooms = shows.rooms;
-  each = λ k. cell_given marks s by k (cell_at cells k) (shows.each k);
-  listed = shows.listed;
-  own = ready-kept marks s.ops (place_given_by (Some by) s.ops) _ (own_ops jobs.ring) (keeps_given by s.ops) shows.own;
-  own_all = shows.own_all ∙ sym (own_given by s.ops);
-  own_room = shows.own_room;
-  settled = shows.settled;
-  going = shows.going;
-}
+shows_given marks limits counts names cells jobs s by shows =
+    let less = shows_rephased marks limits counts names cells jobs s by (λ o. place_given o.phase) given_keeps shows in
+    record {
+      limits_are = less.limits_are;
+      counts_are = ap counts_given less.counts_are;
+      names_are = less.names_are;
+      below = less.below;
+      spares = less.spares;
+      strands = less.strands;
+      there = less.there;
+      rooms = less.rooms;
+      each = less.each;
+      listed = less.listed;
+      own = less.own;
+      own_all = less.own_all;
+      own_room = less.own_room;
+      settled = less.settled;
+      going = less.going;
+    }
 
 -- what is left to it
 phase_if : (b own : Bool) (grant : ℕ) (spares : Spares) → nat_lt 0 grant ≡ b →

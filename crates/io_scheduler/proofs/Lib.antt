@@ -1,5 +1,6 @@
 pub mod AbortingLemmas
 pub mod AcceptedLemmas
+pub mod AwaitedLemmas
 pub mod BegunLemmas
 pub mod CalledLemmas
 pub mod CancelledLemmas
@@ -18,6 +19,7 @@ pub mod GatheredLemmas
 pub mod GivenLemmas
 pub mod IdleLemmas
 pub mod LeftLemmas
+pub mod LeftStreamsLemmas
 pub mod LeftWaitsLemmas
 pub mod ListedLemmas
 pub mod MadeLemmas
@@ -31,9 +33,12 @@ pub mod SpaceLemmas
 pub mod SpareLemmas
 pub mod StagedLemmas
 pub mod StayedLemmas
+pub mod StreamedLemmas
+pub mod StreamingLemmas
 pub mod TakenLemmas
 pub mod TallyLemmas
 pub mod TimerLemmas
+pub mod TimerMadeLemmas
 pub mod TimingLemmas
 pub mod ToldLemmas
 pub mod WaitsLemmas

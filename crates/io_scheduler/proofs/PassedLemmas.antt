@@ -27,6 +27,7 @@ use Rattle.io_scheduler.specs.Come.{HaveCome, completions}
 use Rattle.io_scheduler.specs.Tallied.{IsTally}
 use Rattle.io_scheduler.specs.declared.tally.Tally.{Tally}
 use Rattle.io_scheduler.proofs.ComeLemmas.{come_more, completions_more}
+use Rattle.io_scheduler.proofs.TallyLemmas.{tally_still}
 
 pub shows_passed : {H S : Type 0} (marks : H → Marks) (limits : Limits) (counts : Counts) (names : Names)
     (cells : List (Cell H S)) (jobs : JobList (ReadyOp H)) (s : ContextState) (t : ℕ) →
@@ -79,7 +80,7 @@ may_pass s clock now going is = record {
         subst (λ c. clock ≤ (if c then clock else now)) (sym more) (ltb-false now clock more)
 
 pub tally_passed : (tally : Tally) (s : ContextState) (t : ℕ) → IsTally tally s → IsTally tally (after (event.Passed t) s)
-tally_passed tally s t is = record { waiting = is.waiting; running = is.running; few = is.few; sockets = is.sockets }
+tally_passed tally s t is = tally_still tally s _ is refl refl refl
 
 pub none_yet : (limits : Limits) (past : List Event) → HaveExpired limits past past
 none_yet limits past = record { ops = []; come = record { may = tt; is = refl } }

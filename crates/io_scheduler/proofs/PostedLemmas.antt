@@ -3,6 +3,7 @@ use Rattle.std.proofs.Common.{arith, ap, refl, subst, sym, ◌∙◌}
 use Rattle.std.proofs.lemmas.Bool.{ltb-true, true≢false}
 use Rattle.std.proofs.lemmas.List.{get_or-set_other, get_or-set_same, length_push, map-set}
 use Rattle.std.proofs.Math.Seq.{map-set_same}
+use Rattle.std.specs.Global.{Vec}
 use Rattle.std.specs.Prelude.{◌≡◌, ◌<◌, ℕ, ◌+◌, ◌-◌, ◌==◌, Bool, true, false, List, [], ◌∷◌, ◌++◌, Option, None, length, map, nat_lt, not, sum_by}
 use Rattle.std.specs.List.{slice_set}
 use Rattle.asio_types.specs.declared.code.Code.{Code}
@@ -72,9 +73,9 @@ pub keeps_posted : (ops : List Op) (new : Op) → Keeps ops (ops ++ new ∷ [])
 keeps_posted ops new n op is ready = at-push n ops new op is
 
 is_ready_new : {H : Type 0} (marks : H → Marks) (ops : List Op) (n : ℕ) (on : Lane) (kind : Operation) (code : Code)
-    (handler : H) → AreBelow n ops →
-    IsReadyAs marks (ops ++ posted_op n on kind (marks handler) code ∷ []) on (ready_posting n code handler)
-is_ready_new marks ops n on kind code handler below = record {
+    (buffer : Option (Vec ℕ)) (handler : H) → AreBelow n ops →
+    IsReadyAs marks (ops ++ posted_op n on kind (marks handler) code ∷ []) on (ready_posting n code buffer handler)
+is_ready_new marks ops n on kind code buffer handler below = record {
   op = posted_op n on kind (marks handler) code;
   is = at_new ops (posted_op n on kind (marks handler) code) below;
   lane = refl;
@@ -109,20 +110,20 @@ room_called true op c = refl
 
 -- the strand of the new one
 here_ready : {H S : Type 0} (marks : H → Marks) (ops : List Op) (n : ℕ) (on : Lane) (kind : Operation) (code : Code)
-    (handler : H) (first : Bool) (c : Cell H S) → is_there c ≡ true → AreBelow n ops → ShowsCell marks ops n on c →
+    (buffer : Option (Vec ℕ)) (handler : H) (first : Bool) (c : Cell H S) → is_there c ≡ true → AreBelow n ops → ShowsCell marks ops n on c →
     ShowsCell marks (ops ++ posted_op n on kind (marks handler) code ∷ []) (n + 1) on
-    (called (entry_of_dispatch first) (ready_posting n code handler) c)
-here_ready marks ops n on kind code handler first c there below shows =
+    (called (entry_of_dispatch first) (ready_posting n code buffer handler) c)
+here_ready marks ops n on kind code buffer handler first c there below shows =
     let new = posted_op n on kind (marks handler) code in
-    let ready = ready_posting n code handler in
+    let ready = ready_posting n code buffer handler in
     let le = shows.tied in
     let tied = tied_called first ready c in
     record {
       ready = ready-called marks (ops ++ new ∷ []) on first c ready
           (ready-kept marks ops (ops ++ new ∷ []) on c.queue (keeps_posted ops new) shows.ready)
-          (is_ready_new marks ops n on kind code handler below) (none_next marks n ops on c.queue below shows.ready);
+          (is_ready_new marks ops n on kind code buffer handler below) (none_next marks n ops on c.queue below shows.ready);
       tied = omega (arith, le, tied);
-      idle = λ isnt. absurd (true≢false (sym there ∙ sym (there_called first (ready_posting n code handler) c) ∙ isnt));
+      idle = λ isnt. absurd (true≢false (sym there ∙ sym (there_called first (ready_posting n code buffer handler) c) ∙ isnt));
     }
 
 pub own_count : (ops : List Op) (new : Op) → sum_by waits_own (ops ++ new ∷ []) ≡ sum_by waits_own ops + waits_own new
@@ -133,15 +134,15 @@ own_count ops new =
 -- without a strand
 posted_own : {H S : Type 0} (marks : H → Marks) (limits : Limits) (counts : Counts) (names : Names)
     (cells : List (Cell H S)) (jobs : JobList (ReadyOp H)) (s : ContextState) (first : Bool) (kind : Operation)
-    (code : Code) (handler : H) (settled : List ℕ) (waits : List Wait) → settled ≡ [] →
+    (code : Code) (buffer : Option (Vec ℕ)) (handler : H) (settled : List ℕ) (waits : List Wait) → settled ≡ [] →
     Shows marks limits counts names cells jobs s →
     Shows marks limits (counts_posted counts) names cells
-    (entered_jobs first lane.Own (ready_posting s.next code handler) cells jobs)
+    (entered_jobs first lane.Own (ready_posting s.next code buffer handler) cells jobs)
     (posted first s.next lane.Own (posted_op s.next lane.Own kind (marks handler) code) settled waits s)
-posted_own marks limits counts names cells jobs s first kind code handler settled waits none shows =
+posted_own marks limits counts names cells jobs s first kind code buffer handler settled waits none shows =
     let n = s.next in
     let new = posted_op n lane.Own kind (marks handler) code in
-    let ready = ready_posting n code handler in
+    let ready = ready_posting n code buffer handler in
     let push = own-push jobs.ring ready in
     let longer = length_push (own_ops jobs.ring) ready in
     let count = own_count s.ops new in let all = shows.own_all in
@@ -159,7 +160,7 @@ posted_own marks limits counts names cells jobs s first kind code handler settle
       own = subst (AreReady marks (s.ops ++ new ∷ []) lane.Own) (sym push)
           (ready-push marks (s.ops ++ new ∷ []) lane.Own (own_ops jobs.ring) ready
           (ready-kept marks s.ops (s.ops ++ new ∷ []) lane.Own (own_ops jobs.ring) (keeps_posted s.ops new) shows.own)
-          (is_ready_new marks s.ops n lane.Own kind code handler shows.below)
+          (is_ready_new marks s.ops n lane.Own kind code buffer handler shows.below)
           (none_next marks n s.ops lane.Own (own_ops jobs.ring) shows.below shows.own));
       own_all = ap length push ∙ omega (arith, longer, count, all);
       own_room = shows.own_room;
@@ -177,18 +178,18 @@ lane_current names name is =
 -- on a strand
 posted_strand : {H S : Type 0} (marks : H → Marks) (limits : Limits) (counts : Counts) (names : Names)
     (cells : List (Cell H S)) (jobs : JobList (ReadyOp H)) (s : ContextState) (first : Bool) (name : Name)
-    (kind : Operation) (code : Code) (handler : H) (settled : List ℕ) (waits : List Wait) → settled ≡ [] →
+    (kind : Operation) (code : Code) (buffer : Option (Vec ℕ)) (handler : H) (settled : List ℕ) (waits : List Wait) → settled ≡ [] →
     is_current s.names.strands name ≡ true → name.place < length cells → is_there (cell_at cells name.place) ≡ true →
     Shows marks limits counts names cells jobs s →
     Shows marks limits (counts_posted counts) names
-    (entered_cells first (lane.Strand name) (ready_posting s.next code handler) cells)
-    (entered_jobs first (lane.Strand name) (ready_posting s.next code handler) cells jobs)
+    (entered_cells first (lane.Strand name) (ready_posting s.next code buffer handler) cells)
+    (entered_jobs first (lane.Strand name) (ready_posting s.next code buffer handler) cells jobs)
     (posted first s.next (lane.Strand name) (posted_op s.next (lane.Strand name) kind (marks handler) code) settled waits s)
-posted_strand marks limits counts names cells jobs s first name kind code handler settled waits none current within there shows =
+posted_strand marks limits counts names cells jobs s first name kind code buffer handler settled waits none current within there shows =
     let n = s.next in
     let on = lane.Strand name in
     let new = posted_op n on kind (marks handler) code in
-    let ready = ready_posting n code handler in
+    let ready = ready_posting n code buffer handler in
     let p = name.place in
     let old = cell_at cells p in
     let entry = entry_of_dispatch first in
@@ -218,7 +219,7 @@ posted_strand marks limits counts names cells jobs s first name kind code handle
           (subst (λ c. ShowsCell marks (s.ops ++ new ∷ []) (n + 1) (lane_of_place s.names.strands p) c)
           (sym (get_or-set_same cells p cell (vacant 0) within))
           (subst (λ l. ShowsCell marks (s.ops ++ new ∷ []) (n + 1) l cell) (sym (lane_current s.names name current))
-          (here_ready marks s.ops n on kind code handler first old there shows.below
+          (here_ready marks s.ops n on kind code buffer handler first old there shows.below
           (subst (λ l. ShowsCell marks s.ops n l old) (lane_current s.names name current) (shows.each p))))))
           (λ other.
           subst (λ c. ShowsCell marks (s.ops ++ new ∷ []) (n + 1) (lane_of_place s.names.strands k) c)
@@ -239,26 +240,26 @@ posted_strand marks limits counts names cells jobs s first name kind code handle
 -- what is kept behind it
 pub shows_posted : {H S : Type 0} (marks : H → Marks) (limits : Limits) (counts : Counts) (names : Names)
     (cells : List (Cell H S)) (jobs : JobList (ReadyOp H)) (s : ContextState) (first : Bool) (n : ℕ) (on : Lane)
-    (kind : Operation) (code : Code) (handler : H) (settled : List ℕ) (waits : List Wait) → n ≡ s.next → settled ≡ [] →
+    (kind : Operation) (code : Code) (buffer : Option (Vec ℕ)) (handler : H) (settled : List ℕ) (waits : List Wait) → n ≡ s.next → settled ≡ [] →
     is_lane_gone s.names on ≡ false → Shows marks limits counts names cells jobs s →
-    Shows marks limits (counts_posted counts) names (entered_cells first on (ready_posting n code handler) cells)
-    (entered_jobs first on (ready_posting n code handler) cells jobs)
+    Shows marks limits (counts_posted counts) names (entered_cells first on (ready_posting n code buffer handler) cells)
+    (entered_jobs first on (ready_posting n code buffer handler) cells jobs)
     (posted first n on (posted_op n on kind (marks handler) code) settled waits s)
-shows_posted marks limits counts names cells jobs s first n lane.Own kind code handler settled waits is none there shows =
+shows_posted marks limits counts names cells jobs s first n lane.Own kind code buffer handler settled waits is none there shows =
     subst
     (λ k. Shows marks limits (counts_posted counts) names cells
-    (entered_jobs first lane.Own (ready_posting k code handler) cells jobs)
+    (entered_jobs first lane.Own (ready_posting k code buffer handler) cells jobs)
     (posted first k lane.Own (posted_op k lane.Own kind (marks handler) code) settled waits s)) (sym is)
-    (posted_own marks limits counts names cells jobs s first kind code handler settled waits none shows)
-shows_posted marks limits counts names cells jobs s first n (lane.Strand name) kind code handler settled waits
+    (posted_own marks limits counts names cells jobs s first kind code buffer handler settled waits none shows)
+shows_posted marks limits counts names cells jobs s first n (lane.Strand name) kind code buffer handler settled waits
     is none there shows =
     let alive : is_alive s.names.strands name ≡ true = not_gone (is_alive s.names.strands name) there in
     subst
     (λ k. Shows marks limits (counts_posted counts) names
-    (entered_cells first (lane.Strand name) (ready_posting k code handler) cells)
-    (entered_jobs first (lane.Strand name) (ready_posting k code handler) cells jobs)
+    (entered_cells first (lane.Strand name) (ready_posting k code buffer handler) cells)
+    (entered_jobs first (lane.Strand name) (ready_posting k code buffer handler) cells jobs)
     (posted first k (lane.Strand name) (posted_op k (lane.Strand name) kind (marks handler) code) settled waits s)) (sym is)
-    (posted_strand marks limits counts names cells jobs s first name kind code handler settled waits none
+    (posted_strand marks limits counts names cells jobs s first name kind code buffer handler settled waits none
     (both (is_current s.names.strands name) (is_living (place_at s.names.strands name.place).life) alive).one
     (within_cells cells s.names.strands name shows.there alive)
     (there_is cells s.names.strands name.place shows.there
@@ -347,14 +348,14 @@ pub shows_outside : {H S : Type 0} (marks : H → Marks) (limits : Limits) (coun
     (cells : List (Cell H S)) (jobs : JobList (ReadyOp H)) (s : ContextState) (n : ℕ) (on : Lane) (kind : Operation)
     (handler : H) → n ≡ s.next → is_posting kind ≡ true → may_post s on ≡ true →
     Shows marks limits counts names cells jobs s →
-    Shows marks limits (counts_posted counts) names (entered_cells false on (ready_posting n code.Ok handler) cells)
-    (entered_jobs false on (ready_posting n code.Ok handler) cells jobs)
+    Shows marks limits (counts_posted counts) names (entered_cells false on (ready_posting n code.Ok None handler) cells)
+    (entered_jobs false on (ready_posting n code.Ok None handler) cells jobs)
     (after (event.Called n None (posting on kind (marks handler)) gone.Nothing) s)
 shows_outside marks limits counts names cells jobs s n on kind handler is posts may shows =
     let parts = three (nat_lt 0 s.room) (nat_lt 0 (numbers_left s)) (not (is_lane_gone s.names on)) may in
     subst
-    (Shows marks limits (counts_posted counts) names (entered_cells false on (ready_posting n code.Ok handler) cells)
-    (entered_jobs false on (ready_posting n code.Ok handler) cells jobs))
+    (Shows marks limits (counts_posted counts) names (entered_cells false on (ready_posting n code.Ok None handler) cells)
+    (entered_jobs false on (ready_posting n code.Ok None handler) cells jobs))
     (sym (after_posting false n None on kind (marks handler) s posts (outside_last on kind posts)))
-    (shows_posted marks limits counts names cells jobs s false n on kind code.Ok handler (s.settled ++ [] ++ [])
+    (shows_posted marks limits counts names cells jobs s false n on kind code.Ok None handler (s.settled ++ [] ++ [])
     (s.waits ++ []) is (ap (λ xs. xs ++ [] ++ []) shows.settled) (there_if (is_lane_gone s.names on) parts.three) shows)

@@ -59,13 +59,13 @@ spares_changed places n p (x ∷ ops) unused own =
     (spares_changed places n p ops unused.1 own) own
 
 -- a change that leaves what is kept for each
-pub spares_kept : (places : List Place) (n : ℕ) (g : Op → Phase) → ((op : Op) → spares_in (g op) ≡ spares_in op.phase) →
+pub spares_kept : (places : List Place) (n : ℕ) (g : Op → Phase) → ((op : Op) → (spares_in (g op)).strand ≡ (spares_in op.phase).strand) →
     (ops : List Op) → SparesUnused places ops → SparesUnused places (phase_changed n g ops)
 spares_kept places n g same [] unused = tt
 spares_kept places n g same (x ∷ ops) unused =
     changed_here places (g x) x ops (phase_changed n g ops) (x.number == n) unused
     (spares_kept places n g same ops unused.1)
-    (subst (λ (spares : Spares). IsUnusedSpare places spares.strand) (sym (same x)) unused.0)
+    (subst (IsUnusedSpare places) (sym (same x)) unused.0)
 
 without_here : (places : List Place) (x : Op) (ops rest : List Op) (b : Bool) → SparesUnused places (x ∷ ops) →
     SparesUnused places rest → SparesUnused places (if b then ops else x ∷ rest)

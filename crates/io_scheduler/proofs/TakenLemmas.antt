@@ -180,7 +180,13 @@ pub was_ready : {H S : Type 0} (marks : H → Marks) (limits : Limits) (counts :
     (cells new_cells : List (Cell H S)) (jobs new_jobs : JobList (ReadyOp H)) (s : ContextState) (on : Lane)
     (op : ReadyOp H) (state : Option S) → IsTaken on op state names.strands cells new_cells jobs new_jobs →
     Shows marks limits counts names cells jobs s →
-    WasReady marks s op.number op.handler (record { code = op.code; size = op.size; now = counts.clock }) state
+    WasReady marks s op.number op.handler (record {
+      code = op.code;
+      size = op.size;
+      buffer = op.buffer;
+      made = op.made;
+      now = counts.clock;
+    }) state
 was_ready marks limits counts names cells new_cells jobs new_jobs s on op state is shows =
     let r = taken_ready marks limits counts names cells new_cells jobs new_jobs s on op state is shows in
     record {

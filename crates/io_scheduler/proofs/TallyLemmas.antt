@@ -1,7 +1,7 @@
 -- How many operations wait and execute, as events come.
 use Rattle.std.proofs.Common.{arith, ap, refl, subst, sym, ◌∙◌}
 use Rattle.std.proofs.lemmas.Bool.{ltb-true, true≢false}
-use Rattle.std.specs.Prelude.{◌≡◌, ◌<◌, ◌≤◌, ℕ, ◌+◌, ◌&&◌, not, Bool, true, false, List, [], ◌∷◌, ◌++◌, replicate, suc, zero, Option, Some, None, length, map, nat_lt}
+use Rattle.std.specs.Prelude.{◌≡◌, ◌<◌, ◌≤◌, ℕ, ◌+◌, ◌==◌, ◌&&◌, not, Bool, true, false, List, [], ◌∷◌, ◌++◌, replicate, suc, zero, Option, Some, None, length, map, nat_lt}
 use Rattle.std.specs.List.{list_all}
 use Rattle.asio_types.specs.declared.code.Code.{Code}
 use Rattle.asio_types.specs.declared.code.Code.TheVariants as code
@@ -12,10 +12,12 @@ use Rattle.io_rules.specs.declared.name.Lane.{Lane}
 use Rattle.io_rules.specs.declared.name.Lane.TheVariants as lane
 use Rattle.io_rules.specs.declared.op.Op.{Op}
 use Rattle.io_rules.specs.declared.op.Phase.{Phase}
+use Rattle.io_rules.specs.declared.op.Wait.{Wait}
 use Rattle.io_rules.specs.declared.op.Phase.TheVariants as phase
 use Rattle.io_rules.specs.declared.name.Name.{Name}
 use Rattle.io_rules.specs.declared.operation.Operation.{Operation}
 use Rattle.io_rules.specs.declared.operation.Operation.TheVariants as operation
+use Rattle.io_rules.specs.declared.request.Gone.{Gone}
 use Rattle.io_rules.specs.declared.request.Gone.TheVariants as gone
 use Rattle.io_rules.specs.declared.request.Marks.{Marks}
 use Rattle.io_rules.specs.declared.spares.Spares.{Spares}
@@ -26,7 +28,7 @@ use Rattle.io_rules.specs.Legal.{after}
 use Rattle.io_rules.specs.Ops.{is_ready, is_running, op_at, with_phase}
 use Rattle.io_rules.specs.Operations.{is_posting}
 use Rattle.io_rules.specs.Room.{most_numbers, numbers_left, one_if, place_given, place_given_by}
-use Rattle.io_rules.specs.State.{ContextState, TimerState, first_state, new_stream}
+use Rattle.io_rules.specs.State.{ContextState, StreamState, TimerState, first_state, new_stream}
 use Rattle.io_rules.specs.Timers.{earliest}
 use Rattle.io_timers.specs.declared.pending.PendingWait.{PendingWait}
 use Rattle.io_timers.specs.Pending.{Entry, Timers, expiry_by, next_wait, wait_of}
@@ -37,22 +39,27 @@ use Rattle.io_rules.proofs.FitLemmas.{if_prepared}
 use Rattle.io_rules.proofs.MoveLemmas.{begun-moves, ended-leaves}
 use Rattle.io_rules.proofs.OnceLemmas.{if_executing}
 use Rattle.io_rules.proofs.StageLemmas.{Executing, Idle, Prepared, Stage, give_keeps, kept_of, stage_of, staged, total-other}
-use Rattle.io_rules.proofs.TotalLemmas.{share, sum_by-total, total, total-changed, total-push}
+use Rattle.io_rules.proofs.StrandLemmas.{both, by_test}
+use Rattle.io_rules.proofs.TotalLemmas.{apart, equal, share, sum_by-total, total, total-changed, total-push}
 use Rattle.io_history.specs.declared.view.Held.{Held}
 use Rattle.io_scheduler.specs.declared.tally.Tally.{Tally}
 use Rattle.io_scheduler.specs.Accepted.{waiting_on}
 use Rattle.io_scheduler.specs.Counted.{may_post}
 use Rattle.io_scheduler.specs.Expired.{wait_done}
+use Rattle.io_handlers.specs.Initiated.{is_offered_kind}
+use Rattle.io_scheduler.specs.Called.{is_any_gone, lane_left}
 use Rattle.io_scheduler.specs.Posted.{posting}
 use Rattle.io_scheduler.specs.Shown.{AreBelow}
 use Rattle.io_scheduler.proofs.CalledLemmas.{state_called}
-use Rattle.io_scheduler.proofs.EndedLemmas.{HeldOp}
 use Rattle.io_scheduler.proofs.IdleLemmas.{idles, incomplete_total}
 use Rattle.io_scheduler.proofs.PostedLemmas.{after_posting, called_state, outside_last, posted_op}
 use Rattle.io_scheduler.proofs.RefusedLemmas.{behind_refused}
 use Rattle.io_scheduler.proofs.SpaceLemmas.{three}
-use Rattle.io_scheduler.specs.Tallied.{IsTally, running_in, tally_begun, tally_called, tally_ended, waiting_in}
+use Rattle.io_scheduler.proofs.StreamingLemmas.{in_first, none_first, none_shown}
+use Rattle.io_scheduler.specs.Streaming.{none_out, on_sides, on_streams, out_in}
+use Rattle.io_scheduler.specs.Tallied.{IsTally, is_at_rest, is_idle, rests, running_in, tally_begun, tally_called, tally_ended, waiting_in}
 use Rattle.io_scheduler.specs.Waits.{ShowsWaits, incomplete_in}
+use Rattle.io_scheduler.specs.Running.{HeldOp}
 
 abbrev one : ℕ → Lane → Stage → ℕ
 one n on stage = 1
@@ -114,16 +121,18 @@ tally_all t s tally =
 -- as events move them
 moved : (t : Tally) (s new : ContextState) (new_t : Tally) → IsTally t s →
     new_t.waiting ≡ total (staged waits) new.ops → new_t.running ≡ total (staged executes) new.ops →
-    length new.ops ≤ new.next → new.streams ≡ s.streams → IsTally new_t new
-moved t s new new_t tally waiting running few streams = record {
+    length new.ops ≤ new.next → new.streams ≡ s.streams → new_t.streaming ≡ t.streaming → new_t.out ≡ t.out →
+    IsTally new_t new
+moved t s new new_t tally waiting running few streams streaming out = record {
   waiting = waiting ∙ sym (waiting_total new.ops);
   running = running ∙ sym (running_total new.ops);
+  streaming = streaming ∙ tally.streaming ∙ sym (ap on_streams streams);
+  out = out ∙ tally.out ∙ sym (ap out_in streams);
   few = few;
-  sockets = ap (list_all (λ stream. not (is_out stream.out))) streams ∙ tally.sockets;
 }
 
 -- one more is posted, from outside or by a handler
-tally_pushed : (t : Tally) (s new : ContextState) (by : Option ℕ) (it : Op) → IsTally t s → is_ready it.phase ≡ true →
+pub tally_pushed : (t : Tally) (s new : ContextState) (by : Option ℕ) (it : Op) → IsTally t s → is_ready it.phase ≡ true →
     new.ops ≡ place_given_by by s.ops ++ it ∷ [] → new.next ≡ s.next + 1 → new.streams ≡ s.streams →
     IsTally (tally_called t) new
 tally_pushed t s new by it tally ready ops next streams =
@@ -133,7 +142,7 @@ tally_pushed t s new by it tally ready ops next streams =
     let one_waits : if_prepared (stage_of it.phase) true ≡ 1 = sym (waits_is it.phase) ∙ ap one_if ready in
     let none_runs : if_executing (stage_of it.phase) true ≡ 0 = ready_idle it.phase ready in
     moved t s new (tally_called t) tally (omega (arith, waiting, w, one_waits)) (omega (arith, running, x, none_runs))
-    (omega (arith, many, more, o, few, next)) streams
+    (omega (arith, many, more, o, few, next)) streams refl refl
   where
     more_by : (h : ℕ → Lane → Stage → ℕ) →
         total (staged h) new.ops ≡ total (staged h) s.ops + h it.number it.lane (stage_of it.phase)
@@ -164,14 +173,14 @@ tally_calls t s first n by from on kind marks own grant spares held tally posts 
     subst (IsTally (tally_called t)) (sym (state_called s first n by from on kind marks own grant spares held posts it enters))
     (tally_pushed t s (called_state first n (Some by) on new s) (Some by) new tally refl refl refl refl)
 
--- what names a strand that is gone completes at once
-pub tally_refused : (t : Tally) (s : ContextState) (n by : ℕ) (on : Lane) (kind : Operation) (marks : Marks) →
-    IsTally t s → is_posting kind ≡ true → AreBelow n s.ops →
+-- what names something gone completes at once
+pub tally_refused : (t : Tally) (s : ContextState) (n by : ℕ) (on : Lane) (kind : Operation) (marks : Marks) (given : Gone) →
+    IsTally t s → is_offered_kind kind ≡ true → is_any_gone given ≡ true → AreBelow n s.ops →
     IsTally (tally_called t)
-    (after (event.Done n code.Bad 0) (after (event.Called n (Some by) (posting on kind marks) gone.Strand) s))
-tally_refused t s n by on kind marks tally posts below =
-    let new = posted_op n lane.Own kind marks code.Bad in
-    let behind = behind_refused n by on kind marks s posts below in
+    (after (event.Done n code.Bad 0) (after (event.Called n (Some by) (posting on kind marks) given) s))
+tally_refused t s n by on kind marks given tally offered any below =
+    let new = posted_op n (lane_left on given) kind marks code.Bad in
+    let behind = behind_refused n by on kind marks given s offered any below in
     tally_pushed t s _ (Some by) new tally refl (ap (λ (x : ContextState). x.ops) behind)
     (ap (λ (x : ContextState). x.next) behind) (ap (λ (x : ContextState). x.streams) behind)
 
@@ -185,11 +194,11 @@ tally_room t s on tally may =
     let all = tally_all t s tally in let few = tally.few in
     omega (arith, left, all, few)
 
--- a wait is accepted
-pub tally_waits : (t : Tally) (s : ContextState) (n : ℕ) (on : Lane) (timer : Name) (marks : Marks) → IsTally t s →
-    IsTally t (after (event.Called n None (waiting_on on timer marks) gone.Nothing) s)
-tally_waits t s n on timer marks tally =
-    let new = after (event.Called n None (waiting_on on timer marks) gone.Nothing) s in
+-- a wait is accepted, from outside or by a handler
+pub tally_waits : (t : Tally) (s : ContextState) (n : ℕ) (by : Option ℕ) (on : Lane) (timer : Name) (marks : Marks) →
+    IsTally t s → IsTally t (after (event.Called n by (waiting_on on timer marks) gone.Nothing) s)
+tally_waits t s n by on timer marks tally =
+    let new = after (event.Called n by (waiting_on on timer marks) gone.Nothing) s in
     let it : Op = record {
       number = n;
       lane = on;
@@ -200,9 +209,14 @@ tally_waits t s n on timer marks tally =
     } in
     let waiting = tally.waiting ∙ waiting_total s.ops in let running = tally.running ∙ running_total s.ops in
     let many = length_total s.ops in let more = length_total new.ops in let few = tally.few in
-    let w = total-push (staged waits) s.ops it in let x = total-push (staged executes) s.ops it in
-    let o = total-push (staged one) s.ops it in
-    moved t s new t tally (omega (arith, waiting, w)) (omega (arith, running, x)) (omega (arith, many, more, o, few)) refl
+    let w = more_by waits it in let x = more_by executes it in let o = more_by one it in
+    moved t s new t tally (omega (arith, waiting, w)) (omega (arith, running, x)) (omega (arith, many, more, o, few)) refl refl refl
+  where
+    more_by : (h : ℕ → Lane → Stage → ℕ) (it : Op) →
+        total (staged h) (place_given_by by s.ops ++ it ∷ []) ≡ total (staged h) s.ops + staged h it
+    more_by h it =
+        total-push (staged h) (place_given_by by s.ops) it
+        ∙ ap (λ n. n + staged h it) (kept_of h by (λ op. place_given op.phase) (λ op. give_keeps op.phase) s.ops)
 
 -- one that hadn't completed does
 pub tally_completes : (t : Tally) (s : ContextState) (n : ℕ) (given : Code) (on : Lane) (it : Op) → IsTally t s →
@@ -213,7 +227,7 @@ tally_completes t s n given on it tally is idle =
     let many = length_total s.ops in let more = length_total new.ops in let few = tally.few in
     let w = come waits in let x = come executes in let o = come one in
     moved t s new (tally_called t) tally (omega (arith, waiting, w)) (omega (arith, running, x))
-    (omega (arith, many, more, o, few)) refl
+    (omega (arith, many, more, o, few)) refl refl refl
   where
     come : (h : ℕ → Lane → Stage → ℕ) →
         total (staged h) (with_phase n (phase.Ready given 0) s.ops) + h it.number it.lane Idle
@@ -244,7 +258,7 @@ tally_begins t s op spares tally may =
     let o = begun-moves one op spares s may in
     let few = tally.few in
     moved t s new (tally_begun t) tally (omega (arith, waiting, w)) (omega (arith, running, x))
-    (omega (arith, many, more, o, few)) refl
+    (omega (arith, many, more, o, few)) refl refl refl
 
 -- there is a number for it
 pub tally_more : (t : Tally) (s : ContextState) (op : ℕ) (spares : Spares) → IsTally t s → MayBegin s op spares →
@@ -267,7 +281,7 @@ tally_ends t s op mark tally may =
     let o = ended-leaves one op mark s may in
     let few = tally.few in
     moved t s new (tally_ended t) tally (omega (arith, waiting, w)) (omega (arith, running, x))
-    (omega (arith, many, more, o, few)) refl
+    (omega (arith, many, more, o, few)) refl refl refl
 
 -- a control call that leaves the streams
 pub tally_changes : (t : Tally) (s : ContextState) (by : Option ℕ) (change : Control) → IsTally t s →
@@ -281,7 +295,7 @@ tally_changes t s by change tally streams =
     let o = total-other one (event.Changed by change) s refl in
     let few = tally.few in
     moved t s new t tally (omega (arith, waiting, w)) (omega (arith, running, x))
-    (omega (arith, many, more, o, few)) streams
+    (omega (arith, many, more, o, few)) streams refl refl
 
 none_here : (p : Phase) (b : Bool) (rest : ℕ) → one_if (is_running p) + rest ≡ 0 → (rest ≡ 0 → b ≡ true) →
     (not (is_running p) && b) ≡ true
@@ -337,36 +351,65 @@ tally_some t s tally some = let all = tally_all t s tally in by_ops s.ops (omega
     by_ops [] some = absurd (omega (arith, some))
     by_ops (op ∷ ops) some = refl
 
-pub at_rest : (t : Tally) (s : ContextState) → IsTally t s → s.finishing ≡ false → t.running ≡ 0 → IsAtRest s
-at_rest t s tally going none = record { going = going; handlers = tally_rests t s tally none; sockets = tally.sockets }
+some : (n : ℕ) → (0 ≡ n → ⊥) → 0 < n
+some zero isnt = absurd (isnt refl)
+some (suc n) isnt = omega arith
+
+-- the counts tell whether the context is at rest
+pub rest_shown : (t : Tally) (s : ContextState) → IsTally t s → rests t ≡ is_at_rest s
+rest_shown t s tally =
+    ap (λ b. b && (t.out == 0)) idle ∙ ap (λ b. is_idle s && b) (ap (λ n. n == 0) tally.out ∙ none_shown s.streams)
+  where
+    idle : (t.running == 0) ≡ is_idle s
+    idle =
+        by_test (t.running == 0)
+        (λ none. none ∙ sym (tally_rests t s tally (equal t.running 0 none)))
+        (λ more. more ∙ sym (tally_runs t s tally (some t.running (apart t.running 0 more))))
+
+pub resting : (t : Tally) → rests t ≡ true → t.running ≡ 0
+resting t rest = equal t.running 0 (both (t.running == 0) (t.out == 0) rest).one
+
+pub at_rest : (t : Tally) (s : ContextState) → IsTally t s → s.finishing ≡ false → rests t ≡ true → IsAtRest s
+at_rest t s tally going rest =
+    let parts = both (is_idle s) (none_out s.streams) (sym (rest_shown t s tally) ∙ rest) in
+    record { going = going; handlers = parts.one; sockets = parts.other }
 
 -- before the first event
-pub tally_first : (limits : Limits) → IsTally (record { waiting = 0; running = 0 }) (first_state limits)
-tally_first limits =
-    record { waiting = refl; running = refl; few = omega arith; sockets = none_out limits.streams }
-  where
-    none_out : (n : ℕ) → list_all (λ stream. not (is_out stream.out)) (replicate n new_stream) ≡ true
-    none_out zero = refl
-    none_out (suc n) = none_out n
+pub tally_first : (limits : Limits) →
+    IsTally (record { waiting = 0; running = 0; streaming = 0; out = 0 }) (first_state limits)
+tally_first limits = record {
+  waiting = refl;
+  running = refl;
+  streaming = sym (none_first limits.streams);
+  out = sym (in_first limits.streams);
+  few = omega arith;
+}
 
--- a call of `run` that returns, and a restart, leave the operations
+-- where operations and streams stay
+pub tally_still : (t : Tally) (s new : ContextState) → IsTally t s → new.ops ≡ s.ops → new.next ≡ s.next →
+    new.streams ≡ s.streams → IsTally t new
+tally_still t s new tally ops next streams = record {
+  waiting = tally.waiting ∙ sym (ap waiting_in ops);
+  running = tally.running ∙ sym (ap running_in ops);
+  streaming = tally.streaming ∙ sym (ap on_streams streams);
+  out = tally.out ∙ sym (ap out_in streams);
+  few = subst (λ n. length new.ops ≤ n) (sym next) (subst (λ os. length os ≤ s.next) (sym ops) tally.few);
+}
+
+-- a call of `run` that returns, and a restart
 pub tally_stays : (t : Tally) (s : ContextState) (stopped : Bool) → IsTally t s →
     IsTally t (record s { stopped = stopped })
-tally_stays t s stopped tally = record {
-  waiting = tally.waiting;
-  running = tally.running;
-  few = tally.few;
-  sockets = tally.sockets;
-}
+tally_stays t s stopped tally = tally_still t s _ tally refl refl refl
 
 -- nothing is left to do
 pub none_left : {H : Type 0} (marks : H → Marks) (limits : Limits) (timers : Timers (Waiting H)) (t : Tally)
-    (s : ContextState) → IsTally t s → ShowsWaits marks limits timers s → t.waiting + t.running ≡ 0 →
+    (s : ContextState) → IsTally t s → ShowsWaits marks limits timers s → t.waiting + t.running + t.streaming ≡ 0 →
     None ≡ expiry_by timers.timers (next_wait timers) → has_no_ops s.ops ≡ true
 none_left marks limits timers t s tally shows none no_expiry =
     let all = shows.all in
+    let on = tally.streaming in
     let no_wait = no_waits_left timers.timers timers.waits no_expiry in
-    tally_none t s tally (omega (arith, none, all, no_wait))
+    tally_none t s tally (omega (arith, none, all, no_wait, on))
   where
     no_waits_left : {H : Type 0} (ts : List TimerState) (waits : List (Entry (PendingWait (Waiting H)))) →
         None ≡ expiry_by ts (earliest ts (map wait_of waits)) → length waits ≡ 0
@@ -386,5 +429,10 @@ some_left marks limits timers t s expiry tally shows some =
     some_wait ts [] some = absurd (cc)
     some_wait ts (wait ∷ waits) some = omega arith
 
-pub one_left : (t : Tally) (s : ContextState) → IsTally t s → 0 < t.waiting + t.running → has_no_ops s.ops ≡ false
-one_left t s tally some = tally_some t s tally (omega (arith, some))
+pub one_left : {H : Type 0} (marks : H → Marks) (limits : Limits) (timers : Timers (Waiting H)) (t : Tally)
+    (s : ContextState) → IsTally t s → ShowsWaits marks limits timers s → 0 < t.waiting + t.running + t.streaming →
+    has_no_ops s.ops ≡ false
+one_left marks limits timers t s tally shows some =
+    let all = shows.all in
+    let on = tally.streaming in
+    tally_some t s tally (omega (arith, some, all, on))

@@ -1,4 +1,4 @@
--- A timer is made, or changed, and what waits on it completes.
+-- A timer is changed, and what waits on it completes.
 use Rattle.std.proofs.Common.{arith, ap, refl, subst, sym, ◌∙◌}
 use Rattle.std.proofs.lemmas.List.{append-nil, length-set}
 use Rattle.std.specs.Prelude.{◌≡◌, ◌<◌, ℕ, ◌+◌, cond, not, Bool, true, false, List, [], ◌∷◌, ◌++◌, None, Option, Some, length, map, take}
@@ -42,21 +42,22 @@ use Rattle.io_scheduler.specs.Aborting.{IsAbortedIf, IsCancelling, numbers_on, t
 use Rattle.io_scheduler.specs.Come.{HaveCome, IsChanged, MayCome, NotesAll, changes, completions, with_events}
 use Rattle.io_scheduler.specs.Outside.{IsOutside}
 use Rattle.io_scheduler.specs.Shown.{Shows}
+use Rattle.io_scheduler.specs.Streams.{StaysStreaming}
 use Rattle.io_scheduler.specs.Tallied.{IsTally}
 use Rattle.io_scheduler.specs.Timing.{cancels_all, control_of, names_behind, timers_behind}
 use Rattle.io_scheduler.specs.Waits.{ShowsWaits}
 use Rattle.io_scheduler.proofs.AcceptedLemmas.{timer_within}
-use Rattle.io_scheduler.specs.Running.{IsExecution}
+use Rattle.io_scheduler.specs.Running.{HeldOp, IsExecution}
 use Rattle.io_scheduler.proofs.CalledLemmas.{StillHeld, still_held}
 use Rattle.io_scheduler.proofs.CountedLemmas.{shows_counted}
-use Rattle.io_scheduler.proofs.EndedLemmas.{HeldOp}
 use Rattle.io_scheduler.proofs.ComeLemmas.{names_behind_all, state_with, timers_behind_all}
 use Rattle.io_scheduler.proofs.FreedLemmas.{living_not}
 use Rattle.io_scheduler.proofs.StayedLemmas.{none_among, stays_quiet, waits_stay}
+use Rattle.io_scheduler.proofs.TallyLemmas.{tally_still}
 use Rattle.io_scheduler.proofs.TimerLemmas.{AreCurrent, alive_current, only_alive, waits_current}
 
 -- names of timers, and expiries, are nothing that is shown of strands
-renamed : {H S : Type 0} (marks : H → Marks) (limits : Limits) (counts : Counts) (names : Names)
+pub renamed : {H S : Type 0} (marks : H → Marks) (limits : Limits) (counts : Counts) (names : Names)
     (cells : List (Cell H S)) (jobs : JobList (ReadyOp H)) (s : ContextState) (places : List Place)
     (timers : List TimerState) (settled : List ℕ) (waits : List Wait) → settled ≡ [] →
     Shows marks limits counts names cells jobs s →
@@ -81,27 +82,6 @@ renamed marks limits counts names cells jobs s places timers settled waits none 
       settled = none;
       going = shows.going;
     }
-
--- a timer is made
-pub shows_timer : {H S : Type 0} (marks : H → Marks) (limits : Limits) (counts : Counts) (names : Names)
-    (cells : List (Cell H S)) (jobs : JobList (ReadyOp H)) (s : ContextState) (name : Name) →
-    Shows marks limits counts names cells jobs s →
-    Shows marks limits counts (record names { timers = with_life life.Alive name names.timers }) cells jobs
-    (after (event.Changed None (control.Make kind.Timer name)) s)
-shows_timer marks limits counts names cells jobs s name shows =
-    let of : List Place → Type 0 = λ places. Shows marks limits counts
-    (record names { timers = with_life life.Alive name places }) cells jobs
-    (after (event.Changed None (control.Make kind.Timer name)) s) in
-    subst of (sym (ap (λ (ns : Names). ns.timers) shows.names_are))
-    (renamed marks limits counts names cells jobs s (with_life life.Alive name s.names.timers) s.timers (s.settled ++ [])
-    (filter (λ wait. not (is_among [] wait.op)) s.waits) (ap (λ xs. xs ++ []) shows.settled) shows)
-
-pub waits_timer : {H : Type 0} (marks : H → Marks) (limits : Limits) (timers : Timers (Waiting H)) (s : ContextState)
-    (name : Name) → ShowsWaits marks limits timers s →
-    ShowsWaits marks limits timers (after (event.Changed None (control.Make kind.Timer name)) s)
-waits_timer marks limits timers s name shows =
-    waits_stay marks limits timers s _ shows
-    (stays_quiet s _ refl refl (length-set s.names.timers name.place _) refl)
 
 -- what a change of a timer reaches, and what it makes of the state
 reached_if : (s : ContextState) (timer : Name) (change : TimerChange) → is_alive s.names.timers timer ≡ true →
@@ -279,7 +259,7 @@ pub held_changed : (s : ContextState) (by : ℕ) (from : Lane) (own : Bool) (gra
     still ≡ held_still (after (event.Changed (Some by) (control_of timer change)) s) held →
     StillHeld by from own grant spares held still
 held_changed s by from own grant spares held still timer change executes it is =
-    still_held (after (event.Changed (Some by) (control_of timer change)) s) by from own own grant grant spares held still
+    still_held (after (event.Changed (Some by) (control_of timer change)) s) by from own own grant grant spares spares held still
     it.op executes
     (ap (λ ops. op_at ops by) (ops_behind s (Some by) timer change)
     ∙ cancelled_leaves s (reached s (control_of timer change)) s.ops by it.op (ap is_running it.runs) it.is)
@@ -326,12 +306,18 @@ module _ {H S : Type 0} (marks : H → Marks) (limits : Limits) (counts : Counts
       ShowsWaits marks limits timers (after (event.Changed by (control_of timer change)) s)
   gone_waits shows =
       subst (ShowsWaits marks limits timers) (sym (after_gone s by timer change gone))
-      (waits_stay marks limits timers s _ shows (stays_quiet s _ refl refl refl refl))
+      (waits_stay marks limits timers s _ shows (stays_quiet s _ refl refl refl refl refl))
 
   pub gone_tallied : IsTally tally s → IsTally tally (after (event.Changed by (control_of timer change)) s)
   gone_tallied is =
       subst (IsTally tally) (sym (after_gone s by timer change gone))
-      (record { waiting = is.waiting; running = is.running; few = is.few; sockets = is.sockets })
+      (tally_still tally s _ is refl refl refl)
+
+pub still_gone : (s : ContextState) (by : Option ℕ) (timer : Name) (change : TimerChange) →
+    is_alive s.names.timers timer ≡ false → StaysStreaming s (after (event.Changed by (control_of timer change)) s)
+still_gone s by timer change gone =
+    subst (StaysStreaming s) (sym (after_gone s by timer change gone))
+    (record { streams = refl; places = refl; ops = λ n it target is pending on. is })
 
 -- the change as a step of a handler
 pub is_changed : (limits : Limits) (by : Option ℕ) (made : Control) (old new : List Event) →
@@ -411,9 +397,4 @@ module _ {H S : Type 0} (marks : H → Marks) (limits : Limits) (counts : Counts
   pub over_tallied : IsTally tally s
   over_tallied =
       subst (IsTally tally) (sym state_is)
-      (record {
-        waiting = over.tallied.waiting;
-        running = over.tallied.running;
-        few = over.tallied.few;
-        sockets = over.tallied.sockets;
-      })
+      (tally_still tally over.waiting _ over.tallied refl refl refl)

@@ -1,6 +1,7 @@
 pub mod Aborting
 pub mod Accepted
 pub mod Begun
+pub mod Called
 pub mod Come
 pub mod Completed
 pub mod Counted
@@ -18,6 +19,8 @@ pub mod Shown
 pub mod Staged
 pub mod Steps
 pub mod Stranded
+pub mod Streaming
+pub mod Streams
 pub mod Taken
 pub mod Tallied
 pub mod Timing

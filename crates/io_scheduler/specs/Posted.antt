@@ -1,5 +1,6 @@
 -- Posting an operation.
-use Rattle.std.specs.Prelude.{ℕ, ◌+◌, ◌-◌, None}
+use Rattle.std.specs.Global.{Vec}
+use Rattle.std.specs.Prelude.{ℕ, ◌+◌, ◌-◌, Option, None}
 use Rattle.asio_types.specs.declared.code.Code.{Code}
 use Rattle.io_rules.specs.declared.name.Lane.{Lane}
 use Rattle.io_rules.specs.declared.operation.Operation.{Operation}
@@ -12,9 +13,10 @@ use Rattle.io_scheduler.specs.declared.counts.Counts.{Counts}
 abbrev pub posting : Lane → Operation → Marks → Request
 posting on kind marks = record { lane = on; binding = None; kind = kind; marks = marks }
 
--- it is ready, with this handler
-abbrev pub ready_posting : {H : Type 0} → ℕ → Code → H → ReadyOp H
-ready_posting n code handler = record { number = n; code = code; size = 0; handler = handler }
+-- it is ready, with this buffer and handler
+abbrev pub ready_posting : {H : Type 0} → ℕ → Code → Option (Vec ℕ) → H → ReadyOp H
+ready_posting n code buffer handler =
+    record { number = n; code = code; size = 0; buffer = buffer; made = None; handler = handler }
 
 -- a number and a place are taken
 abbrev pub counts_posted : Counts → Counts

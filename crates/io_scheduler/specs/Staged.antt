@@ -1,12 +1,14 @@
 -- What a handler staged while it executed takes effect in the order of its calls, and then it has ended.
-use Rattle.std.specs.Prelude.{◌≡◌, ◌+◌, ℕ, List, [], ◌∷◌, Some}
+use Rattle.std.specs.Prelude.{◌≡◌, ◌+◌, ℕ, List, [], ◌∷◌, Option, None, Some, min}
 use Rattle.asio_types.specs.declared.code.Code.TheVariants as code
+use Rattle.io_rules.specs.declared.control.Control.TheVariants as control
 use Rattle.io_rules.specs.declared.event.Event.{Event}
 use Rattle.io_rules.specs.declared.event.Event.TheVariants as event
 use Rattle.io_rules.specs.declared.request.Gone.{Gone}
 use Rattle.io_rules.specs.declared.request.Gone.TheVariants as gone
 use Rattle.io_rules.specs.declared.request.Marks.{Marks}
 use Rattle.io_rules.specs.declared.request.Request.{Request}
+use Rattle.io_rules.specs.declared.spares.Spares.{Spares}
 use Rattle.io_rules.specs.Calls.{gone_of}
 use Rattle.io_rules.specs.Legal.{IsStep}
 use Rattle.io_rules.specs.State.{ContextState}
@@ -27,10 +29,21 @@ called_by by request s =
     event.Called s.next (Some by) request (gone_of s request)
     ∷ done_at_once s.next (gone_of s request)
 
--- the events of a call by the handler of this operation, oldest first
-abbrev pub events_of : {H : Type 0} → (H → Marks) → ℕ → Staged H → ContextState → List Event
-events_of marks by (staged.Called call) s = called_by by (request_of marks call) s
-events_of marks by (staged.Changed change) s = changes (Some by) change s
+-- what the clock shows; where it can't be read, what it showed last
+abbrev pub reading_or : Option ℕ → ContextState → ℕ
+reading_or None s = s.now
+reading_or (Some now) s = now
+
+-- so much later, as far as there are such times
+abbrev pub later_by : ℕ → ℕ → ℕ
+later_by now after = min (now + after) 18446744073709551615
+
+-- the events of a call by the handler of this operation, oldest first; it has returned at this time
+abbrev pub events_of : {H : Type 0} → (H → Marks) → ℕ → ℕ → Staged H → ContextState → List Event
+events_of marks by now (staged.Called call) s = called_by by (request_of marks call) s
+events_of marks by now (staged.Changed change) s = changes (Some by) change s
+events_of marks by now (staged.ExpiresAfter timer after) s =
+    changes (Some by) (control.Expires timer (later_by now after)) s
 
 -- the handler of this operation initiates another one
 pub record IsCalled (by : ℕ) (request : Request) (old new : ContextState) : Type 0 where
@@ -38,33 +51,34 @@ pub record IsCalled (by : ℕ) (request : Request) (old new : ContextState) : Ty
   pub is : new ≡ behind (called_by by request old) old
 
 -- one call takes effect
-pub record IsCommitted {H : Type 0} (marks : H → Marks) (by : ℕ) (call : Staged H) (old new : ContextState) :
+pub record IsCommitted {H : Type 0} (marks : H → Marks) (by now : ℕ) (call : Staged H) (old new : ContextState) :
     Type 0 where
-  pub may : MayCome (events_of marks by call old) old
-  pub is : new ≡ behind (events_of marks by call old) old
+  pub may : MayCome (events_of marks by now call old) old
+  pub is : new ≡ behind (events_of marks by now call old) old
 
 -- the state behind all calls
-abbrev pub staged_behind : {H : Type 0} → (H → Marks) → ℕ → List (Staged H) → ContextState → ContextState
-staged_behind marks by [] s = s
-staged_behind marks by (call ∷ calls) s =
-    staged_behind marks by calls (behind (events_of marks by call s) s)
+abbrev pub staged_behind : {H : Type 0} → (H → Marks) → ℕ → ℕ → List (Staged H) → ContextState → ContextState
+staged_behind marks by now [] s = s
+staged_behind marks by now (call ∷ calls) s =
+    staged_behind marks by now calls (behind (events_of marks by now call s) s)
 
 -- all calls take effect, one after another
-abbrev pub AreStaged : {H : Type 0} → (H → Marks) → ℕ → List (Staged H) → ContextState → Type 0
-AreStaged marks by [] s = Unit {0}
-AreStaged marks by (call ∷ calls) s =
-    MayCome (events_of marks by call s) s
-    × AreStaged marks by calls (behind (events_of marks by call s) s)
+abbrev pub AreStaged : {H : Type 0} → (H → Marks) → ℕ → ℕ → List (Staged H) → ContextState → Type 0
+AreStaged marks by now [] s = Unit {0}
+AreStaged marks by now (call ∷ calls) s =
+    MayCome (events_of marks by now call s) s
+    × AreStaged marks by now calls (behind (events_of marks by now call s) s)
 
--- all that its handler staged takes effect, and then it has ended with this mark
-pub record IsEnded {H : Type 0} (marks : H → Marks) (op : ℕ) (calls : List (Staged H)) (mark : ℕ)
+-- all that its handler staged takes effect, and then it has ended with this mark; it returned at this time
+pub record IsEnded {H : Type 0} (marks : H → Marks) (op now : ℕ) (calls : List (Staged H)) (mark : ℕ)
     (old new : ContextState) : Type 0 where
-  pub staged : AreStaged marks op calls old
-  pub ended : IsStep (staged_behind marks op calls old) (event.Ended op mark) new
+  pub staged : AreStaged marks op now calls old
+  pub ended : IsStep (staged_behind marks op now calls old) (event.Ended op mark) new
 
--- the same execution, which has initiated so many operations more
-pub record GoesOn (many : ℕ) (old new : Execution) : Type 0 where
+-- the same execution, which has initiated so many operations more, and to which these names are left
+pub record GoesOn (many : ℕ) (left : Spares) (old new : Execution) : Type 0 where
   pub op : new.op ≡ old.op
   pub lane : new.lane ≡ old.lane
   pub places : new.places + many ≡ old.places
+  pub spares : new.spares ≡ left
   pub mark : mark_of new.held ≡ mark_of old.held

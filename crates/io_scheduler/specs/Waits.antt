@@ -18,6 +18,7 @@ use Rattle.io_timers.specs.Kept.{Rises}
 use Rattle.io_timers.specs.Pending.{Entry, Timers, wait_of}
 use Rattle.io_scheduler.specs.declared.waiting.Waiting.{Waiting}
 use Rattle.io_scheduler.specs.Shown.{is_used_place}
+use Rattle.io_scheduler.specs.Streaming.{on_streams}
 
 -- the strand of a lane is there, though its name may be gone
 abbrev pub IsThere : List Place → Lane → Type 0
@@ -56,6 +57,6 @@ pub record ShowsWaits {H : Type 0} (marks : H → Marks) (limits : Limits) (time
   pub waits_are : map wait_of timers.waits ≡ s.waits
   pub rises : Rises timers.waits
   pub each : ArePending marks s.ops timers.waits
-  -- nothing else is pending
-  pub all : length timers.waits ≡ incomplete_in s.ops
+  -- nothing else is pending than these and the operations of streams
+  pub all : length timers.waits + on_streams s.streams ≡ incomplete_in s.ops
   pub room : timers.room + length timers.waits ≡ limits.operations

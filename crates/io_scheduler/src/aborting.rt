@@ -81,6 +81,8 @@ pub(crate) fn abort_first<H: Handler, C: Named>(
                 number: op,
                 code: Code::Aborted,
                 size: 0,
+                buffer: None,
+                made: None,
                 handler,
             };
             tally.call();

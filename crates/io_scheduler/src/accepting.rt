@@ -24,7 +24,7 @@ use io_timers::Timers;
 use std::marker::Brand;
 
 /// One more operation is tied to the strand of a lane, which isn't ready.
-fn tie<H, S>(strands: &mut Vec<Strand<H, S>>, lane: Lane)
+pub(crate) fn tie<H, S>(strands: &mut Vec<Strand<H, S>>, lane: Lane)
     requires { MayBeTiedTo lane strands.old.items }
     ensures { (op : ReadyOp H) → strands.new.items ≡ later_cells lane op strands.old.items }
 {

@@ -40,6 +40,8 @@ impl<H: Handler, C: Named> Scheduler<H, C> {
                     number,
                     code,
                     size,
+                    buffer,
+                    made,
                     handler,
                 } = op;
                 let spares = self.names.keep_all(number);
@@ -60,6 +62,8 @@ impl<H: Handler, C: Named> Scheduler<H, C> {
                 let done = Completion {
                     code,
                     size,
+                    buffer,
+                    made,
                     now: self.counts.clock,
                 };
                 Some(Begun {

@@ -1,49 +1,23 @@
 ghost use Rattle.std.specs.Prelude.{◌≡◌, ◌<◌, ◌≤◌, true, [], Some};
-ghost use Rattle.io_rules.specs.Calls.{is_lane_gone};
-ghost use Rattle.io_rules.specs.Operations.{is_posting};
-ghost use Rattle.io_handlers.specs.Initiated.{IsOffered, is_offered_change, operations_in, operations_of};
+ghost use Rattle.io_handlers.specs.Initiated.{IsMade, IsMadeOf, IsOffered, is_offered_change, left_by, left_by_all, operations_in, operations_of, spares_made, with_none};
 ghost use Rattle.io_scheduler.specs.Come.{IsChanged};
-ghost use Rattle.io_scheduler.specs.Posted.{posting};
-ghost use Rattle.io_scheduler.specs.Staged.{AreStaged, GoesOn, IsCalled, IsCommitted, staged_behind};
+ghost use Rattle.io_scheduler.specs.Staged.{AreStaged, GoesOn, IsCommitted, later_by, staged_behind};
 
-use crate::initiating::is_there;
 use crate::running::Running;
 use crate::scheduler::Scheduler;
 use crate::timing::TimerChange;
 use io_handlers::{Handler, Initiating, Staged, Staging};
 use io_history::{HistoryTable, Named};
-use io_rules::{Control, Lane, Operation};
+use io_rules::Control;
+
+/// So much later, as far as there are such times.
+fn later_by(now: u64, after: u64) -> u64
+    ensures { result ≡ later_by now after }
+{
+    now.saturating_add(after)
+}
 
 impl<H: Handler, C: Named> Scheduler<H, C> {
-    /// Whether the strand of a lane is gone.
-    fn is_gone(&self, lane: Lane) -> bool
-        ensures { result ≡ is_lane_gone self.now.names lane }
-    {
-        !is_there(&self.names, lane)
-    }
-
-    /// A handler that executes posts another one.
-    fn call_by(
-        &mut self,
-        table: &HistoryTable,
-        running: Running<C>,
-        lane: Lane,
-        kind: Operation,
-        handler: H,
-    ) -> Running<C>
-        requires table { table.now ≡ C.table }
-        requires posting { is_posting kind ≡ true }
-        requires place { 0 < running.places }
-        ensures called { IsCalled running.op (posting lane kind (H.marks handler)) self.old self.new }
-        ensures goes_on { GoesOn 1 running result }
-    {
-        if self.is_gone(lane) {
-            self.post_gone(table, running, lane, kind, handler)
-        } else {
-            self.post_by(table, running, lane, kind, handler)
-        }
-    }
-
     /// A handler that executes changes the context.
     fn change_by(
         &mut self,
@@ -53,10 +27,12 @@ impl<H: Handler, C: Named> Scheduler<H, C> {
     ) -> Running<C>
         requires table { table.now ≡ C.table }
         requires offered { is_offered_change change ≡ true }
+        requires made { IsMadeOf change running.spares }
         ensures changed { IsChanged (Some running.op) change self.old self.new }
-        ensures goes_on { GoesOn 0 running result }
+        ensures goes_on { GoesOn 0 (spares_made change running.spares) running result }
     {
         match change {
+            Control::Make { kind: _, name } => self.make_timer_by(table, running, name),
             Control::Expires { timer, at } => {
                 self.change_timer_by(table, running, timer, TimerChange::ExpiresAt { at })
             }
@@ -73,21 +49,27 @@ impl<H: Handler, C: Named> Scheduler<H, C> {
         }
     }
 
-    /// A call that a handler staged takes effect.
+    /// A call that a handler staged takes effect, which has returned at this time.
     fn commit_one(
         &mut self,
         table: &HistoryTable,
         running: Running<C>,
         call: Staged<H>,
+        now: u64,
     ) -> Running<C>
         requires table { table.now ≡ C.table }
         requires offered { IsOffered call }
+        requires made { IsMade call running.spares }
         requires place { operations_of call ≤ running.places }
-        ensures committed { IsCommitted H.marks running.op call self.old self.new }
-        ensures goes_on { GoesOn (operations_of call) running result }
+        ensures committed { IsCommitted H.marks running.op now call self.old self.new }
+        ensures goes_on { GoesOn (operations_of call) (left_by call running.spares) running result }
     {
         match call {
             Staged::Changed(change) => self.change_by(table, running, change),
+            Staged::ExpiresAfter { timer, after } => {
+                let at = later_by(now, after);
+                self.change_timer_by(table, running, timer, TimerChange::ExpiresAt { at })
+            }
             Staged::Called(call) => {
                 let Initiating {
                     lane,
@@ -100,24 +82,26 @@ impl<H: Handler, C: Named> Scheduler<H, C> {
         }
     }
 
-    /// All that a handler staged takes effect, in the order of its calls.
+    /// All that a handler staged takes effect, in the order of its calls; it has returned at this time.
     pub(crate) fn commit_all(
         &mut self,
         table: &HistoryTable,
         running: Running<C>,
         io: &mut Staging<H>,
+        now: u64,
     ) -> Running<C>
         requires table { table.now ≡ C.table }
         requires granted { io.old.granted ≡ running.places }
-        ensures staged { AreStaged H.marks running.op io.old.staged self.old }
-        ensures behind { self.new ≡ staged_behind H.marks running.op io.old.staged self.old }
-        ensures taken { io.new ≡ record io.old { staged = [] } }
-        ensures goes_on { GoesOn (operations_in io.old.staged) running result }
+        requires kept { io.old.kept ≡ running.spares }
+        ensures staged { AreStaged H.marks running.op now io.old.staged self.old }
+        ensures behind { self.new ≡ staged_behind H.marks running.op now io.old.staged self.old }
+        ensures taken { io.new ≡ with_none io.old }
+        ensures goes_on { GoesOn (operations_in io.old.staged) (left_by_all io.old.staged running.spares) running result }
     {
         io.learn();
         let mut left = running;
         'calls: while let Some(call) = io.next() {
-            left = self.commit_one(table, left, call);
+            left = self.commit_one(table, left, call, now);
         }
         left
     }

@@ -1,11 +1,12 @@
-ghost use Rattle.std.specs.Prelude.{◌≡◌, ◌<◌, ◌+◌, if◌then◌else◌, [], None, Some};
+ghost use Rattle.std.specs.Prelude.{◌≡◌, ◌<◌, ◌+◌, if◌then◌else◌, None, Some};
 ghost use Rattle.std.specs.Option.{is_some};
 ghost use Rattle.io_rules.specs.declared.event.Event.TheVariants as event;
 ghost use Rattle.io_rules.specs.Legal.{IsStep};
 ghost use Rattle.io_rules.specs.Strands.{is_last_on};
+ghost use Rattle.io_handlers.specs.Initiated.{with_none};
 ghost use Rattle.io_scheduler.specs.Begun.{is_strand};
 ghost use Rattle.io_scheduler.specs.Ended.{mark_of};
-ghost use Rattle.io_scheduler.specs.Staged.{IsEnded, staged_behind};
+ghost use Rattle.io_scheduler.specs.Staged.{IsEnded, reading_or, staged_behind};
 
 use crate::leaving::{forget_if, is_last, leave};
 use crate::noting::note_ended;
@@ -17,8 +18,9 @@ use std::marker::Brand;
 use std::sync::ledger::Share;
 
 impl<H: Handler, C: Named> Scheduler<H, C> {
-    /// A handler has returned this mark. What it staged takes effect in the order of its calls, and then it
-    /// has ended, which counts in the share of whoever executed it. Answers the state of its strand, to be
+    /// A handler has returned this mark, and the clock was read, unless it can't be. What it staged takes
+    /// effect in the order of its calls, and then it has ended, which counts in the share of whoever executed
+    /// it. Answers the state of its strand, to be
     /// retired, where that is gone and this was its last operation.
     pub fn end(
         &mut self,
@@ -28,22 +30,35 @@ impl<H: Handler, C: Named> Scheduler<H, C> {
         mark: u64,
         io: &mut Staging<H>,
         by: &mut Share<C>,
+        now: Option<u64>,
     ) -> Option<H::State>
         requires table { table.now ≡ C.table }
         requires mark { mark_of running.held ≡ Some mark }
         requires state { is_some state ≡ is_strand running.lane }
         requires granted { io.old.granted ≡ running.places }
+        requires kept { io.old.kept ≡ running.spares }
         requires part { 0 < by.old.parts }
         ensures counted { by.new.amount ≡ by.old.amount + 1 }
         ensures parts { by.new.parts ≡ by.old.parts }
-        ensures ended { IsEnded H.marks running.op io.old.staged mark self.old self.new }
-        ensures taken { io.new ≡ record io.old { staged = [] } }
+        ensures ended { IsEnded H.marks running.op (reading_or now self.old) io.old.staged mark self.old self.new }
+        ensures taken { io.new ≡ with_none io.old }
         ensures retired { result
-            ≡ (if is_last_on (staged_behind H.marks running.op io.old.staged self.old) running.lane
+            ≡ (if is_last_on (staged_behind H.marks running.op (reading_or now self.old) io.old.staged self.old) running.lane
             then state else None) }
     {
-        let left = self.commit_all(table, running, io);
+        let now = self.reading_or(now);
+        let left = self.commit_all(table, running, io, now);
         self.end_now(table, left, state, mark, by)
+    }
+
+    /// What the clock shows; where it can't be read, what it showed last.
+    fn reading_or(&self, now: Option<u64>) -> u64
+        ensures { result ≡ reading_or now self.now }
+    {
+        match now {
+            Some(now) => now,
+            None => self.counts.clock,
+        }
     }
 
     /// A handler has returned this mark, and what it initiated is noted; answers the state of its strand

@@ -79,6 +79,8 @@ pub(crate) fn expire_one<H: Handler, C: Named>(
                 number: op,
                 code: Code::Ok,
                 size: 0,
+                buffer: None,
+                made: None,
                 handler,
             };
             tally.call();

@@ -86,6 +86,8 @@ impl<H: Handler, C: Named> Scheduler<H, C> {
             number: op,
             code: Code::Ok,
             size: 0,
+            buffer: None,
+            made: None,
             handler,
         };
         enter(&mut self.strands, &mut self.jobs, false, lane, ready);

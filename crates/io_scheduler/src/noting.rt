@@ -1,5 +1,4 @@
 ghost use Rattle.std.specs.Prelude.{◌≡◌, ◌<◌, ◌+◌, ◌∷◌, None, Some};
-ghost use Rattle.asio_types.specs.declared.code.Code.TheVariants as code;
 ghost use Rattle.io_rules.specs.declared.control.Control.TheVariants as control;
 ghost use Rattle.io_rules.specs.declared.event.Event.TheVariants as event;
 ghost use Rattle.io_rules.specs.declared.request.Gone.TheVariants as gone;
@@ -79,7 +78,7 @@ pub(crate) fn note_ended<C: Named, E: Happening>(
     keeper.note_end::<E>(table, by);
 }
 
-/// Notes that the handler that is held posts an operation.
+/// Notes that the handler that is held initiates an operation.
 pub(crate) fn note_called<H: Handler, C: Named, E: Happening>(
     table: &HistoryTable,
     keeper: &mut Keeper<C>,
@@ -98,22 +97,6 @@ pub(crate) fn note_called<H: Handler, C: Named, E: Happening>(
         ≡ event.Called op (Some by) (posting lane kind (H.marks handler.now)) given ∷ keeper.old.past }
     ensures held { keeper.new.held ≡ held_still (state_of C.limits
         (event.Called op (Some by) (posting lane kind (H.marks handler.now)) given ∷ keeper.old.past)) keeper.old.held }
-{
-    keeper.note::<E>(table);
-}
-
-/// Notes that an operation that names something gone completes.
-pub(crate) fn note_refused<C: Named, E: Happening>(
-    table: &HistoryTable,
-    keeper: &mut Keeper<C>,
-    op: u64,
-)
-    requires table { table.now ≡ C.table }
-    requires event { E.event ≡ event.Done op code.Bad 0 }
-    requires may { MayHappen (state_of C.limits keeper.old.past) E.event }
-    ensures past { keeper.new.past ≡ event.Done op code.Bad 0 ∷ keeper.old.past }
-    ensures held { keeper.new.held
-        ≡ held_still (state_of C.limits (event.Done op code.Bad 0 ∷ keeper.old.past)) keeper.old.held }
 {
     keeper.note::<E>(table);
 }

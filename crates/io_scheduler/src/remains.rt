@@ -53,6 +53,8 @@ impl<H: Handler, C: Named> Remains<H, C> {
                     number: _,
                     code: _,
                     size: _,
+                    buffer: _,
+                    made: _,
                     handler,
                 } = ready;
                 Some(handler)

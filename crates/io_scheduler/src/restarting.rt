@@ -4,7 +4,7 @@ ghost use Rattle.io_rules.specs.Legal.{IsStep};
 ghost use Rattle.io_rules.specs.Stopping.{has_no_ops};
 ghost use Rattle.io_scheduler.specs.Sections.{NotesIf};
 ghost use Rattle.io_scheduler.specs.Steps.{IsStepIf};
-ghost use Rattle.io_scheduler.specs.Tallied.{is_idle, is_over};
+ghost use Rattle.io_scheduler.specs.Tallied.{is_at_rest, is_over};
 
 use crate::outside::{note_outside, note_section};
 use crate::scheduler::Scheduler;
@@ -45,16 +45,16 @@ impl<H: Handler, C: Named> Scheduler<H, C> {
         self.counts.stopped = true;
     }
 
-    /// Handlers may begin again (`io_context::restart`). `false` exactly where one executes, and then nothing
-    /// has changed.
+    /// Handlers may begin again (`io_context::restart`). `false` exactly where one executes or a socket is in
+    /// a system call, and then nothing has changed.
     pub fn restart(&mut self, table: &HistoryTable) -> (bool, Section<C>)
         requires { table.now ≡ C.table }
-        ensures idle { result.0 ≡ is_idle self.old }
+        ensures rest { result.0 ≡ is_at_rest self.old }
         ensures step { IsStepIf result.0 self.old event.Restarted self.new }
         ensures noted { NotesIf result.0 C.limits event.Restarted
             result.1.before result.1.after self.old self.new }
     {
-        if self.tally.running > 0 {
+        if !self.tally.rests() {
             return (false, self.look(table));
         }
         let section = note_section::<C, Brand>(table, &mut self.keeper);

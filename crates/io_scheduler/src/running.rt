@@ -45,6 +45,20 @@ impl<C: Named> Running<C> {
     {
         places_of(self.own, self.grant)
     }
+
+    /// The names under which its handler may make something.
+    pub fn spares(&self) -> Spares
+        ensures { result ≡ self.now.spares }
+    {
+        self.spares
+    }
+
+    /// Where it executes.
+    pub(crate) fn lane(&self) -> Lane
+        ensures { result ≡ self.now.lane }
+    {
+        self.lane
+    }
 }
 
 /// As many places as there are besides, and perhaps its own.

@@ -3,6 +3,7 @@ ghost use Rattle.io_rules.specs.State.{first_state};
 
 use crate::counts::Counts;
 use crate::making::make_parts;
+use crate::streaming::Streaming;
 use crate::tally::Tally;
 use crate::waiting::Waiting;
 use io_handlers::Handler;
@@ -11,6 +12,7 @@ use io_jobs::Jobs;
 use io_names::NameTables;
 use io_rules::Limits;
 use io_strands::{ReadyOp, Strand};
+use io_streams::Streams;
 use io_timers::Timers;
 use std::alloc::Global;
 use std::marker::Model;
@@ -27,6 +29,8 @@ pub struct Scheduler<H: Handler, C: Named> {
     pub(crate) jobs: Jobs<ReadyOp<H>>,
     // expiries, and the waits that are pending
     pub(crate) timers: Timers<Waiting<H>>,
+    // streams and listeners, and what is pending on them
+    pub(crate) streams: Streams<Streaming<H>>,
     pub(crate) tally: Tally,
 }
 
@@ -36,6 +40,7 @@ impl<H: Handler, C: Named> Model for Scheduler<H, C> {
     ghost use Rattle.io_rules.specs.State.{ContextState};
     ghost use Rattle.io_names.specs.Tables.{names_of};
     ghost use Rattle.io_scheduler.specs.Shown.{Shows};
+    ghost use Rattle.io_scheduler.specs.Streams.{ShowsStreams};
     ghost use Rattle.io_scheduler.specs.Tallied.{IsTally};
     ghost use Rattle.io_scheduler.specs.Waits.{ShowsWaits};
 
@@ -46,7 +51,8 @@ impl<H: Handler, C: Named> Model for Scheduler<H, C> {
     ghost invariant = { λ s. (s.keeper.held ≡ None)
         × Shows H.marks C.limits s.counts (names_of s.names) s.strands.items s.jobs (state_of C.limits s.keeper.past)
         × IsTally s.tally (state_of C.limits s.keeper.past)
-        × ShowsWaits H.marks C.limits s.timers (state_of C.limits s.keeper.past) };
+        × ShowsWaits H.marks C.limits s.timers (state_of C.limits s.keeper.past)
+        × ShowsStreams H.marks C.limits s.streams (state_of C.limits s.keeper.past) };
 }
 
 impl<H: Handler, C: Named> Scheduler<H, C> {
@@ -64,6 +70,9 @@ impl<H: Handler, C: Named> Scheduler<H, C> {
         let Ok(names) = NameTables::make(alloc, &limits) else {
             return Err(keeper);
         };
+        let Ok(streams) = Streams::make(alloc, limits.streams, limits.operations) else {
+            return Err(keeper);
+        };
         match make_parts(alloc, &limits) {
             Ok((strands, jobs, timers)) => Ok(Scheduler {
                 keeper,
@@ -72,9 +81,13 @@ impl<H: Handler, C: Named> Scheduler<H, C> {
                 strands,
                 jobs,
                 timers,
+                streams,
                 tally: Tally::new(),
             }),
-            Err(_) => Err(keeper),
+            Err(_) => {
+                streams.destroy();
+                Err(keeper)
+            }
         }
     }
 }

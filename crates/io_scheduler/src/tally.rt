@@ -1,5 +1,5 @@
 ghost use Rattle.std.specs.Prelude.{◌≡◌, ◌+◌, ◌<◌, false, true};
-ghost use Rattle.io_scheduler.specs.Tallied.{tally_begun, tally_called, tally_ended};
+ghost use Rattle.io_scheduler.specs.Tallied.{rests, tally_begun, tally_called, tally_ended};
 
 /// How many operations there are.
 #[derive(Clone, Copy)]
@@ -8,16 +8,22 @@ pub(crate) struct Tally {
     pub(crate) waiting: u64,
     /// Those whose handlers execute.
     pub(crate) running: u64,
+    /// Those of streams and listeners that are pending.
+    pub(crate) streaming: u64,
+    /// How many sockets are in system calls.
+    pub(crate) out: u64,
 }
 
 impl Tally {
     /// Before the first event.
     pub(crate) fn new() -> Tally
-        ensures { result ≡ record { waiting = 0; running = 0 } }
+        ensures { result ≡ record { waiting = 0; running = 0; streaming = 0; out = 0 } }
     {
         Tally {
             waiting: 0,
             running: 0,
+            streaming: 0,
+            out: 0,
         }
     }
 
@@ -45,11 +51,18 @@ impl Tally {
         self.running = self.running.saturating_sub(1);
     }
 
-    /// Whether none is left.
+    /// Whether none is left, but for waits that are pending.
     pub(crate) fn is_none(&self) -> bool
-        ensures none { result ≡ true → self.now.waiting + self.now.running ≡ 0 }
-        ensures some { result ≡ false → 0 < self.now.waiting + self.now.running }
+        ensures none { result ≡ true → self.now.waiting + self.now.running + self.now.streaming ≡ 0 }
+        ensures some { result ≡ false → 0 < self.now.waiting + self.now.running + self.now.streaming }
     {
-        self.waiting == 0 && self.running == 0
+        self.waiting == 0 && self.running == 0 && self.streaming == 0
+    }
+
+    /// Whether none executes, and no socket is in a system call.
+    pub(crate) fn rests(&self) -> bool
+        ensures { result ≡ rests self.now }
+    {
+        self.running == 0 && self.out == 0
     }
 }

@@ -2,7 +2,7 @@ ghost use Rattle.std.specs.Prelude.{◌≡◌, ◌≤◌, IfOk};
 
 use crate::steps::Step;
 use asio_types::NoMemory;
-use io_context::{Context, Lane, Limits, Named, NewContext, run_on_threads};
+use io_context::{ClockReactor, Context, Lane, Limits, Named, NewContext, Reactor, run_on_threads};
 use std::alloc::Global;
 use std::marker::Brand;
 use std::sync::Wait;
@@ -46,10 +46,10 @@ impl Load {
 }
 
 /// The lanes of new strands; fewer where the context has no room.
-fn make_lanes<R: Wait, C: Named>(
+fn make_lanes<R: Wait, C: Named, W: Reactor>(
     rt: &R,
     alloc: Global,
-    context: &Context<Step, C>,
+    context: &Context<Step, C, W>,
     strands: u32,
 ) -> Result<Vec<Lane>, NoMemory> {
     let mut lanes = Vec::new(alloc);
@@ -65,7 +65,12 @@ fn make_lanes<R: Wait, C: Named>(
 }
 
 /// Posts handlers to these lanes by turns.
-fn post_all<R: Wait, C: Named>(rt: &R, context: &Context<Step, C>, lanes: &[Lane], load: Load) {
+fn post_all<R: Wait, C: Named, W: Reactor>(
+    rt: &R,
+    context: &Context<Step, C, W>,
+    lanes: &[Lane],
+    load: Load,
+) {
     for n in 0..load.posted {
         let Some(lane) = lanes.get(n as usize % lanes.len().max(1)) else {
             return;
@@ -77,7 +82,7 @@ fn post_all<R: Wait, C: Named>(rt: &R, context: &Context<Step, C>, lanes: &[Lane
 }
 
 /// A load on a context of this name.
-fn execute<R: Threads + Wait + Clock + Sync, C: Named + Send + Sync>(
+fn execute<R: Threads + Wait + Clock + Sync + Copy, C: Named + Send + Sync>(
     rt: &R,
     alloc: Global,
     new: NewContext,
@@ -88,7 +93,10 @@ fn execute<R: Threads + Wait + Clock + Sync, C: Named + Send + Sync>(
     requires name { new.name ≡ C.name }
     requires parts { new.parts ≡ C.parts }
 {
-    let (context, mut share) = Context::<Step, C>::make(rt, alloc, new)?;
+    let (reactor, poll) = ClockReactor::make(*rt);
+    let (context, mut share) = Context::<Step, C, ClockReactor<R>>::make(
+        alloc, new, reactor, poll,
+    )?;
     let lanes = make_lanes(rt, alloc, &context, load.strands);
     if let Ok(lanes) = &lanes {
         post_all(rt, &context, lanes.as_slice(), load);
@@ -100,7 +108,7 @@ fn execute<R: Threads + Wait + Clock + Sync, C: Named + Send + Sync>(
 }
 
 /// A load on a new context, from making it to destroying it.
-pub(crate) fn execute_new<R: Threads + Wait + Clock + Sync>(
+pub(crate) fn execute_new<R: Threads + Wait + Clock + Sync + Copy>(
     rt: &R,
     alloc: Global,
     load: Load,

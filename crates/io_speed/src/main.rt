@@ -44,7 +44,7 @@ fn nanos_of(time: Duration) -> u64 {
 }
 
 /// The load on each context: how long all took by the clock and of processor time.
-fn measured<R: AllocGlobal + Clock + CpuClock + Threads + Wait + Sync>(
+fn measured<R: AllocGlobal + Clock + CpuClock + Threads + Wait + Sync + Copy>(
     rt: &R,
     load: Load,
 ) -> Option<(u64, u64)> {
@@ -59,7 +59,7 @@ fn measured<R: AllocGlobal + Clock + CpuClock + Threads + Wait + Sync>(
 }
 
 /// The whole program.
-fn run<R: Env + AllocGlobal + Print + Eprint + Clock + CpuClock + Threads + Wait + Sync>(
+fn run<R: Env + AllocGlobal + Print + Eprint + Clock + CpuClock + Threads + Wait + Sync + Copy>(
     rt: &R,
 ) -> Option<()> {
     let words = env::args(rt)

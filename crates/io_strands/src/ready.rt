@@ -1,4 +1,5 @@
 use asio_types::Code;
+use io_rules::Name;
 
 /// An operation that has completed, with its handler, which waits to execute.
 pub struct ReadyOp<H> {
@@ -8,6 +9,10 @@ pub struct ReadyOp<H> {
     pub code: Code,
     /// Its `bytes_transferred`.
     pub size: u64,
+    /// The buffer that was given with it, if one was.
+    pub buffer: Option<Vec<u8>>,
+    /// The stream that it made, if it made one.
+    pub made: Option<Name>,
     /// Its handler.
     pub handler: H,
 }

@@ -1,20 +1,22 @@
 use crate::handlers::{Counts, Task};
 use crate::running::{Case, Scenario, limits, play_new};
-use io_context::Named;
+use io_context::{Named, Reactor};
 use std::alloc::Global;
 use std::process::Abort;
 use std::sync::Wait;
 use std::sync::atomic::Ordering;
 use std::thread::Threads;
-use std::time::Clock;
 
 /// A handler of a strand posts itself so many times, one after another, while four threads run.
-pub(crate) fn chain<'a, R: Abort + Threads + Wait + Clock + Sync, C: Named + Send + Sync>(
-    rt: &R,
-    alloc: Global,
-    case: Case<'a, C>,
-    length: u64,
-) {
+pub(crate) fn chain<
+    'a,
+    R: Abort + Threads + Wait + Sync,
+    C: Named + Send + Sync,
+    W: Reactor + Sync,
+>(rt: &R, alloc: Global, case: Case<'a, C, W>, length: u64)
+where
+    W::Poll: Send,
+{
     let mut case = case;
     let lane = case.new_strand(rt);
     case.post(rt, lane, Task::Chain(length, lane));

@@ -1,20 +1,23 @@
 use crate::handlers::{Counts, Task, await_count, count};
 use crate::running::{Case, Part, Scenario, limits, play_new, post};
-use io_context::{Lane, Named};
+use io_context::{Lane, Named, Reactor};
 use std::alloc::Global;
 use std::process::Abort;
 use std::sync::Wait;
 use std::sync::atomic::Ordering;
 use std::thread;
 use std::thread::Threads;
-use std::time::Clock;
 
 /// While a handler executes, a thread posts till no place is free; then the handler posts four.
-pub(crate) fn grant<'a, R: Abort + Threads + Wait + Clock + Sync, C: Named + Send + Sync>(
-    rt: &R,
-    alloc: Global,
-    case: Case<'a, C>,
-) {
+pub(crate) fn grant<
+    'a,
+    R: Abort + Threads + Wait + Sync,
+    C: Named + Send + Sync,
+    W: Reactor + Sync,
+>(rt: &R, alloc: Global, case: Case<'a, C, W>)
+where
+    W::Poll: Send,
+{
     let Case {
         context,
         mut part,

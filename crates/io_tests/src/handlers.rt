@@ -6,6 +6,7 @@ use asio_types::Code;
 use io_context::{Completion, Full, Handler, Initiator, Lane, Name};
 use std::sync::atomic::{AtomicU64, Ordering};
 use std::thread;
+use std::time::Duration;
 
 /// What became of handlers and of strands' states.
 #[derive(Drop)]
@@ -57,6 +58,12 @@ pub(crate) enum Task {
     Cancel(Name),
     /// Waits for a word, and then posts so many.
     Initiate(u32),
+    /// Makes a timer that expires soon, and waits for it.
+    MakeTimer,
+    /// Leaves mark 1, sets its timer again and waits for it.
+    SetAgain(Name),
+    /// Leaves mark 2, destroys its timer and waits for it.
+    FreeTimer(Name),
 }
 
 /// A handler that counts its execution.
@@ -64,6 +71,9 @@ pub(crate) struct Counting<'a> {
     pub(crate) task: Task,
     pub(crate) counts: &'a Counts,
 }
+
+/// When a timer expires that a handler sets, in milliseconds after its return.
+const SOON: u64 = 5;
 
 /// Looks so often at most for others.
 const MOST_LOOKS: u32 = 1_000_000_000;
@@ -100,7 +110,8 @@ fn initiated<'a>(posted: Result<(), Full<Counting<'a>>>) {
 impl<'a> Counting<'a> {
     /// Counts its execution, and does its task.
     fn perform(self, code: Code, io: &mut Initiator<Counting<'a>>)
-        ensures { io.new.granted ≡ io.old.granted }
+        ensures grant { io.new.granted ≡ io.old.granted }
+        ensures kept { io.new.kept ≡ io.old.kept }
     {
         let Counting { task, counts } = self;
         count(&counts.executed);
@@ -145,13 +156,37 @@ impl<'a> Counting<'a> {
                 await_count(&counts.order, 1);
                 post_so_many(many, counts, io);
             }
+            Task::MakeTimer => match io.make_timer() {
+                None => {}
+                Some(timer) => wait_soon(timer, Task::SetAgain(timer), counts, io),
+            },
+            Task::SetAgain(timer) => {
+                mark(&counts.order, 1);
+                wait_soon(timer, Task::FreeTimer(timer), counts, io);
+            }
+            Task::FreeTimer(timer) => {
+                mark(&counts.order, 2);
+                io.free_timer(timer);
+                let task = Task::Waited(3);
+                initiated(io.wait(timer, Lane::Own, Counting { task, counts }));
+            }
         }
     }
 }
 
+/// Sets a timer to expire soon, and waits for it.
+fn wait_soon<'a>(timer: Name, task: Task, counts: &'a Counts, io: &mut Initiator<Counting<'a>>)
+    ensures grant { io.new.granted ≡ io.old.granted }
+    ensures kept { io.new.kept ≡ io.old.kept }
+{
+    io.expires_after(timer, Duration::from_millis(SOON));
+    initiated(io.wait(timer, Lane::Own, Counting { task, counts }));
+}
+
 /// Posts so many that do nothing.
 fn post_so_many<'a>(many: u32, counts: &'a Counts, io: &mut Initiator<Counting<'a>>)
-    ensures { io.new.granted ≡ io.old.granted }
+    ensures grant { io.new.granted ≡ io.old.granted }
+    ensures kept { io.new.kept ≡ io.old.kept }
 {
     'posts: for _ in 0..many {
         let task = Task::Nothing;

@@ -3,22 +3,21 @@
 
 use crate::handlers::{Counting, Counts, Task};
 use crate::running::{Case, Part, Scenario, limits, play_new, post};
-use io_context::{Context, Lane, Named, Refusal, WorkGuard};
+use io_context::{Context, Lane, Named, Reactor, Refusal, WorkGuard};
 use std::alloc::Global;
 use std::process::Abort;
 use std::sync::atomic::Ordering;
 use std::sync::{Mutex, Wait};
 use std::thread;
 use std::thread::Threads;
-use std::time::Clock;
 
 /// How many handlers each outside thread posts.
 const EACH: u64 = 1_000;
 
 /// Posts handlers to these lanes by turns, from this one on.
-fn post_all<'a, R: Wait, C: Named>(
+fn post_all<'a, R: Wait, C: Named, W: Reactor>(
     rt: &R,
-    context: &Context<Counting<'a>, C>,
+    context: &Context<Counting<'a>, C, W>,
     lanes: &[Lane; 5],
     first: usize,
     counts: &'a Counts,
@@ -37,9 +36,9 @@ fn post_all<'a, R: Wait, C: Named>(
 }
 
 /// Gives a work guard back, if there is one.
-fn release<'a, R: Wait, C: Named>(
+fn release<'a, R: Wait, C: Named, W: Reactor>(
     rt: &R,
-    context: &Context<Counting<'a>, C>,
+    context: &Context<Counting<'a>, C, W>,
     guard: Option<WorkGuard<C>>,
 ) {
     match guard {
@@ -53,9 +52,13 @@ fn release<'a, R: Wait, C: Named>(
 /// Sixteen threads post to four strands and to none while four run; a guard keeps those in `run` till then.
 pub(crate) fn initiate_and_run<
     'a,
-    R: Abort + Threads + Wait + Clock + Sync,
+    R: Abort + Threads + Wait + Sync,
     C: Named + Send + Sync,
->(rt: &R, alloc: Global, case: Case<'a, C>) {
+    W: Reactor + Sync,
+>(rt: &R, alloc: Global, case: Case<'a, C, W>)
+where
+    W::Poll: Send,
+{
     let lanes = [
         case.new_strand(rt),
         case.new_strand(rt),
@@ -103,11 +106,15 @@ fn each_handler_that_is_accepted_is_executed_once(rt: HostRuntime) {
 }
 
 /// Stopped by its third handler, restarted, stopped from outside and finished with handlers left.
-pub(crate) fn stop_and_finish<'a, R: Abort + Threads + Wait + Clock + Sync, C: Named + Send + Sync>(
-    rt: &R,
-    alloc: Global,
-    case: Case<'a, C>,
-) {
+pub(crate) fn stop_and_finish<
+    'a,
+    R: Abort + Threads + Wait + Sync,
+    C: Named + Send + Sync,
+    W: Reactor + Sync,
+>(rt: &R, alloc: Global, case: Case<'a, C, W>)
+where
+    W::Poll: Send,
+{
     let mut case = case;
     let executed = &case.counts.executed;
     let lane = case.new_strand(rt);

@@ -1,19 +1,21 @@
 use crate::handlers::{Counts, Task};
 use crate::running::{Case, Scenario, limits, play_new};
-use io_context::Named;
+use io_context::{Named, Reactor};
 use std::alloc::Global;
 use std::process::Abort;
 use std::sync::Wait;
 use std::sync::atomic::Ordering;
 use std::thread::Threads;
-use std::time::Clock;
 
 /// A handler on each of two strands, which waits for the other one.
-pub(crate) fn meet<'a, R: Abort + Threads + Wait + Clock + Sync, C: Named + Send + Sync>(
+pub(crate) fn meet<'a, R: Abort + Threads + Wait + Sync, C: Named + Send + Sync, W: Reactor + Sync>(
     rt: &R,
     alloc: Global,
-    case: Case<'a, C>,
-) {
+    case: Case<'a, C, W>,
+)
+where
+    W::Poll: Send,
+{
     let mut case = case;
     for _ in 0..2u32 {
         let lane = case.new_strand(rt);

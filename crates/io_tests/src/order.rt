@@ -1,19 +1,22 @@
 use crate::handlers::{Counts, Task};
 use crate::running::{Case, Scenario, limits, play_new};
-use io_context::Named;
+use io_context::{Named, Reactor};
 use std::alloc::Global;
 use std::process::Abort;
 use std::sync::Wait;
 use std::sync::atomic::Ordering;
 use std::thread::Threads;
-use std::time::Clock;
 
 /// A handler of a strand posts 2, dispatches 3 and is 1; 4 is ready behind it.
-pub(crate) fn dispatch<'a, R: Abort + Threads + Wait + Clock + Sync, C: Named + Send + Sync>(
-    rt: &R,
-    alloc: Global,
-    case: Case<'a, C>,
-) {
+pub(crate) fn dispatch<
+    'a,
+    R: Abort + Threads + Wait + Sync,
+    C: Named + Send + Sync,
+    W: Reactor + Sync,
+>(rt: &R, alloc: Global, case: Case<'a, C, W>)
+where
+    W::Poll: Send,
+{
     let mut case = case;
     let lane = case.new_strand(rt);
     case.post(rt, lane, Task::Dispatch(lane));

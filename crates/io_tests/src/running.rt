@@ -8,9 +8,10 @@ use crate::handlers::{Counting, Counts, Task, count};
 use crate::many::{initiate_and_run, stop_and_finish};
 use crate::meeting::meet;
 use crate::order::dispatch;
-use crate::timing::{cancel, expire, wait_earlier, watch};
+use crate::timing::{cancel, expire, make_own, wait_earlier, watch};
 use io_context::{
-    Context, Handler, Lane, Limits, Named, NewContext, Refusal, Refused, run_on_threads,
+    ClockReactor, Context, Handler, Lane, Limits, Named, NewContext, Reactor, Refusal, Refused,
+    run_on_threads,
 };
 use std::alloc::Global;
 use std::marker::Brand;
@@ -45,6 +46,8 @@ pub(crate) enum Scenario {
     Earlier,
     /// A handler executes until the next wait is due.
     Watch,
+    /// A handler makes a timer, which others set again and destroy.
+    Own,
 }
 
 /// Room for so many operations and strands, and two timers.
@@ -69,15 +72,16 @@ pub(crate) struct Part<C: Named> {
 
 impl<C: Named> Part<C> {
     /// Runs a context on so many threads.
-    pub(crate) fn run<'a, R: Abort + Threads + Wait + Clock + Sync>(
+    pub(crate) fn run<'a, R: Abort + Threads + Wait + Sync, W: Reactor + Sync>(
         &mut self,
         rt: &R,
         alloc: Global,
-        context: &Context<Counting<'a>, C>,
+        context: &Context<Counting<'a>, C, W>,
         threads: usize,
     )
     where
         C: Send + Sync,
+        W::Poll: Send,
         requires { threads ≤ 64 }
     {
         run_on_threads(rt, alloc, context, threads, &mut self.share).expect(rt, MEMORY);
@@ -85,13 +89,13 @@ impl<C: Named> Part<C> {
 }
 
 /// A context of counting handlers, and the share of its workers.
-pub(crate) struct Case<'a, C: Named> {
-    pub(crate) context: Context<Counting<'a>, C>,
+pub(crate) struct Case<'a, C: Named, W: Reactor> {
+    pub(crate) context: Context<Counting<'a>, C, W>,
     pub(crate) part: Part<C>,
     pub(crate) counts: &'a Counts,
 }
 
-impl<'a, C: Named> Case<'a, C> {
+impl<'a, C: Named, W: Reactor> Case<'a, C, W> {
     /// The lane of a new strand, or none where no strand is free.
     pub(crate) fn new_strand<R: Wait>(&self, rt: &R) -> Lane {
         match self.context.make_strand(rt, self.counts) {
@@ -115,7 +119,7 @@ impl<'a, C: Named> Case<'a, C> {
     }
 
     /// Runs the context on so many threads.
-    pub(crate) fn run<R: Abort + Threads + Wait + Clock + Sync>(
+    pub(crate) fn run<R: Abort + Threads + Wait + Sync>(
         &mut self,
         rt: &R,
         alloc: Global,
@@ -123,6 +127,8 @@ impl<'a, C: Named> Case<'a, C> {
     )
     where
         C: Send + Sync,
+        W: Sync,
+        W::Poll: Send,
         requires { threads ≤ 64 }
     {
         self.part.run(rt, alloc, &self.context, threads);
@@ -141,9 +147,9 @@ impl<'a, C: Named> Case<'a, C> {
 }
 
 /// Posts a handler, and counts it where it is refused; answers why.
-pub(crate) fn post<'a, R: Wait, C: Named>(
+pub(crate) fn post<'a, R: Wait, C: Named, W: Reactor>(
     rt: &R,
-    context: &Context<Counting<'a>, C>,
+    context: &Context<Counting<'a>, C, W>,
     lane: Lane,
     task: Task,
     counts: &'a Counts,
@@ -165,7 +171,7 @@ pub(crate) fn post<'a, R: Wait, C: Named>(
 }
 
 /// Does it on the context of this name.
-fn play<'a, R: Abort + Threads + Wait + Clock + Sync, C: Named + Send + Sync>(
+fn play<'a, R: Abort + Threads + Wait + Clock + Sync + Copy, C: Named + Send + Sync>(
     rt: &R,
     alloc: Global,
     new: NewContext,
@@ -177,7 +183,9 @@ fn play<'a, R: Abort + Threads + Wait + Clock + Sync, C: Named + Send + Sync>(
     requires name { new.name ≡ C.name }
     requires parts { new.parts ≡ C.parts }
 {
-    let (context, share) = Context::<Counting<'a>, C>::make(rt, alloc, new).expect(rt, MEMORY);
+    let (reactor, poll) = ClockReactor::make(*rt);
+    let made = Context::<Counting<'a>, C, ClockReactor<R>>::make(alloc, new, reactor, poll);
+    let (context, share) = made.expect(rt, MEMORY);
     let part = Part { share };
     let case = Case {
         context,
@@ -195,11 +203,12 @@ fn play<'a, R: Abort + Threads + Wait + Clock + Sync, C: Named + Send + Sync>(
         Scenario::Cancel => cancel(rt, alloc, case),
         Scenario::Earlier => wait_earlier(rt, alloc, case),
         Scenario::Watch => watch(rt, alloc, case),
+        Scenario::Own => make_own(rt, alloc, case),
     }
 }
 
 /// Does it on a new context with such limits.
-pub(crate) fn play_new<R: Abort + Threads + Wait + Clock + Sync>(
+pub(crate) fn play_new<R: Abort + Threads + Wait + Clock + Sync + Copy>(
     rt: &R,
     alloc: Global,
     limits: Limits,

@@ -2,7 +2,7 @@
 
 use crate::handlers::{Counting, Counts, Task, await_count};
 use crate::running::{Case, Part, Scenario, limits, play_new};
-use io_context::{Context, Lane, Name, Named, Refused};
+use io_context::{Context, Lane, Name, Named, Reactor, Refused};
 use std::alloc::Global;
 use std::process::Abort;
 use std::sync::Wait;
@@ -15,9 +15,9 @@ use std::time::{Clock, Duration};
 const LONG: u64 = 3_600;
 
 /// A new timer, which expires so much later than now.
-fn timer_after<'a, R: Abort + Wait + Clock, C: Named>(
+fn timer_after<'a, R: Abort + Wait, C: Named, W: Reactor>(
     rt: &R,
-    context: &Context<Counting<'a>, C>,
+    context: &Context<Counting<'a>, C, W>,
     after: Duration,
 ) -> Name {
     let Ok((timer, _)) = context.make_timer(rt) else {
@@ -28,9 +28,9 @@ fn timer_after<'a, R: Abort + Wait + Clock, C: Named>(
 }
 
 /// Waits for a timer.
-fn wait<'a, R: Abort + Wait, C: Named>(
+fn wait<'a, R: Abort + Wait, C: Named, W: Reactor>(
     rt: &R,
-    context: &Context<Counting<'a>, C>,
+    context: &Context<Counting<'a>, C, W>,
     timer: Name,
     task: Task,
     counts: &'a Counts,
@@ -51,11 +51,15 @@ fn wait<'a, R: Abort + Wait, C: Named>(
 }
 
 /// Of three waits two are due first, on one timer.
-pub(crate) fn expire<'a, R: Abort + Threads + Wait + Clock + Sync, C: Named + Send + Sync>(
-    rt: &R,
-    alloc: Global,
-    case: Case<'a, C>,
-) {
+pub(crate) fn expire<
+    'a,
+    R: Abort + Threads + Wait + Sync,
+    C: Named + Send + Sync,
+    W: Reactor + Sync,
+>(rt: &R, alloc: Global, case: Case<'a, C, W>)
+where
+    W::Poll: Send,
+{
     let mut case = case;
     let later = timer_after(rt, &case.context, Duration::from_millis(40));
     let first = timer_after(rt, &case.context, Duration::from_millis(20));
@@ -68,11 +72,15 @@ pub(crate) fn expire<'a, R: Abort + Threads + Wait + Clock + Sync, C: Named + Se
 
 /// Of two waits one is cancelled, the other by a new expiry, which a third waits for; a handler cancels one on
 /// another timer, and one is left.
-pub(crate) fn cancel<'a, R: Abort + Threads + Wait + Clock + Sync, C: Named + Send + Sync>(
-    rt: &R,
-    alloc: Global,
-    case: Case<'a, C>,
-) {
+pub(crate) fn cancel<
+    'a,
+    R: Abort + Threads + Wait + Sync,
+    C: Named + Send + Sync,
+    W: Reactor + Sync,
+>(rt: &R, alloc: Global, case: Case<'a, C, W>)
+where
+    W::Poll: Send,
+{
     let mut case = case;
     let timer = timer_after(rt, &case.context, Duration::from_secs(LONG));
     wait(rt, &case.context, timer, Task::Waited(1), case.counts);
@@ -91,11 +99,15 @@ pub(crate) fn cancel<'a, R: Abort + Threads + Wait + Clock + Sync, C: Named + Se
 }
 
 /// While workers sleep for a long time, a wait is initiated that is due soon.
-pub(crate) fn wait_earlier<'a, R: Abort + Threads + Wait + Clock + Sync, C: Named + Send + Sync>(
-    rt: &R,
-    alloc: Global,
-    case: Case<'a, C>,
-) {
+pub(crate) fn wait_earlier<
+    'a,
+    R: Abort + Threads + Wait + Clock + Sync,
+    C: Named + Send + Sync,
+    W: Reactor + Sync,
+>(rt: &R, alloc: Global, case: Case<'a, C, W>)
+where
+    W::Poll: Send,
+{
     let Case {
         context,
         mut part,
@@ -120,17 +132,37 @@ pub(crate) fn wait_earlier<'a, R: Abort + Threads + Wait + Clock + Sync, C: Name
 }
 
 /// A handler whose wait was due waits for that of the next one.
-pub(crate) fn watch<'a, R: Abort + Threads + Wait + Clock + Sync, C: Named + Send + Sync>(
-    rt: &R,
-    alloc: Global,
-    case: Case<'a, C>,
-) {
+pub(crate) fn watch<
+    'a,
+    R: Abort + Threads + Wait + Sync,
+    C: Named + Send + Sync,
+    W: Reactor + Sync,
+>(rt: &R, alloc: Global, case: Case<'a, C, W>)
+where
+    W::Poll: Send,
+{
     let mut case = case;
     let first = timer_after(rt, &case.context, Duration::from_millis(10));
     let next = timer_after(rt, &case.context, Duration::from_millis(30));
     wait(rt, &case.context, first, Task::Meet(2), case.counts);
     wait(rt, &case.context, next, Task::Nothing, case.counts);
     case.run(rt, alloc, 2);
+    case.finish(rt);
+}
+
+/// A handler makes a timer.
+pub(crate) fn make_own<
+    'a,
+    R: Abort + Threads + Wait + Sync,
+    C: Named + Send + Sync,
+    W: Reactor + Sync,
+>(rt: &R, alloc: Global, case: Case<'a, C, W>)
+where
+    W::Poll: Send,
+{
+    let mut case = case;
+    case.post(rt, Lane::Own, Task::MakeTimer);
+    case.run(rt, alloc, 1);
     case.finish(rt);
 }
 
@@ -161,4 +193,12 @@ fn the_clock_is_watched_while_a_handler_executes(rt: HostRuntime) {
     let counts = Counts::new();
     play_new(&rt, rt.alloc(), limits(4, 0), &counts, Scenario::Watch);
     assert_eq!(&rt; counts.executed.load(Ordering::SeqCst), 2);
+}
+
+#[test]
+fn handlers_make_timers_set_them_again_and_destroy_them(rt: HostRuntime) {
+    let counts = Counts::new();
+    play_new(&rt, rt.alloc(), limits(2, 0), &counts, Scenario::Own);
+    // A wait for a timer that is gone completes with another code, and leaves 3 + 5.
+    assert_eq!(&rt; counts.order.load(Ordering::SeqCst), 128);
 }

@@ -11,7 +11,7 @@ mod counting;
 use asio_types::{NoMemory, StdSource};
 use count::Count;
 use counting::{Counting, Piece, STRANDS, Tally};
-use io_context::{Context, Lane, Limits, Named, NewContext, run_on_threads};
+use io_context::{ClockReactor, Context, Lane, Limits, Named, NewContext, Reactor, run_on_threads};
 use std::alloc::Global;
 use std::marker::Brand;
 use std::process::ExitCode;
@@ -39,9 +39,9 @@ const LIMITS: Limits = Limits {
 };
 
 /// Makes a strand whose count comes out at the end, and posts its first piece.
-fn start<'a, R: Wait, C: Named>(
+fn start<'a, R: Wait, C: Named, W: Reactor>(
     rt: &R,
-    context: &Context<Counting<'a>, C>,
+    context: &Context<Counting<'a>, C, W>,
     piece: Piece<'a>,
     total: &'a OnceLock<Count>,
 ) -> bool {
@@ -54,9 +54,9 @@ fn start<'a, R: Wait, C: Named>(
 }
 
 /// Makes the strands, and posts the first piece of each; answers whether all are there.
-fn start_all<'a, R: Wait, C: Named>(
+fn start_all<'a, R: Wait, C: Named, W: Reactor>(
     rt: &R,
-    context: &Context<Counting<'a>, C>,
+    context: &Context<Counting<'a>, C, W>,
     text: &'a [u8],
     results: &'a [OnceLock<Count>; STRANDS],
 ) -> bool {
@@ -69,7 +69,7 @@ fn start_all<'a, R: Wait, C: Named>(
 }
 
 /// Counts by threads; each strand's count comes out when its context is finished.
-fn count_all<'a, R: Threads + Wait + Clock + Sync, C: Named + Send + Sync>(
+fn count_all<'a, R: Threads + Wait + Clock + Sync + Copy, C: Named + Send + Sync>(
     rt: &R,
     alloc: Global,
     new: NewContext,
@@ -81,7 +81,10 @@ fn count_all<'a, R: Threads + Wait + Clock + Sync, C: Named + Send + Sync>(
     requires name { new.name ≡ C.name }
     requires parts { new.parts ≡ C.parts }
 {
-    let (context, mut share) = Context::<Counting<'a>, C>::make(rt, alloc, new)?;
+    let (reactor, poll) = ClockReactor::make(*rt);
+    let (context, mut share) = Context::<Counting<'a>, C, ClockReactor<R>>::make(
+        alloc, new, reactor, poll,
+    )?;
     let started = start_all(rt, &context, text, counts);
     let ran = run_on_threads(rt, alloc, &context, THREADS, &mut share);
     let _history = context.finish(rt, share);
@@ -89,7 +92,7 @@ fn count_all<'a, R: Threads + Wait + Clock + Sync, C: Named + Send + Sync>(
 }
 
 /// The whole program: the count of standard input.
-fn run<R: AllocGlobal + Input + Threads + Wait + Clock + Sync>(
+fn run<R: AllocGlobal + Input + Threads + Wait + Clock + Sync + Copy>(
     rt: &R,
     text: &[u8],
 ) -> Result<Count, NoMemory> {

@@ -62,7 +62,7 @@ returns-clause-past g c =
 pub returns-clause-shows : goal.returns-clause-shows
 returns-clause-shows g c =
     rw (
-      c.tie.ensures (record { number = c.args.counts.now.next; code = code.Ok; size = 0; handler = c.args.handler }),
+      c.tie.ensures (record { number = c.args.counts.now.next; code = code.Ok; size = 0; buffer = None; made = None; handler = c.args.handler }),
       c.note_waiting-section.ensures.past,
       c.learn.ensures.same,
     )

@@ -59,4 +59,4 @@ returns-clause-goes_on g c =
     (c.give_out-claim.ensures.held
     ∙ rw (c.take_back.ensures.past, c.take_back.ensures.held) at c.note_change_by.ensures.held) in
     rw (← c.running.view_is)
-    (record { op = refl; lane = refl; places = omega arith; mark = held.mark })
+    (record { op = refl; lane = refl; places = omega arith; spares = refl; mark = held.mark })

@@ -4,5 +4,6 @@ use Rattle.io_handlers.proofs.staging.Staging.change.Goals as goal
 
 pub invariant_of-self : goal.invariant_of-self
 invariant_of-self g c =
-    rw (c.push_back_reserved.ensures.items, c.push_back_reserved.ensures.capacity)
-    (has_room-changed _ _ c.args.change c.self.invariant (omega arith) c.requires)
+    rw (c.push_back_reserved.ensures.items, c.push_back_reserved.ensures.capacity, c.left_by-self-inside.ensures)
+    (has_room-changed _ _ c.args.change c.self.invariant (omega arith) c.requires.offered
+    (rw (← c.self.view_is) at c.requires.made))

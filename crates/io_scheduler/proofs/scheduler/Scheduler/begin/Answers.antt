@@ -5,7 +5,8 @@ use Rattle.io_names.specs.Tables.{names_of}
 use Rattle.io_scheduler.specs.Counted.{grant_in, left_of}
 use Rattle.io_scheduler.proofs.TakenLemmas.{held_begun, held_some, may_begin_taken, none_begins, shows_begun, taken_ready, was_ready}
 use Rattle.io_scheduler.proofs.TallyLemmas.{tally_begins, tally_more}
-use Rattle.io_scheduler.proofs.StayedLemmas.{stays_begun, waits_stay}
+use Rattle.io_scheduler.proofs.StayedLemmas.{length_life, stays_begun, waits_stay}
+use Rattle.io_scheduler.proofs.StreamedLemmas.{streams_stay}
 use Rattle.io_scheduler.proofs.scheduler.Scheduler.begin.Goals as goal
 
 pub note_begun-requires-clause-may : goal.note_begun-requires-clause-may
@@ -76,6 +77,10 @@ invariant_of-self-in-Some g c =
           (waits_stay g.H.Handler.marks g.C.Named.limits c.self.inside.timers (state_of g.C.Named.limits c.self.inside.keeper.past) _ c.self.invariant.3
           (stays_begun (state_of g.C.Named.limits c.self.inside.keeper.past) c.in-Some.field-0.op.number c.keep_all-spares.result
           c.note_begun.ensures.may)),
+      rw (c.give_out-claim.ensures.past, c.note_begun.ensures.past)
+          (streams_stay g.H.Handler.marks g.C.Named.limits c.self.inside.streams (state_of g.C.Named.limits c.self.inside.keeper.past) _ c.self.invariant.4
+          (stays_begun (state_of g.C.Named.limits c.self.inside.keeper.past) c.in-Some.field-0.op.number c.keep_all-spares.result
+          c.note_begun.ensures.may) (length_life _ c.keep_all-spares.result.stream (state_of g.C.Named.limits c.self.inside.keeper.past).names.streams)),
     )
 
 pub returns-in-None-clause-none : goal.returns-in-None-clause-none

@@ -6,6 +6,7 @@ use Rattle.io_names.specs.Tables.{names_of}
 use Rattle.io_scheduler.specs.Aborting.{numbers_on, those_of}
 use Rattle.io_scheduler.specs.Timing.{cancels_all, names_behind, timers_behind}
 use Rattle.io_scheduler.proofs.ComeLemmas.{notes_all}
+use Rattle.io_scheduler.proofs.StreamedLemmas.{still_changed, streams_still}
 use Rattle.io_scheduler.proofs.TimingLemmas.{change_cancelling, change_come, change_names, change_only, change_timers, change_used, change_within, over_shown, over_tallied, over_waits}
 use Rattle.io_scheduler.proofs.scheduler.Scheduler.change_alive.Goals as goal
 
@@ -77,6 +78,9 @@ invariant_of-self g c =
       rw c.tell-after.ensures.same (over_tallied _ _ _ _ _ _ _ _ c.args.timer c.args.change _ over names timers),
       rw (c.apply.ensures.timers, c.tell-after.ensures.same)
           (over_waits _ _ _ _ _ _ _ _ c.args.timer c.args.change _ over names timers),
+      rw c.tell-after.ensures.same (streams_still g.H.Handler.marks g.C.Named.limits c.self.inside.streams (state_of g.C.Named.limits c.self.inside.keeper.past) _ c.self.invariant.4
+          (still_changed g.H.Handler.marks g.C.Named.limits c.self.inside.timers c.self.inside.keeper.past
+          c.self.invariant.1.settled c.self.invariant.3 None c.args.timer c.args.change _ come)),
     )
 
 pub returns : goal.returns

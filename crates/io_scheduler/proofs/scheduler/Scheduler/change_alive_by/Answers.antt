@@ -3,6 +3,7 @@ use Rattle.std.specs.Prelude.{Some}
 use Rattle.io_rules.specs.Legal.{state_of}
 use Rattle.io_names.specs.Tables.{names_of}
 use Rattle.io_scheduler.specs.Timing.{names_behind, timers_behind}
+use Rattle.io_scheduler.proofs.StreamedLemmas.{still_changed, streams_still}
 use Rattle.io_scheduler.proofs.TimingLemmas.{change_cancelling, change_come, change_names, change_only, change_timers, change_used, change_within, is_changed, over_shown, over_tallied, over_waits}
 use Rattle.io_scheduler.proofs.scheduler.Scheduler.change_alive_by.Goals as goal
 
@@ -78,6 +79,9 @@ invariant_of-self g c =
       rw c.apply.ensures.names (over_shown _ _ _ _ _ _ _ _ c.args.timer c.args.change _ over names timers),
       over_tallied _ _ _ _ _ _ _ _ c.args.timer c.args.change _ over names timers,
       rw c.apply.ensures.timers (over_waits _ _ _ _ _ _ _ _ c.args.timer c.args.change _ over names timers),
+      streams_still g.H.Handler.marks g.C.Named.limits c.self.inside.streams (state_of g.C.Named.limits c.self.inside.keeper.past) _ c.self.invariant.4
+          (still_changed g.H.Handler.marks g.C.Named.limits c.self.inside.timers c.self.inside.keeper.past
+          c.self.invariant.1.settled c.self.invariant.3 (Some c.args.running.op) c.args.timer c.args.change _ come),
     )
 
 pub returns-clause-changed : goal.returns-clause-changed

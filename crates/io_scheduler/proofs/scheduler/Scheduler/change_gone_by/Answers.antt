@@ -1,7 +1,8 @@
 use Rattle.std.specs.Prelude.{Some}
 use Rattle.io_rules.specs.Legal.{state_of}
 use Rattle.io_names.specs.Tables.{names_of}
-use Rattle.io_scheduler.proofs.TimingLemmas.{gone_come, gone_shown, gone_tallied, gone_waits, is_changed}
+use Rattle.io_scheduler.proofs.StreamedLemmas.{streams_still}
+use Rattle.io_scheduler.proofs.TimingLemmas.{gone_come, gone_shown, gone_tallied, gone_waits, still_gone, is_changed}
 use Rattle.io_scheduler.proofs.scheduler.Scheduler.change_gone_by.Goals as goal
 
 pub begin_change-requires : goal.begin_change-requires
@@ -26,6 +27,10 @@ invariant_of-self g c = (
       c.self.inside.strands.items c.self.inside.jobs c.self.inside.timers c.self.inside.tally
       (state_of g.C.Named.limits c.self.inside.keeper.past) (Some c.args.running.op) c.args.timer c.args.change
       (rw (← c.self.view_is) at c.requires.gone) c.self.invariant.3),
+  rw c.begin_change.ensures.come.is
+      (streams_still g.H.Handler.marks g.C.Named.limits c.self.inside.streams (state_of g.C.Named.limits c.self.inside.keeper.past) _ c.self.invariant.4
+      (still_gone (state_of g.C.Named.limits c.self.inside.keeper.past) (Some c.args.running.op) c.args.timer c.args.change
+      (rw (← c.self.view_is) at c.requires.gone))),
 )
 
 pub returns-clause-changed : goal.returns-clause-changed

@@ -7,7 +7,8 @@ use Rattle.io_scheduler.specs.Ended.{forgotten_state}
 use Rattle.io_scheduler.proofs.EndedLemmas.{held_op_is, may_forget, retired_is, room_ended, runs_there, shows_ended}
 use Rattle.io_scheduler.proofs.ForgottenLemmas.{last_is}
 use Rattle.io_scheduler.proofs.TallyLemmas.{tally_ends}
-use Rattle.io_scheduler.proofs.StayedLemmas.{stays_ended, waits_stay}
+use Rattle.io_scheduler.proofs.StayedLemmas.{length_life, stays_ended, waits_stay}
+use Rattle.io_scheduler.proofs.StreamedLemmas.{streams_stay}
 use Rattle.io_scheduler.proofs.scheduler.Scheduler.end_now.Goals as goal
 
 pub overflow_cast-self : goal.overflow_cast-self
@@ -85,6 +86,10 @@ invariant_of-self g c =
           (waits_stay g.H.Handler.marks g.C.Named.limits c.self.inside.timers (state_of g.C.Named.limits c.self.inside.keeper.past) _ c.self.invariant.3
           (stays_ended (state_of g.C.Named.limits c.self.inside.keeper.past) c.running.inside.op c.args.mark
           (rw (c.learn.ensures.same, c.take_back.ensures.past) at c.note_ended.ensures.may))),
+      rw (c.note_ended.ensures.past, c.learn.ensures.same, c.take_back.ensures.past)
+          (streams_stay g.H.Handler.marks g.C.Named.limits c.self.inside.streams (state_of g.C.Named.limits c.self.inside.keeper.past) _ c.self.invariant.4
+          (stays_ended (state_of g.C.Named.limits c.self.inside.keeper.past) c.running.inside.op c.args.mark
+          (rw (c.learn.ensures.same, c.take_back.ensures.past) at c.note_ended.ensures.may)) (length_life _ _ (state_of g.C.Named.limits c.self.inside.keeper.past).names.streams)),
     )
 
 pub returns-clause-retired : goal.returns-clause-retired

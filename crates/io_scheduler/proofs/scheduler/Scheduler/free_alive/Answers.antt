@@ -10,6 +10,7 @@ use Rattle.io_scheduler.proofs.FreedLemmas.{may_free, shows_freed, state_freed}
 use Rattle.io_scheduler.proofs.SectionLemmas.{notes_one}
 use Rattle.io_scheduler.proofs.TallyLemmas.{tally_changes}
 use Rattle.io_scheduler.proofs.StayedLemmas.{stays_quiet, waits_stay}
+use Rattle.io_scheduler.proofs.StreamedLemmas.{streams_stay}
 use Rattle.io_scheduler.proofs.scheduler.Scheduler.free_alive.Goals as goal
 
 pub note_named-section-requires : goal.note_named-section-requires
@@ -39,7 +40,10 @@ invariant_of-self g c = (
       (control.Free kind.Strand c.args.name) c.self.invariant.2 refl),
   rw (c.note_named-section.ensures.past, c.learn.ensures.same)
       (waits_stay g.H.Handler.marks g.C.Named.limits c.self.inside.timers (state_of g.C.Named.limits c.self.inside.keeper.past) _ c.self.invariant.3
-      (stays_quiet (state_of g.C.Named.limits c.self.inside.keeper.past) _ refl refl refl refl)),
+      (stays_quiet (state_of g.C.Named.limits c.self.inside.keeper.past) _ refl refl refl refl refl)),
+  rw (c.note_named-section.ensures.past, c.learn.ensures.same)
+      (streams_stay g.H.Handler.marks g.C.Named.limits c.self.inside.streams (state_of g.C.Named.limits c.self.inside.keeper.past) _ c.self.invariant.4
+      (stays_quiet (state_of g.C.Named.limits c.self.inside.keeper.past) _ refl refl refl refl refl) refl),
 )
 
 pub returns-clause-freed : goal.returns-clause-freed

@@ -9,6 +9,7 @@ use Rattle.io_scheduler.proofs.MadeLemmas.{free_shown, may_open, shows_made}
 use Rattle.io_scheduler.proofs.SectionLemmas.{notes_one}
 use Rattle.io_scheduler.proofs.TallyLemmas.{tally_changes}
 use Rattle.io_scheduler.proofs.StayedLemmas.{stays_quiet, waits_stay}
+use Rattle.io_scheduler.proofs.StreamedLemmas.{streams_stay}
 use Rattle.io_scheduler.proofs.scheduler.Scheduler.make_strand.Goals as goal
 
 pub note_named-section-requires : goal.note_named-section-requires
@@ -47,7 +48,10 @@ invariant_of-self-in-Some g c = (
       (control.Make kind.Strand c.in-Some.name) c.self.invariant.2 refl),
   rw (c.note_named-section.ensures.past, c.learn.ensures.same)
       (waits_stay g.H.Handler.marks g.C.Named.limits c.self.inside.timers (state_of g.C.Named.limits c.self.inside.keeper.past) _ c.self.invariant.3
-      (stays_quiet (state_of g.C.Named.limits c.self.inside.keeper.past) _ refl refl refl refl)),
+      (stays_quiet (state_of g.C.Named.limits c.self.inside.keeper.past) _ refl refl refl refl refl)),
+  rw (c.note_named-section.ensures.past, c.learn.ensures.same)
+      (streams_stay g.H.Handler.marks g.C.Named.limits c.self.inside.streams (state_of g.C.Named.limits c.self.inside.keeper.past) _ c.self.invariant.4
+      (stays_quiet (state_of g.C.Named.limits c.self.inside.keeper.past) _ refl refl refl refl refl) refl),
 )
 
 pub returns-in-Some-clause-made : goal.returns-in-Some-clause-made

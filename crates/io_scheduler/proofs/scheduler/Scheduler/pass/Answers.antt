@@ -1,6 +1,7 @@
 use Rattle.std.proofs.Common.{ap, subst}
 use Rattle.io_rules.specs.Legal.{state_of}
 use Rattle.io_scheduler.proofs.ComeLemmas.{have_passed}
+use Rattle.io_scheduler.proofs.StreamedLemmas.{still_passed, streams_still}
 use Rattle.io_scheduler.proofs.scheduler.Scheduler.pass.Goals as goal
 
 pub pass_to-requires : goal.pass_to-requires
@@ -13,8 +14,15 @@ pass_to-requires g c = record {
 }
 
 pub invariant_of-self : goal.invariant_of-self
-invariant_of-self g c =
-    (c.pass_to.ensures.none, c.pass_to.ensures.shows, c.pass_to.ensures.tally, c.pass_to.ensures.waits)
+invariant_of-self g c = (
+  c.pass_to.ensures.none,
+  c.pass_to.ensures.shows,
+  c.pass_to.ensures.tally,
+  c.pass_to.ensures.waits,
+  streams_still g.H.Handler.marks g.C.Named.limits c.self.inside.streams (state_of g.C.Named.limits c.self.inside.keeper.past) _ c.self.invariant.4
+      (still_passed g.H.Handler.marks g.C.Named.limits c.self.inside.timers c.self.inside.keeper.past
+      c.self.invariant.1.settled c.self.invariant.3 _ _ c.pass_to.ensures.passed),
+)
 
 pub returns : goal.returns
 returns g c =

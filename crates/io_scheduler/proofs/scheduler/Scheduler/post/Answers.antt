@@ -10,6 +10,7 @@ use Rattle.io_scheduler.proofs.SpaceLemmas.{posted_space}
 use Rattle.io_scheduler.proofs.SectionLemmas.{notes_one}
 use Rattle.io_scheduler.proofs.TallyLemmas.{tally_posts, tally_room}
 use Rattle.io_scheduler.proofs.StayedLemmas.{stays_posted, waits_stay}
+use Rattle.io_scheduler.proofs.StreamedLemmas.{streams_stay}
 use Rattle.io_scheduler.proofs.scheduler.Scheduler.post.Goals as goal
 
 pub note_posted-section-requires : goal.note_posted-section-requires
@@ -55,6 +56,10 @@ invariant_of-self g c =
           (waits_stay g.H.Handler.marks g.C.Named.limits c.self.inside.timers (state_of g.C.Named.limits c.self.inside.keeper.past) _ c.self.invariant.3
           (stays_posted (state_of g.C.Named.limits c.self.inside.keeper.past) c.self.inside.counts.next c.args.lane c.args.kind
           (g.H.Handler.marks c.args.handler) c.requires.posting)),
+      rw (c.note_posted-section.ensures.past, c.learn.ensures.same)
+          (streams_stay g.H.Handler.marks g.C.Named.limits c.self.inside.streams (state_of g.C.Named.limits c.self.inside.keeper.past) _ c.self.invariant.4
+          (stays_posted (state_of g.C.Named.limits c.self.inside.keeper.past) c.self.inside.counts.next c.args.lane c.args.kind
+          (g.H.Handler.marks c.args.handler) c.requires.posting) refl),
     )
 
 pub returns-clause-initiated : goal.returns-clause-initiated

@@ -1,12 +1,13 @@
-use Rattle.std.proofs.Common.{arith, ap, refl, sym}
+use Rattle.std.proofs.Common.{ap, refl, sym, ◌∙◌}
 use Rattle.std.specs.Prelude.{false}
 use Rattle.io_rules.specs.declared.event.Event.TheVariants as event
 use Rattle.io_rules.specs.Legal.{state_of}
 use Rattle.io_names.specs.Tables.{names_of}
 use Rattle.io_scheduler.proofs.CountedLemmas.{shows_restarted}
 use Rattle.io_scheduler.proofs.SectionLemmas.{notes_one}
-use Rattle.io_scheduler.proofs.TallyLemmas.{at_rest, tally_rests, tally_runs, tally_stays}
+use Rattle.io_scheduler.proofs.TallyLemmas.{at_rest, rest_shown, tally_stays}
 use Rattle.io_scheduler.proofs.StayedLemmas.{stays_stopped, waits_stay}
+use Rattle.io_scheduler.proofs.StreamedLemmas.{streams_stay}
 use Rattle.io_scheduler.proofs.scheduler.Scheduler.restart.Goals as goal
 
 pub note_section-section-requires : goal.note_section-section-requires
@@ -14,7 +15,7 @@ note_section-section-requires g c = record {
   table = c.requires;
   outside = record { nobody = refl; no_begin = λ begins. begins };
   may = at_rest c.self.inside.tally (state_of g.C.Named.limits c.self.inside.keeper.past) c.self.invariant.2
-      c.self.invariant.1.going (omega arith);
+      c.self.invariant.1.going (sym c.rests.ensures ∙ c.if-not-rests.false);
   none = c.self.invariant.0;
 }
 
@@ -30,21 +31,22 @@ invariant_of-self g c = (
   rw c.note_section-section.ensures.past
       (waits_stay g.H.Handler.marks g.C.Named.limits c.self.inside.timers (state_of g.C.Named.limits c.self.inside.keeper.past) _ c.self.invariant.3
       (stays_stopped (state_of g.C.Named.limits c.self.inside.keeper.past) false)),
+  rw c.note_section-section.ensures.past
+      (streams_stay g.H.Handler.marks g.C.Named.limits c.self.inside.streams (state_of g.C.Named.limits c.self.inside.keeper.past) _ c.self.invariant.4
+      (stays_stopped (state_of g.C.Named.limits c.self.inside.keeper.past) false) refl),
 )
 
-pub returns-then-self-gt0-clause-idle : goal.returns-then-self-gt0-clause-idle
-returns-then-self-gt0-clause-idle g c =
+pub returns-then-not-rests-clause-rest : goal.returns-then-not-rests-clause-rest
+returns-then-not-rests-clause-rest g c =
     rw (← c.self.view_is)
-    (sym
-    (tally_runs c.self.inside.tally (state_of g.C.Named.limits c.self.inside.keeper.past) c.self.invariant.2
-    c.if-self-gt0.true))
+    (sym c.if-not-rests.true ∙ c.rests.ensures
+    ∙ rest_shown c.self.inside.tally (state_of g.C.Named.limits c.self.inside.keeper.past) c.self.invariant.2)
 
-pub returns-clause-idle : goal.returns-clause-idle
-returns-clause-idle g c =
+pub returns-clause-rest : goal.returns-clause-rest
+returns-clause-rest g c =
     rw (← c.self.view_is)
-    (sym
-    (tally_rests c.self.inside.tally (state_of g.C.Named.limits c.self.inside.keeper.past) c.self.invariant.2
-    (omega arith)))
+    (sym c.if-not-rests.false ∙ c.rests.ensures
+    ∙ rest_shown c.self.inside.tally (state_of g.C.Named.limits c.self.inside.keeper.past) c.self.invariant.2)
 
 pub returns-clause-step : goal.returns-clause-step
 returns-clause-step g c =

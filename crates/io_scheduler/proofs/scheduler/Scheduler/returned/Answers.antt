@@ -5,6 +5,7 @@ use Rattle.io_names.specs.Tables.{names_of}
 use Rattle.io_scheduler.proofs.CountedLemmas.{shows_returned}
 use Rattle.io_scheduler.proofs.TallyLemmas.{tally_stays}
 use Rattle.io_scheduler.proofs.StayedLemmas.{stays_stopped, waits_stay}
+use Rattle.io_scheduler.proofs.StreamedLemmas.{streams_stay}
 use Rattle.io_scheduler.proofs.scheduler.Scheduler.returned.Goals as goal
 
 pub note_outside-requires : goal.note_outside-requires
@@ -27,6 +28,9 @@ invariant_of-self g c = (
   rw c.note_outside.ensures.past
       (waits_stay g.H.Handler.marks g.C.Named.limits c.self.inside.timers (state_of g.C.Named.limits c.self.inside.keeper.past) _ c.self.invariant.3
       (stays_stopped (state_of g.C.Named.limits c.self.inside.keeper.past) true)),
+  rw c.note_outside.ensures.past
+      (streams_stay g.H.Handler.marks g.C.Named.limits c.self.inside.streams (state_of g.C.Named.limits c.self.inside.keeper.past) _ c.self.invariant.4
+      (stays_stopped (state_of g.C.Named.limits c.self.inside.keeper.past) true) refl),
 )
 
 pub returns : goal.returns

@@ -8,6 +8,7 @@ use Rattle.io_scheduler.proofs.CountedLemmas.{shows_stopped}
 use Rattle.io_scheduler.proofs.SectionLemmas.{notes_one}
 use Rattle.io_scheduler.proofs.TallyLemmas.{tally_changes}
 use Rattle.io_scheduler.proofs.StayedLemmas.{stays_quiet, waits_stay}
+use Rattle.io_scheduler.proofs.StreamedLemmas.{streams_stay}
 use Rattle.io_scheduler.proofs.scheduler.Scheduler.stop.Goals as goal
 
 pub note_section-section-requires : goal.note_section-section-requires
@@ -30,7 +31,10 @@ invariant_of-self g c = (
       c.self.invariant.2 refl),
   rw c.note_section-section.ensures.past
       (waits_stay g.H.Handler.marks g.C.Named.limits c.self.inside.timers (state_of g.C.Named.limits c.self.inside.keeper.past) _ c.self.invariant.3
-      (stays_quiet (state_of g.C.Named.limits c.self.inside.keeper.past) _ refl refl refl refl)),
+      (stays_quiet (state_of g.C.Named.limits c.self.inside.keeper.past) _ refl refl refl refl refl)),
+  rw c.note_section-section.ensures.past
+      (streams_stay g.H.Handler.marks g.C.Named.limits c.self.inside.streams (state_of g.C.Named.limits c.self.inside.keeper.past) _ c.self.invariant.4
+      (stays_quiet (state_of g.C.Named.limits c.self.inside.keeper.past) _ refl refl refl refl refl) refl),
 )
 
 pub returns-clause-step : goal.returns-clause-step

@@ -6,6 +6,7 @@ use Rattle.io_names.specs.Tables.{names_of}
 use Rattle.io_scheduler.proofs.CountedLemmas.{shows_stopped}
 use Rattle.io_scheduler.proofs.TallyLemmas.{tally_changes}
 use Rattle.io_scheduler.proofs.StayedLemmas.{stays_quiet, waits_stay}
+use Rattle.io_scheduler.proofs.StreamedLemmas.{streams_stay}
 use Rattle.io_scheduler.proofs.scheduler.Scheduler.stop_by.Goals as goal
 
 pub invariant_of-self : goal.invariant_of-self
@@ -20,5 +21,8 @@ invariant_of-self g c = (
       control.Stop c.self.invariant.2 refl),
   rw (c.give_out-claim.ensures.past, c.note_stopped_by.ensures.past, c.take_back.ensures.past)
       (waits_stay g.H.Handler.marks g.C.Named.limits c.self.inside.timers (state_of g.C.Named.limits c.self.inside.keeper.past) _ c.self.invariant.3
-      (stays_quiet (state_of g.C.Named.limits c.self.inside.keeper.past) _ refl refl refl refl)),
+      (stays_quiet (state_of g.C.Named.limits c.self.inside.keeper.past) _ refl refl refl refl refl)),
+  rw (c.give_out-claim.ensures.past, c.note_stopped_by.ensures.past, c.take_back.ensures.past)
+      (streams_stay g.H.Handler.marks g.C.Named.limits c.self.inside.streams (state_of g.C.Named.limits c.self.inside.keeper.past) _ c.self.invariant.4
+      (stays_quiet (state_of g.C.Named.limits c.self.inside.keeper.past) _ refl refl refl refl refl) refl),
 )

@@ -5,6 +5,7 @@ use Rattle.io_rules.specs.declared.request.Gone.TheVariants as gone
 use Rattle.io_rules.specs.Legal.{state_of}
 use Rattle.io_scheduler.specs.Accepted.{waiting_on}
 use Rattle.io_scheduler.proofs.SectionLemmas.{notes_one}
+use Rattle.io_scheduler.proofs.StreamedLemmas.{still_waiting, streams_still}
 use Rattle.io_scheduler.proofs.TallyLemmas.{tally_waits}
 use Rattle.io_scheduler.proofs.scheduler.Scheduler.wait_alive.Goals as goal
 
@@ -22,9 +23,13 @@ invariant_of-self g c = (
   c.accept_wait.ensures.none,
   c.accept_wait.ensures.shows,
   rw c.accept_wait.ensures.past
-      (tally_waits c.self.inside.tally (state_of g.C.Named.limits c.self.inside.keeper.past) c.accept_wait.result.op
+      (tally_waits c.self.inside.tally (state_of g.C.Named.limits c.self.inside.keeper.past) c.accept_wait.result.op None
       c.args.lane c.args.timer (g.H.Handler.marks c.args.handler) c.self.invariant.2),
   c.accept_wait.ensures.waits,
+  rw c.accept_wait.ensures.past
+      (streams_still g.H.Handler.marks g.C.Named.limits c.self.inside.streams (state_of g.C.Named.limits c.self.inside.keeper.past) _ c.self.invariant.4
+      (still_waiting (state_of g.C.Named.limits c.self.inside.keeper.past) c.accept_wait.result.op None c.args.lane c.args.timer
+      (g.H.Handler.marks c.args.handler))),
 )
 
 pub returns-clause-initiated : goal.returns-clause-initiated
