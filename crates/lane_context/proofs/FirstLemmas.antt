@@ -1,6 +1,6 @@
 -- Lanes, workers and the opener before the first event are what they are at any time: their seats
 -- have made no step and know none.
-use Rattle.std.proofs.Common.{◌≡◌, ℕ, zero, suc, ◌+◌, ◌<◌, ◌≤◌, Bool, true, false, not, [], Option, Some, None, inr, length, replicate, refl, sym, ap, subst, ◌∙◌, arith}
+use Rattle.std.proofs.Common.{◌≡◌, ℕ, zero, suc, ◌+◌, ◌<◌, ◌≤◌, Bool, true, false, not, [], Option, Some, None, length, replicate, refl, sym, ap, subst, ◌∙◌, arith}
 use Rattle.std.specs.Prelude.{◌&&◌, IsTrue, is_some}
 use Rattle.std.specs.Option.{option_map}
 use Rattle.op_handlers.specs.Marks.{Marks}
@@ -97,7 +97,7 @@ module _ (clock : ClockId) (number most : ℕ) (pen : PenView) (new : IsNewPen c
         owns = subst (Owns pen.seat) (sym new_number) new.owns;
         log = record { parts = []; are = tt; steps = new_own; shown = new.log };
         known = rw (new_own, none) refl;
-        in_step = rw none (record { base_is = inr refl; closed = omega arith });
+        in_round = rw none (record { base_is = λ so. refl; closed = omega arith });
         few = omega arith;
         room = omega (arith, room, new.room);
         draws = rw new_own refl;

@@ -36,10 +36,8 @@ pub ends_on : {H X : Type 0} (t : Tries H X) (lanes : ℕ) (now : RunEnd) (a b c
     EndsFor t lanes now b c → EndsFor t lanes now a c
 ends_on t lanes end.Ended a b c on why =
     record { before = why.before; since = on_and_on a b why.before on why.since; settled = why.settled }
-ends_on t lanes end.Stopped a b c on (inl why) =
-    inl (record { before = why.before; since = on_and_on a b why.before on why.since; read = why.read })
-ends_on t lanes end.Stopped a b c on (inr why) =
-    inr (record { before = why.before; since = on_and_on a b why.before on why.since; last = why.last })
+ends_on t lanes end.Stopped a b c on why =
+    record { before = why.before; since = on_and_on a b why.before on why.since; read = why.read }
 ends_on t lanes end.Idle a b c on why =
     record {
       before = why.before;
@@ -59,11 +57,11 @@ nothing_ends t lanes old mid new None on each settled = settled
 nothing_ends t lanes old mid new (Some end.Ended) on each settled =
     record { before = mid; since = on; settled = settled }
 nothing_ends t lanes old mid new (Some end.Stopped) on each settled =
-    inl (record {
+    record {
       before = mid;
       since = on;
       read = record { found = settled.found; looked = settled.looked; is = settled.why };
-    })
+    }
 nothing_ends t lanes old mid new (Some end.Idle) on each settled =
     record { before = old; mid = mid; since = on_same old; each = each; settled = settled }
 nothing_ends t lanes old mid new (Some end.Fault) on each settled = absurd settled.why
@@ -72,7 +70,7 @@ nothing_ends t lanes old mid new (Some end.Fault) on each settled = absurd settl
 pub at_once : {H X : Type 0} (t : Tries H X) (lanes : ℕ) (now : RunEnd) (old new : WorkerState H X) →
     EndsAtOnce now old new → EndsFor t lanes now old new
 at_once t lanes end.Ended old new settled = record { before = old; since = on_same old; settled = settled }
-at_once t lanes end.Stopped old new read = inl (record { before = old; since = on_same old; read = read })
+at_once t lanes end.Stopped old new read = record { before = old; since = on_same old; read = read }
 at_once t lanes end.Idle old new why = absurd why
 at_once t lanes end.Fault old new why = absurd why
 

@@ -118,6 +118,7 @@ pub(crate) fn first_worker<N: LaneSession>(
         round,
         drew: false,
         stopped: false,
+        in_step: true,
         names: PhantomData,
     }
 }

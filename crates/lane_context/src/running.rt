@@ -57,7 +57,8 @@ impl<'a, X: Reactor, H: CompletionHandler, N: LaneSession> Context<'a, X, H, N> 
         Some(RunEnd::Idle)
     }
 
-    /// Looks at all lanes once; answers how the call ends, if it ends behind them.
+    /// Looks at all lanes once; answers how the call ends, if it ends behind them. Where a lane found other
+    /// stops, the next read tells.
     fn look_once(&self, worker: &mut Worker<'a, X, H, N>) -> Option<RunEnd>
         requires turns { IsSeated self.now worker.old }
         requires free { worker.old.kept ≡ None }
@@ -71,7 +72,6 @@ impl<'a, X: Reactor, H: CompletionHandler, N: LaneSession> Context<'a, X, H, N> 
         ensures on { GoesOn worker.old worker.new }
     {
         match self.look_round(worker, MOST_KEPT) {
-            One::Stopped => Some(RunEnd::Stopped),
             One::Fault => Some(RunEnd::Fault),
             One::Nothing => self.settle(worker),
             _ => None,
@@ -109,7 +109,8 @@ impl<'a, X: Reactor, H: CompletionHandler, N: LaneSession> Context<'a, X, H, N> 
     /// Executes handlers until no work is left, the context is stopped, the reactor failed, or, in a
     /// round in which time doesn't pass, nothing is ready (Asio reference, io_context::run, ::poll).
     /// Before each round of looks it reads whether work is left and whether the context is stopped; behind
-    /// a stop of its own it does nothing but that.
+    /// a stop of its own it does nothing but that. `Stopped` comes by such a read alone: of other stops than
+    /// those of the worker's round, or by a worker that was asked to stop or keeps the failed reactor.
     /// A lane's turn is kept while something is done there, for 16 executions or turns of the reactor at
     /// most. The first lane into which notes were put then is looked at next; at the others it hints, in
     /// the order of the puts, to whichever worker looks for one. A hint may take memory, and is dropped

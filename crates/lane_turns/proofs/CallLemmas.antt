@@ -1,9 +1,12 @@
 -- The calls of acts, each put together of what its steps are.
-use Rattle.std.proofs.Common.{◌≡◌, ℕ, true, false, [], ◌∷◌, subst}
+use Rattle.std.proofs.Common.{◌≡◌, ℕ, true, false, [], ◌∷◌, subst, sym}
 use Rattle.std.specs.Prelude.{Some}
 use Rattle.asio_types.specs.declared.code.Code.{Code}
+use Rattle.asio_types.specs.declared.event.Event.{Event}
 use Rattle.asio_types.specs.declared.event.Event.TheVariants as event
 use Rattle.op_handlers.specs.declared.call.Ran.{Ran}
+use Rattle.asio_types.specs.declared.outside.Point.{Point}
+use Rattle.asio_types.specs.declared.outside.Point.TheVariants as point
 use Rattle.session_script.specs.Lanes.{is_inline}
 use Rattle.session_script.specs.Script.{ScriptModel, stops}
 use Rattle.strand_core.specs.declared.posted.Posted.TheVariants as posted
@@ -11,7 +14,11 @@ use Rattle.lane_clock.specs.declared.found.Change.TheVariants as change
 use Rattle.lane_clock.specs.declared.found.Found.{Found}
 use Rattle.lane_map.specs.LaneNumbers.{asked_lane}
 use Rattle.lane_logs.specs.Labels.{allots, begins, call_note, dispatches, ends, posts, put_within, returns, shows, stops_context}
-use Rattle.lane_turns.specs.Pens.{HasAllotted, HasDrawnCall, HasGone, PenView}
+use Rattle.lane_logs.specs.ReactorTurns.{point_event}
+use Rattle.lane_turns.specs.declared.closing.Closing.{Closing}
+use Rattle.lane_turns.specs.declared.closing.Closing.TheVariants as closing
+use Rattle.lane_turns.specs.Closing.{closing_event}
+use Rattle.lane_turns.specs.Pens.{HasAllotted, HasDrawnCall, HasGone, IsNoCall, PenView}
 use Rattle.lane_turns.proofs.PenLemmas.{gone_on}
 
 pub stop_called : (script : ScriptModel) (act : ℕ) (called stopped : Found) (a b c : PenView) →
@@ -87,3 +94,13 @@ end_called script op ran found a b gone =
       drawn = ends;
       gone = gone;
     }
+
+-- the events by which time moves and by which rounds are closed are no calls
+pub time_no_call : (to : Point) (shown : Event) → shown ≡ point_event to → IsNoCall shown
+time_no_call (point.Time now) shown is = subst IsNoCall (sym is) tt
+time_no_call point.Last shown is = subst IsNoCall (sym is) tt
+
+pub closing_no_call : (how : Closing) (shown : Event) → shown ≡ closing_event how → IsNoCall shown
+closing_no_call closing.Ended shown is = subst IsNoCall (sym is) tt
+closing_no_call closing.Stopped shown is = subst IsNoCall (sym is) tt
+closing_no_call closing.Polled shown is = subst IsNoCall (sym is) tt

@@ -1,6 +1,6 @@
 -- The handlers that are left are destroyed one after another.
 use Rattle.std.proofs.Common.{◌≡◌, ◌≢◌, ℕ, zero, suc, ◌+◌, ◌<◌, ◌≤◌, Bool, true, false, cond, List, [], ◌∷◌, ◌++◌, Option, None, Some, length, get_or, refl, sym, ap, subst, ◌∙◌, arith, ne_eqb}
-use Rattle.std.specs.Prelude.{IfSome, filter, map, not, slice_index_or, slice_set, if◌then◌else◌, unwrap_or, ◌&&◌, ◌==◌}
+use Rattle.std.specs.Prelude.{IfSome, IsSome, filter, map, not, slice_index_or, slice_set, if◌then◌else◌, unwrap_or, ◌&&◌, ◌==◌}
 use Rattle.std.specs.List.{range_with_len, sum_by}
 use Rattle.std.specs.Option.{option_map}
 use mathlib.Core.Logic.{dite}
@@ -20,7 +20,7 @@ use Rattle.strand_core.proofs.HandLemmas.{callee_later, in_list-get_or}
 use Rattle.lane_logs.specs.Drops.{dropped, has_call, is_left, is_untouched, untouched_mark, untouched_marks}
 use Rattle.lane_logs.specs.LaneLog.{has_begun}
 use Rattle.lane_logs.specs.Names.{SessionNames}
-use Rattle.lane_turns.specs.Discarding.{IsDiscarding, held_in, held_on, is_unrun, without}
+use Rattle.lane_turns.specs.Discarding.{HoldsNone, IsDiscarding, held_in, held_on, is_unrun, without}
 
 -- one number more
 range_more : (a n j : ℕ) → a + n ≡ j → range_with_len a (n + 1) ≡ range_with_len a n ++ j ∷ []
@@ -138,6 +138,59 @@ untouched_more names events k =
 pub left_not : (a b c : Bool) → (b && c) ≡ false → (a && b && c) ≡ false
 left_not true b c none = none
 left_not false b c none = refl
+
+-- where no handler is held, each of them ran, so there are no drops
+op_if : (a b : Bool) → (a && b) ≡ true → a ≡ true
+op_if true b both = refl
+op_if false b both = both
+
+left_ran : (a b c : Bool) → (a && c) ≡ false → (a && b && c) ≡ false
+left_ran true true c ran = ran
+left_ran true false c ran = refl
+left_ran false b c ran = refl
+
+told_held : {H : Type 0} (f : H → ℕ) (held : Option H) (mark : ℕ) → option_map f held ≡ Some mark → IsSome held
+told_held f (Some handler) mark told = refl
+told_held f None mark told = absurd (cc told)
+
+module _ {H : Type 0} (names : SessionNames) (marks : H → Marks) (events : List Event)
+    (hands : List (Option (Held H))) (drops : List Event)
+    (first : IsDiscarding names marks events 0 hands drops) (none : HoldsNone names.script hands) where
+  all_ran : (op : ℕ) → op < length names.script.acts → is_unrun names events op ≡ false
+  all_ran op less = by_test (is_unrun names events op) refl
+    where
+      by_test : (b : Bool) → is_unrun names events op ≡ b → b ≡ false
+      by_test false unrun = refl
+      by_test true unrun =
+          absurd
+          (none op less (op_if (is_op names.script op) (not (has_begun op events)) unrun)
+          (told_held (λ handler. (marks handler).drop) (held_on hands (home_lane names.script op) op) (names.drop op)
+          (first.left op (omega arith) unrun)))
+
+  none_noted : (k : ℕ) → k ≤ length names.script.acts → noted_by names events k ≡ []
+  none_noted zero less = refl
+  none_noted (suc k) less =
+      let e : k + 1 ≡ suc k = omega arith in
+      subst (λ n. noted_by names events n ≡ []) e
+      (noted_none names events k
+      (left_ran (is_op names.script k) (has_call k events) (not (has_begun k events)) (all_ran k (omega (arith, less))))
+      ∙ none_noted k (omega (arith, less)))
+
+  none_told : (k : ℕ) → k ≤ length names.script.acts → untouched_marks names events k ≡ 0
+  none_told zero less = refl
+  none_told (suc k) less =
+      let e : k + 1 ≡ suc k = omega arith in
+      let mark =
+      no_mark names events k
+      (left_ran (is_op names.script k) (not (has_call k events)) (not (has_begun k events)) (all_ran k (omega (arith, less)))) in
+      let rest = none_told k (omega (arith, less)) in
+      subst (λ n. untouched_marks names events n ≡ 0) e (omega (arith, untouched_more names events k, mark, rest))
+
+  pub no_drops : drops ≡ noted_by names events (length names.script.acts)
+  no_drops = first.noted ∙ sym (none_noted (length names.script.acts) (omega arith))
+
+  pub nothing_told : 0 ≡ untouched_marks names events (length names.script.acts)
+  nothing_told = sym (none_told (length names.script.acts) (omega arith))
 
 module _ {H : Type 0} (names : SessionNames) (marks : H → Marks) (events : List Event) (k : ℕ)
     (hands : List (Option (Held H))) (drops : List Event)

@@ -52,6 +52,7 @@ none_worker =
       round = record { closings = 0; restarted = false; base = 0; running = false };
       drew = false;
       stopped = false;
+      in_step = true;
     }
 
 -- what the lanes and the workers of a session leave, in the order of their numbers

@@ -83,23 +83,30 @@ has_found lane at op held receipt a b c it looked is place same =
 
 -- a worker finds what its pen does, and the other way round
 pub seat_finds : (lane cells op : ℕ) (answer : Option Receipt) (a b : WorkerView) → b.round ≡ a.round →
-    b.drew ≡ a.drew → b.stopped ≡ a.stopped → FindsIn HasGone lane cells op answer a.pen b.pen →
+    b.drew ≡ a.drew → b.stopped ≡ a.stopped → b.in_step ≡ a.in_step →
+    FindsIn HasGone lane cells op answer a.pen b.pen →
     FindsIn SeatHasGone lane cells op answer a b
-seat_finds lane cells op (Some receipt) a b round drew was_stopped found =
+seat_finds lane cells op (Some receipt) a b round drew was_stopped step found =
     record {
       others = found.others;
       none = found.none;
       place = found.place;
       same = found.same;
-      gone = record { gone = found.gone; round = round; drew = drew; stopped = was_stopped };
+      gone = record { gone = found.gone; round = round; drew = drew; stopped = was_stopped; in_step = step };
     }
-seat_finds lane cells op None a b round drew was_stopped found =
+seat_finds lane cells op None a b round drew was_stopped step found =
     record {
       seen = found.seen;
       all = found.all;
       others = record {
         none = found.others.none;
-        gone = record { gone = found.others.gone; round = round; drew = drew; stopped = was_stopped };
+        gone = record {
+          gone = found.others.gone;
+          round = round;
+          drew = drew;
+          stopped = was_stopped;
+          in_step = step;
+        };
       };
     }
 

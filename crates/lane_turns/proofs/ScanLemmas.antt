@@ -42,6 +42,7 @@ seat_same w =
       number = refl;
       draws = refl;
       log = refl;
+      round = refl;
       drew = refl;
       stopped = refl;
     }
@@ -53,6 +54,7 @@ seat_and_on a b c first second =
       number = second.number ∙ first.number;
       draws = second.draws ∙ first.draws;
       log = second.log ∙ first.log;
+      round = second.round ∙ first.round;
       drew = second.drew ∙ first.drew;
       stopped = second.stopped ∙ first.stopped;
     }
@@ -80,6 +82,7 @@ seat_heard lane base a b heard =
       number = met_number (copy_seat lane) a.pen.seat b.pen.seat met;
       draws = omega (arith, drawn);
       log = heard.met.log;
+      round = heard.round;
       drew = heard.drew;
       stopped = heard.stopped;
     }
@@ -103,6 +106,7 @@ seat_gone labels a b it none silently =
       number = gone_number labels a.pen b.pen it.gone;
       draws = omega (arith, drawn, none);
       log = it.gone.log ∙ ap (λ entries. a.pen.log ++ entries) silently ∙ append-nil a.pen.log;
+      round = it.round;
       drew = it.drew;
       stopped = it.stopped;
     }
@@ -110,7 +114,8 @@ seat_gone labels a b it none silently =
 seat_read : (a b : WorkerView) (found : Found) → HasRead a b found → SeatGoesOn a b
 seat_read a b found read =
     seat_gone (silent (Load found) ∷ []) a b
-    (record { gone = read.gone; round = read.round; drew = read.drew; stopped = read.stopped }) refl refl
+    (record { gone = read.gone; round = read.round; drew = read.drew; stopped = read.stopped; in_step = read.in_step })
+    refl refl
 
 -- the worker goes on as its seat does, where its seat at the table stays
 pub goes_on : {H X : Type 0} (a b : WorkerState H X) → SeatGoesOn a.seat b.seat → b.turns ≡ a.turns → GoesOn a b

@@ -1,7 +1,7 @@
 -- A worker after it stops the context, reads the clock word, or takes in what the opener knew.
-use Rattle.std.proofs.Common.{◌≡◌, ◌≢◌, ◌⊎◌, inl, inr, ⊎_elim, ℕ, ◌+◌, ◌≤◌, Bool, true, false, cond, List, [], ◌∷◌, ◌++◌, Option, None, length, ne_eqb, refl, sym, ap, subst, ◌∙◌, arith, append_assoc}
+use Rattle.std.proofs.Common.{◌≡◌, ◌≢◌, ◌⊎◌, ⊎_elim, ℕ, ◌+◌, ◌≤◌, Bool, true, false, cond, List, [], ◌∷◌, ◌++◌, Option, None, length, ne_eqb, refl, sym, ap, subst, ◌∙◌, arith, append_assoc}
 use Rattle.std.specs.Prelude.{◌&&◌, ◌==◌, not}
-use Rattle.std.proofs.lemmas.Bool.{eq-eqb, eqb-true}
+use Rattle.std.proofs.lemmas.Bool.{and_parts, eq-eqb, eqb-true}
 use Rattle.std.proofs.lemmas.Bool.Decides.{eqb_tells}
 use Rattle.std.proofs.lemmas.List.{append-nil}
 use Rattle.asio_types.specs.declared.event.Event.TheVariants as event
@@ -30,7 +30,7 @@ use Rattle.lane_turns.specs.Meeting.{PenHasMet}
 use Rattle.lane_turns.specs.Openers.{round_after}
 use Rattle.lane_turns.specs.Pens.{HasGone, MayGo, PenView}
 use Rattle.lane_turns.specs.Receipts.{looks_from}
-use Rattle.lane_turns.specs.Workers.{IsInStep, IsWorker, WorkerView, heard_round, in_new_round, may_draw_stop}
+use Rattle.lane_turns.specs.Workers.{IsInStep, IsWorker, WorkerView, in_new_round, may_draw_stop}
 use Rattle.lane_turns.proofs.GrowingLemmas.{take_start}
 use Rattle.lane_turns.proofs.LaneMeetingLemmas.{knows_opener}
 use Rattle.lane_turns.proofs.LookedLemmas.{looks_draw_none, looks_place_none, looks_quiet, looks_show_none}
@@ -75,8 +75,11 @@ no_stop true c is = absurd (cc is)
 no_stop false true is = absurd (cc is)
 no_stop false false is = (refl, refl)
 
-pub may_stop : (drew : Bool) (base : ℕ) → drew ≡ false → base ≢ shut → (not drew && not (base == shut)) ≡ true
-may_stop drew base none ne = ap (λ b. not b && not (base == shut)) none ∙ ap not (ne_eqb base shut ne)
+pub may_stop : (in_step drew : Bool) (base : ℕ) → in_step ≡ true → drew ≡ false → base ≢ shut →
+    (in_step && (not drew && not (base == shut))) ≡ true
+may_stop in_step drew base same none ne =
+    ap (λ b. b && (not drew && not (base == shut))) same
+    ∙ (ap (λ b. not b && not (base == shut)) none ∙ ap not (ne_eqb base shut ne))
 
 open_by : (b : Bool) (base : ℕ) → (cond b base shut == shut) ≡ false → b ≡ true
 open_by true base ne = refl
@@ -121,25 +124,25 @@ module _ (script : ScriptModel) (clock : ClockId) (old : WorkerView) (is : IsWor
 
   -- it may draw a stop where a round is open, and has stopped no more than each of those before
   module _ (may : may_draw_stop old ≡ true) where
+    both : (old.in_step ≡ true) × ((not old.drew && not (old.round.base == shut)) ≡ true)
+    both = and_parts old.in_step (not old.drew && not (old.round.base == shut)) may
+
     drew_none : old.drew ≡ false
-    drew_none = (no_stop old.drew (old.round.base == shut) may).0
+    drew_none = (no_stop old.drew (old.round.base == shut) both.1).0
 
     opened : is_round_open script (stand_of script opener) ≡ true
     opened =
-        let going = (no_stop old.drew (old.round.base == shut) may).1 in
-        ⊎_elim
-        (λ (closed : old.round.base ≡ shut). absurd (cc (sym (eq-eqb old.round.base shut closed), going)))
-        (λ (same : old.round.base ≡ base_of script opener).
+        let going = (no_stop old.drew (old.round.base == shut) both.1).1 in
+        let same : old.round.base ≡ base_of script opener = is.in_round.base_is both.0 in
         open_by (is_round_open script (stand_of script opener)) (stand_of script opener).base
-        (ap (λ b. b == shut) (sym same) ∙ going))
-        is.in_step.base_is
+        (ap (λ b. b == shut) (sym same) ∙ going)
 
     few_now : stops_drawn is.log.parts ≤ old.round.closings
     few_now =
         subst (λ b. stops_drawn is.log.parts ≤ cond b (old.round.closings + 1) old.round.closings) drew_none is.few
 
     once : stops_drawn is.log.parts ≤ (stand_of script opener).closings
-    once = omega (arith, few_now, is.in_step.closed)
+    once = omega (arith, few_now, is.in_round.closed)
 
     pub stop_room : MayGo old.pen 1 0
     stop_room =
@@ -169,7 +172,13 @@ module _ (script : ScriptModel) (clock : ClockId) (old : WorkerView) (is : IsWor
         length script.rounds ≤ stops_drawn parts + pen.room →
         step_count draw_count (own pen.seat) ≡ stops_drawn parts →
         step_count place_count (own pen.seat) ≡ 0 →
-        IsWorker script clock (record { pen = pen; round = round; drew = drew; stopped = was_stopped })
+        IsWorker script clock (record {
+          pen = pen;
+          round = round;
+          drew = drew;
+          stopped = was_stopped;
+          in_step = old.in_step;
+        })
     worker_steps round drew was_stopped same few room draws places =
         record {
           clock_is = gone_clock labels old.pen pen gone ∙ is.clock_is;
@@ -192,9 +201,9 @@ module _ (script : ScriptModel) (clock : ClockId) (old : WorkerView) (is : IsWor
               ap (joined_count (opener_seat script)) gone.steps
               ∙ joined_on (opener_seat script) (own old.pen.seat) (steps_in labels) quiet ∙ is.known
               ∙ ap length (sym knows);
-          in_step =
-              subst (λ (now : RoundNow). IsInStep script (opener_known script pen.seat) now) (sym same)
-              (subst (λ steps. IsInStep script steps old.round) (sym knows) is.in_step);
+          in_round =
+              subst (λ (now : RoundNow). IsInStep script (opener_known script pen.seat) now old.in_step) (sym same)
+              (subst (λ steps. IsInStep script steps old.round old.in_step) (sym knows) is.in_round);
           few = few;
           room = room;
           draws = draws;
@@ -204,7 +213,13 @@ module _ (script : ScriptModel) (clock : ClockId) (old : WorkerView) (is : IsWor
 
   pub worker_stopped : (pen : PenView) (found : Found) → may_draw_stop old ≡ true →
       HasGone (shows (event.Stop None) change.Stop found ∷ []) old.pen pen →
-      IsWorker script clock (record { pen = pen; round = old.round; drew = true; stopped = true })
+      IsWorker script clock (record {
+        pen = pen;
+        round = old.round;
+        drew = true;
+        stopped = true;
+        in_step = old.in_step;
+      })
   worker_stopped pen found may gone =
       let drawn = ap (step_count draw_count) gone.steps ∙ step_count-append draw_count (own old.pen.seat) _ in
       let placed = ap (step_count place_count) gone.steps ∙ step_count-append place_count (own old.pen.seat) _ in
@@ -222,7 +237,7 @@ module _ (script : ScriptModel) (clock : ClockId) (old : WorkerView) (is : IsWor
   worker_rests : (pen : PenView) (step : ClockStep) → IsRestingStep step →
       joined_count (opener_seat script) (step ∷ []) ≡ 0 → step_count draw_count (step ∷ []) ≡ 0 →
       step_count place_count (step ∷ []) ≡ 0 → HasGone (silent step ∷ []) old.pen pen →
-      IsWorker script clock (record { pen = pen; round = old.round; drew = old.drew; stopped = old.stopped })
+      IsWorker script clock (record old { pen = pen })
   worker_rests pen step rests quiet no_draw no_place gone =
       let drawn = ap (step_count draw_count) gone.steps ∙ step_count-append draw_count (own old.pen.seat) (step ∷ []) in
       let placed = ap (step_count place_count) gone.steps ∙ step_count-append place_count (own old.pen.seat) (step ∷ []) in
@@ -232,12 +247,12 @@ module _ (script : ScriptModel) (clock : ClockId) (old : WorkerView) (is : IsWor
       (omega (arith, placed, no_place, is.places))
 
   pub worker_read : (pen : PenView) (found : Found) → HasGone (silent (Load found) ∷ []) old.pen pen →
-      IsWorker script clock (record { pen = pen; round = old.round; drew = old.drew; stopped = old.stopped })
+      IsWorker script clock (record old { pen = pen })
   worker_read pen found gone = worker_rests pen (Load found) tt refl refl refl gone
 
   pub worker_looks : (pen : PenView) (lane : ℕ) (seen : List (Option Note)) →
       HasGone (looks_from lane 0 seen) old.pen pen →
-      IsWorker script clock (record { pen = pen; round = old.round; drew = old.drew; stopped = old.stopped })
+      IsWorker script clock (record old { pen = pen })
   worker_looks pen lane seen gone =
       let labels : List Labelled = looks_from lane 0 seen in
       let parts : List WorkerPart = waited lane 0 seen is.log.parts in
@@ -261,7 +276,7 @@ module _ (script : ScriptModel) (clock : ClockId) (old : WorkerView) (is : IsWor
         owns = is.owns;
         log = is.log;
         known = is.known;
-        in_step = is.in_step;
+        in_round = is.in_round;
         few = is.few;
         room = is.room;
         draws = is.draws;
@@ -274,10 +289,17 @@ module _ (script : ScriptModel) (clock : ClockId) (old : WorkerView) (is : IsWor
     more : StartOf opener (opener_known script pen.seat)
     more = met.met.remembers (opener_seat script)
 
-    takes_in : (round : RoundNow) (drew was_stopped : Bool) → IsInStep script (opener_known script pen.seat) round →
+    takes_in : (round : RoundNow) (drew was_stopped in_step : Bool) →
+        IsInStep script (opener_known script pen.seat) round in_step →
         stops_drawn is.log.parts ≤ cond drew (round.closings + 1) round.closings →
-        IsWorker script clock (record { pen = pen; round = round; drew = drew; stopped = was_stopped })
-    takes_in round drew was_stopped in_step few =
+        IsWorker script clock (record {
+          pen = pen;
+          round = round;
+          drew = drew;
+          stopped = was_stopped;
+          in_step = in_step;
+        })
+    takes_in round drew was_stopped in_step in_round few =
         let taken : List ℕ = counts (copy_seat other).known in
         let part : WorkerPart = waiting (Join taken) in
         let drawn = ap (step_count draw_count) met.met.steps ∙ step_count-append draw_count (own old.pen.seat) _ in
@@ -307,7 +329,7 @@ module _ (script : ScriptModel) (clock : ClockId) (old : WorkerView) (is : IsWor
           };
           known =
               met_known _ old.pen.seat pen.seat met.met (opener_seat script) (λ e. apart (sym e)) is.known;
-          in_step = in_step;
+          in_round = in_round;
           few = few;
           room = omega (arith, is.room, met.room);
           draws = omega (arith, drawn, is.draws);
@@ -325,44 +347,31 @@ module _ (script : ScriptModel) (clock : ClockId) (old : WorkerView) (is : IsWor
           arith,
           on,
           ap (λ (s : Stand). s.closings) same,
-          is.in_step.closed,
+          is.in_round.closed,
         )
 
-    -- where it was a lane's, it counts as open no more than both did
+    -- where it was a lane's, it stays in step with one of the same stops
     module _ (base : ℕ) (base_is : base ≡ base_of script (opener_known script other)) where
-      kept : base ≡ old.round.base →
-          (old.round.base ≡ shut) ⊎ (old.round.base ≡ base_of script (opener_known script pen.seat))
-      kept same =
+      kept : old.in_step ≡ true → base ≡ old.round.base →
+          old.round.base ≡ base_of script (opener_known script pen.seat)
+      kept in_step same =
           ⊎_elim
           (λ (mine : opener_known script pen.seat ≡ opener).
-          subst (λ steps. (old.round.base ≡ shut) ⊎ (old.round.base ≡ base_of script steps)) (sym mine)
-          is.in_step.base_is)
+          is.in_round.base_is in_step ∙ ap (base_of script) (sym mine))
           (λ (told : opener_known script pen.seat ≡ lists_of (copy_seat other) (opener_seat script)).
-          inr (sym same ∙ base_is
-          ∙ ap (base_of script) (sym (told ∙ copied_steps other.known (opener_seat script)))))
+          sym same ∙ base_is ∙ ap (base_of script) (sym (told ∙ copied_steps other.known (opener_seat script))))
           (met_either (copy_seat other) old.pen.seat pen.seat met.met (opener_seat script) (λ e. apart (sym e)))
 
-      heard_by : (b : Bool) → (b ≡ true → base ≡ old.round.base) →
-          IsInStep script (opener_known script pen.seat) (cond b old.round (record old.round { base = shut }))
-      heard_by true same = record { base_is = kept (same refl); closed = later }
-      heard_by false same = record { base_is = inl refl; closed = later }
-
-      few_heard : (b : Bool) →
-          stops_drawn is.log.parts
-          ≤ cond old.drew ((cond b old.round (record old.round { base = shut })).closings + 1)
-          (cond b old.round (record old.round { base = shut })).closings
-      few_heard true = is.few
-      few_heard false = is.few
-
-      pub worker_hears : IsWorker script clock (record {
-        pen = pen;
-        round = heard_round old.round base;
-        drew = old.drew;
-        stopped = old.stopped;
-      })
+      pub worker_hears : IsWorker script clock (record old { pen = pen; in_step = old.in_step && (base == old.round.base) })
       worker_hears =
-          takes_in (heard_round old.round base) old.drew old.stopped
-          (heard_by (base == old.round.base) (eqb-true base old.round.base)) (few_heard (base == old.round.base))
+          takes_in old.round old.drew old.stopped (old.in_step && (base == old.round.base))
+          (record {
+            base_is =
+                λ so.
+                let parts = and_parts old.in_step (base == old.round.base) so in
+                kept parts.0 (eqb-true base old.round.base parts.1);
+            closed = later;
+          }) is.few
 
   -- the worker took in what the opener knew
   module _ (other : SeatView) (pen : PenView) (number : other.number ≡ opener_seat script)
@@ -383,9 +392,9 @@ module _ (script : ScriptModel) (clock : ClockId) (old : WorkerView) (is : IsWor
 
     pub worker_meets : IsWorker script clock (in_new_round old pen (round_after script (own other)))
     worker_meets =
-        takes_in other pen met (round_after script (own other)) _ _
+        takes_in other pen met (round_after script (own other)) _ _ true
         (record {
-          base_is = inr (ap (base_of script) (sym learned));
+          base_is = λ so. ap (base_of script) (sym learned);
           closed = omega (arith, ap (λ steps. (stand_of script steps).closings) learned);
         })
         (few_by old.drew old.round.closings (stand_of script (own other)).closings (stops_drawn is.log.parts)

@@ -1,12 +1,12 @@
 -- The handlers that are left when a session is over: all are destroyed by rising number of the
 -- operation, and the drop of one that was initiated and never began is an event (Asio reference,
 -- io_context::~io_context).
-use Rattle.std.specs.Prelude.{◌≡◌, ℕ, ◌<◌, ◌≤◌, Bool, true, false, List, Option, Some, None, IfSome, filter, length, map, not, slice_index_or, slice_set, ◌&&◌}
+use Rattle.std.specs.Prelude.{◌≡◌, ℕ, ◌<◌, ◌≤◌, Bool, true, false, List, Option, Some, None, IfSome, IsSome, filter, length, map, not, slice_index_or, slice_set, ◌&&◌}
 use Rattle.std.specs.List.{range_with_len}
 use Rattle.std.specs.Option.{option_map}
 use Rattle.asio_types.specs.declared.event.Event.{Event}
 use Rattle.op_handlers.specs.Marks.{Marks}
-use Rattle.session_script.specs.Script.{is_op}
+use Rattle.session_script.specs.Script.{ScriptModel, is_op}
 use Rattle.lane_map.specs.LaneNumbers.{home_lane, is_op_on, reactor_lane}
 use Rattle.strand_core.specs.Hands.{Held, held_at}
 use Rattle.lane_logs.specs.Drops.{dropped, has_call, is_left}
@@ -26,6 +26,12 @@ held_on hands lane op = held_in (slice_index_or hands lane None) op
 abbrev pub without : {H : Type 0} → ℕ → Option (Held H) → Option (Held H)
 without op None = None
 without op (Some hands) = Some (record hands { handlers = slice_set hands.handlers op None })
+
+-- no handler of an operation is held on its lane
+abbrev pub HoldsNone : {H : Type 0} → ScriptModel → List (Option (Held H)) → Type 0
+HoldsNone script hands =
+    (op : ℕ) → op < length script.acts → is_op script op ≡ true →
+    IsSome (held_on hands (home_lane script op) op) → ⊥
 
 -- what the logs of a session show, whose script has so many acts
 pub record SeenView : Type 0 where

@@ -1,5 +1,5 @@
 -- What lanes, workers and the opener are before the first event of a session, this project's own.
-use Rattle.std.specs.Prelude.{◌≡◌, ℕ, ◌+◌, ◌≤◌, List, [], false, None, Option, Some, slice_get}
+use Rattle.std.specs.Prelude.{◌≡◌, ℕ, ◌+◌, ◌≤◌, List, [], true, false, None, Option, Some, slice_get}
 use Rattle.session_script.specs.Script.{ScriptModel}
 use Rattle.history_rules.specs.State.{first_reactor}
 use Rattle.reactor_trait.specs.Reactor.{Outside, ReactorState, state_ready}
@@ -35,6 +35,7 @@ first_worker script pen = record {
   round = round_of script (first_stand script);
   drew = false;
   stopped = false;
+  in_step = true;
 }
 
 -- an opener that has drawn nothing

@@ -1,6 +1,8 @@
 -- A pen: a seat and the log of what it draws; what some labelled steps make of it, and whether it
 -- has room for more.
 use Rattle.std.specs.Prelude.{◌≡◌, ℕ, ◌+◌, ◌≤◌, List, [], ◌∷◌, ◌++◌, length}
+use Rattle.asio_types.specs.declared.event.Event.{Event}
+use Rattle.asio_types.specs.declared.event.Event.TheVariants as event
 use Rattle.session_script.specs.Script.{ScriptModel}
 use Rattle.strand_core.specs.declared.posted.Posted.{Posted}
 use Rattle.lane_clock.specs.declared.note.Note.{Note}
@@ -40,6 +42,11 @@ pub record HasGone (labels : List Labelled) (old new : PenView) : Type 0 where
   pub log : new.log ≡ old.log ++ entries_in labels
   pub room : new.room + length (entries_in labels) ≡ old.room
   pub keeps : Keeps old.seat new.seat
+
+-- an event that is no call of an act
+abbrev pub IsNoCall : Event → Type 0
+IsNoCall (event.Call act) = ⊥
+IsNoCall _ = Unit {0}
 
 -- there is room for so many draws, with their entries, and for so many places
 pub record MayGo (pen : PenView) (draws places : ℕ) : Type 0 where

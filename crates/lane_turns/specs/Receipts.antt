@@ -19,6 +19,7 @@ pub record SeatHasGone (labels : List Labelled) (old new : WorkerView) : Type 0 
   pub round : new.round ≡ old.round
   pub drew : new.drew ≡ old.drew
   pub stopped : new.stopped ≡ old.stopped
+  pub in_step : new.in_step ≡ old.in_step
 
 -- looks at the cells of a lane one after another, from this place on, which held these
 abbrev pub looks_from : ℕ → ℕ → List (Option Note) → List Labelled

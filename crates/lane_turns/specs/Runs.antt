@@ -98,7 +98,7 @@ module _ {H X : Type 0} (t : Tries H X) (lanes : ℕ) where
   -- why a call of `run` ends so
   abbrev pub EndsFor : RunEnd → WorkerState H X → WorkerState H X → Type 0
   EndsFor end.Ended old new = ReadEnded old new
-  EndsFor end.Stopped old new = ReadBarred old new ⊎ CameLast one.Stopped old new
+  EndsFor end.Stopped old new = ReadBarred old new
   EndsFor end.Idle old new = FoundNothing end.Idle old new
   EndsFor end.Fault old new = CameLast one.Fault old new
 

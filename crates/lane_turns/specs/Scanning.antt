@@ -22,12 +22,13 @@ abbrev pub numbers_of : Option Seated → List ℕ
 numbers_of None = []
 numbers_of (Some seat) = seat.numbers
 
--- a worker's seat went on: it draws nothing, and forgets nothing
+-- a worker's seat went on: it draws nothing, forgets nothing, and keeps its round with the stops of that
 pub record SeatGoesOn (old new : WorkerView) : Type 0 where
   pub remembers : Remembers old.pen.seat new.pen.seat
   pub number : new.pen.seat.number ≡ old.pen.seat.number
   pub draws : step_count draw_count (own new.pen.seat) ≡ step_count draw_count (own old.pen.seat)
   pub log : new.pen.log ≡ old.pen.log
+  pub round : new.round ≡ old.round
   pub drew : new.drew ≡ old.drew
   pub stopped : new.stopped ≡ old.stopped
 

@@ -1,6 +1,6 @@
 -- A worker's own seat and log: it stops the context from outside of every handler, at most once a
 -- round, and reads what is outstanding (Asio reference, io_context::stop, ::stopped).
-use Rattle.std.specs.Prelude.{◌≡◌, ◌⊎◌, ℕ, ◌+◌, ◌≤◌, Bool, true, false, ◌&&◌, ◌||◌, ◌==◌, not, List, [], ◌∷◌, None, length, if◌then◌else◌}
+use Rattle.std.specs.Prelude.{◌≡◌, ℕ, ◌+◌, ◌≤◌, Bool, true, false, ◌&&◌, ◌||◌, ◌==◌, not, List, [], ◌∷◌, None, length, if◌then◌else◌}
 use Rattle.asio_types.specs.declared.event.Event.TheVariants as event
 use Rattle.session_script.specs.Script.{ScriptModel}
 use Rattle.lane_clock.specs.declared.found.Change.TheVariants as change
@@ -27,15 +27,18 @@ pub record WorkerView : Type 0 where
   pub drew : Bool
   -- whether it called `stop` since the last restart
   pub stopped : Bool
+  -- whether all lanes of which it heard in this round may begin something with the same stops
+  pub in_step : Bool
 
 -- how many stops it has drawn at most: one for each round that is closed, and one for this
 abbrev pub stops_so_far : WorkerView → ℕ
 stops_so_far view = if view.drew then view.round.closings + 1 else view.round.closings
 
--- what is kept of where the rounds stand, beside these steps of the opener: it lets nothing begin that
--- they don't, and has no more rounds closed
-pub record IsInStep (script : ScriptModel) (known : List ClockStep) (round : RoundNow) : Type 0 where
-  pub base_is : (round.base ≡ shut) ⊎ (round.base ≡ base_of script known)
+-- what is kept of where the rounds stand, beside these steps of the opener: in step it has the stops
+-- that they say, and it never has more rounds closed
+pub record IsInStep (script : ScriptModel) (known : List ClockStep) (round : RoundNow) (in_step : Bool)
+    : Type 0 where
+  pub base_is : in_step ≡ true → round.base ≡ base_of script known
   pub closed : round.closings ≤ (stand_of script known).closings
 
 -- a worker, whose log has nothing but stops from outside
@@ -47,7 +50,7 @@ pub record IsWorker (script : ScriptModel) (clock : ClockId) (view : WorkerView)
   -- what it knows of the opener its own joins took in
   pub known : joined_count (opener_seat script) (own view.pen.seat)
       ≡ length (opener_known script view.pen.seat)
-  pub in_step : IsInStep script (opener_known script view.pen.seat) view.round
+  pub in_round : IsInStep script (opener_known script view.pen.seat) view.round view.in_step
   pub few : stops_drawn log.parts ≤ stops_so_far view
   -- room for a stop of each round
   pub room : length script.rounds ≤ stops_drawn log.parts + view.pen.room
@@ -62,10 +65,11 @@ pub record HasStopped (old new : WorkerView) : Type 0 where
   pub round : new.round ≡ old.round
   pub drew : new.drew ≡ true
   pub stopped : new.stopped ≡ true
+  pub in_step : new.in_step ≡ old.in_step
 
 -- whether it stops the context by a draw
 abbrev pub may_draw_stop : WorkerView → Bool
-may_draw_stop view = not (view.drew) && not (view.round.base == shut)
+may_draw_stop view = view.in_step && (not (view.drew) && not (view.round.base == shut))
 
 -- it remembers that it was asked to stop, and nothing else changes
 abbrev pub remembers_stop : WorkerView → WorkerView
@@ -81,22 +85,20 @@ pub record HasRead (old new : WorkerView) (found : Found) : Type 0 where
   pub round : new.round ≡ old.round
   pub drew : new.drew ≡ old.drew
   pub stopped : new.stopped ≡ old.stopped
+  pub in_step : new.in_step ≡ old.in_step
 
 -- the stop word counts as set
 abbrev pub is_set : WorkerView → Found → Bool
 is_set view found = view.stopped || not (found.stops == view.round.base)
 
--- what is kept after a lane was heard that may begin something with these stops: they are the same, or
--- nothing counts as open
-abbrev pub heard_round : RoundNow → ℕ → RoundNow
-heard_round round base = if base == round.base then round else record round { base = shut }
-
--- the worker took in what a lane did
+-- the worker took in what a lane did, which may begin something with these stops; its own are those of
+-- its round, whatever the lane's are
 pub record HasHeard (lane : SeatView) (base : ℕ) (old new : WorkerView) : Type 0 where
   pub met : PenHasMet (copy_seat lane) old.pen new.pen
-  pub round : new.round ≡ heard_round old.round base
+  pub round : new.round ≡ old.round
   pub drew : new.drew ≡ old.drew
   pub stopped : new.stopped ≡ old.stopped
+  pub in_step : new.in_step ≡ (old.in_step && (base == old.round.base))
 
 -- a restart that the worker didn't know came
 abbrev pub restarts_since : RoundNow → RoundNow → Bool
@@ -110,4 +112,5 @@ in_new_round view pen round = record {
   round = round;
   drew = view.drew && (view.round.closings == round.closings);
   stopped = view.stopped && not (restarts_since view.round round);
+  in_step = true;
 }

@@ -1,12 +1,14 @@
 //! The handlers that are left when a session is over are destroyed.
-ghost use Rattle.std.specs.Prelude.{◌≡◌, ◌+◌, ◌*◌, ◌^◌, ◌<◌, ◌≤◌, All, None, IfSome, false, length, map, slice_index_or, slice_set, unwrap_or, vec_capacity, if◌then◌else◌};
+ghost use Rattle.std.specs.Prelude.{◌≡◌, ◌+◌, ◌*◌, ◌^◌, ◌<◌, ◌≤◌, All, None, IfSome, IsSome, IsTrue, false, true, length, map, slice_index_or, slice_set, unwrap_or, vec_capacity, if◌then◌else◌};
 ghost use Rattle.std.specs.List.{flat_map};
 ghost use Rattle.std.specs.Option.{option_map};
+ghost use Rattle.lane_map.specs.LaneNumbers.{home_lane, reactor_lane};
+ghost use Rattle.session_script.specs.Script.{is_op};
 ghost use Rattle.strand_core.specs.Hands.{CallerIsGone};
 ghost use Rattle.lane_logs.specs.Drops.{drops_of, untouched_mark, untouched_marks};
 ghost use Rattle.lane_logs.specs.Labels.{events_in};
 ghost use Rattle.lane_logs.specs.LaneLog.{has_begun};
-ghost use Rattle.lane_turns.specs.Discarding.{IsDiscarding, held_on, without};
+ghost use Rattle.lane_turns.specs.Discarding.{HoldsNone, IsDiscarding, held_on, without};
 
 use crate::op_lanes::operations_have_lanes;
 use crate::seeing::SeenActs;
@@ -153,8 +155,41 @@ pub fn discard_all<'a, H: CompletionHandler, N: LaneSession>(
     Discarded { drops, let_go }
 }
 
+// Whether the handler of an operation is held on its lane.
+fn is_held<H>(script: &Script, map: &LaneMap<'_>, hands: &[Option<Hands<'_, H>>], op: OpNo) -> bool
+    requires map { map.now ≡ script.now }
+    requires act { op < length script.now.acts }
+    requires count { length hands.now ≡ reactor_lane script.now }
+    ensures { is_op script.now op ≡ true → IsSome (held_on hands.now (home_lane script.now op) op) →
+        IsTrue result }
+{
+    operations_have_lanes(script);
+    if !script.is_op(op) {
+        return false;
+    }
+    match &hands[map.home(op) as usize] {
+        Some(own) => own.holds(op),
+        None => false,
+    }
+}
+
+// Whether no handler is held on any lane.
+fn holds_none<H>(script: &Script, map: &LaneMap<'_>, hands: &[Option<Hands<'_, H>>]) -> bool
+    requires map { map.now ≡ script.now }
+    requires count { length hands.now ≡ reactor_lane script.now }
+    ensures { IsTrue result → HoldsNone script.now hands.now }
+{
+    for op in 0..script.acts() {
+        if is_held(script, map, hands, op) {
+            return false;
+        }
+    }
+    true
+}
+
 /// The drops of the operations that the logs have called and that never began, and the sum of the drop
-/// marks of those that they haven't called. `called` and `begun` are the room for a mark for each act,
+/// marks of those that they haven't called. Where no handler is left, there are none, and nothing is
+/// looked for in the logs. `called` and `begun` are the room for a mark for each act,
 /// and `drops` for the drops.
 pub fn discard_left<'a, H: CompletionHandler, N: LaneSession>(
     script: &'a Script,
@@ -180,6 +215,10 @@ pub fn discard_left<'a, H: CompletionHandler, N: LaneSession>(
         (flat_map events_in (map (λ log. log.items) logs.now)) (length N.names.script.acts) }
     ensures few { result.let_go < 2 ^ 96 }
 {
+    if holds_none(script, lanes, hands.as_slice()) {
+        discard_none_left(hands);
+        return Discarded { drops, let_go: 0 };
+    }
     let seen = SeenActs::in_logs(logs, called, begun);
     discard_all::<H, N>(script, lanes, hands, &seen, drops)
 }

@@ -93,7 +93,8 @@ impl<'c, 'a, S: PenStart> Poster for LanePoster<'c, 'a, S> {
     }
 
     fn call(&mut self, act: ActNo, answered: &Answered) {
-        draw_call(&mut self.pen, self.clock, self.script, self.map, act);
+        let by = Some(answered);
+        draw_call(&mut self.pen, self.clock, self.script, self.map, act, by);
         self.made.push_reserved(Posted::Call { act });
     }
 

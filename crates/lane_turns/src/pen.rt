@@ -1,19 +1,22 @@
-ghost use Rattle.std.specs.Prelude.{◌≡◌, ℕ, ◌-◌, ◌<◌, ◌≤◌, [], ◌∷◌, length, slice_index, vec_capacity, vec_len, IfNone, IfSome, IsFalse, IsTrue};
+ghost use Rattle.std.specs.Prelude.{◌≡◌, ℕ, ◌-◌, ◌<◌, ◌≤◌, [], ◌∷◌, length, slice_index, vec_capacity, vec_len, IfNone, IfSome, IsFalse, IsTrue, None};
+ghost use Rattle.asio_types.specs.declared.event.Event.TheVariants as event;
 ghost use Rattle.lane_clock.specs.declared.step.ClockStep.TheVariants.{Load, Look, Put};
 ghost use Rattle.lane_clock.specs.ClockWord.{IsParted};
 ghost use Rattle.lane_clock.specs.Seats.{IsSourceOf, Keeps, copy_seat, own};
 ghost use Rattle.lane_clock.specs.Steps.{has_drawn, has_put};
 ghost use Rattle.lane_map.specs.LaneNumbers.{cells_of, home_lane};
 ghost use Rattle.lane_logs.specs.Labels.{shows, silent};
+ghost use Rattle.lane_logs.specs.SeatNumbers.{opener_seat};
 ghost use Rattle.lane_turns.specs.Meeting.{PenHasMet};
-ghost use Rattle.lane_turns.specs.Pens.{HasAllotted, HasGone, MayGo};
+ghost use Rattle.lane_turns.specs.Pens.{HasAllotted, HasGone, IsNoCall, MayGo};
 ghost use Rattle.lane_turns.specs.Telling.{HasPlace, HasPlaceBeyond, HasToldDone};
 
-use asio_types::Event;
+use asio_types::{ActNo, Event};
 use lane_clock::{Change, Found, LaneClock, LaneCopy, LaneSeat, Note};
 use lane_logs::LogEntry;
 use session_script::Script;
 use std::marker::Model;
+use strand_core::Answered;
 
 /// A seat and the log of what it draws. Only a draw adds an entry, which has the event that the draw
 /// was told.
@@ -59,8 +62,37 @@ impl Pen {
         (seat, log)
     }
 
-    /// Draws the position of an event, which gets an entry in the log.
+    /// Draws the position of an event that is no call of an act.
     pub fn draw(&mut self, clock: &LaneClock, change: Change, event: Event) -> Found
+        requires clock { self.old.seat.clock ≡ clock.now }
+        requires room { MayGo self.old 1 0 }
+        requires other { IsNoCall event }
+        ensures { HasGone (shows event change result ∷ []) self.old self.new }
+    {
+        self.enter(clock, change, event)
+    }
+
+    /// Draws the position of the call of an act. It takes what the act's handler answered: so no call
+    /// of a handler's act is drawn before a handler has returned. The opener alone, who calls the acts
+    /// of `open`, draws without.
+    pub fn draw_call(
+        &mut self,
+        clock: &LaneClock,
+        script: &Script,
+        change: Change,
+        act: ActNo,
+        answered: Option<&Answered>,
+    ) -> Found
+        requires clock { self.old.seat.clock ≡ clock.now }
+        requires room { MayGo self.old 1 0 }
+        requires opener { answered ≡ None → self.old.seat.number ≡ opener_seat script.now }
+        ensures { HasGone (shows (event.Call act) change result ∷ []) self.old self.new }
+    {
+        self.enter(clock, change, Event::Call { act })
+    }
+
+    /// Draws the position of an event, which gets an entry in the log.
+    fn enter(&mut self, clock: &LaneClock, change: Change, event: Event) -> Found
         requires clock { self.old.seat.clock ≡ clock.now }
         requires room { MayGo self.old 1 0 }
         ensures { HasGone (shows event change result ∷ []) self.old self.new }

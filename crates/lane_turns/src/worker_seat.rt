@@ -2,7 +2,7 @@ ghost use Rattle.std.specs.Prelude.{◌≡◌, ◌&&◌, ◌==◌, not};
 ghost use Rattle.lane_clock.specs.declared.found.Found.{Found};
 ghost use Rattle.lane_logs.specs.Stand.{base_of};
 ghost use Rattle.lane_turns.specs.Batons.{opener_known};
-ghost use Rattle.lane_turns.specs.Workers.{HasHeard, HasRead, Stops, heard_round, is_set, may_draw_stop, restarts_since};
+ghost use Rattle.lane_turns.specs.Workers.{HasHeard, HasRead, Stops, is_set, may_draw_stop, restarts_since};
 
 use crate::attendee::Attendee;
 use crate::lane::LaneState;
@@ -25,6 +25,8 @@ pub struct WorkerSeat<N: LaneSession> {
     pub drew: bool,
     // whether it was asked to stop since the last restart
     pub stopped: bool,
+    // whether all lanes of which it heard in this round had the same stops
+    pub in_step: bool,
     pub names: PhantomData<N>,
 }
 
@@ -33,11 +35,21 @@ impl<N: LaneSession> Model for WorkerSeat<N> {
 
     ghost Value = { WorkerView };
 
-    ghost view = { λ w.
-        record { pen = w.pen; round = w.round; drew = w.drew; stopped = w.stopped } };
+    ghost view = { λ w. record {
+      pen = w.pen;
+      round = w.round;
+      drew = w.drew;
+      stopped = w.stopped;
+      in_step = w.in_step;
+    } };
 
-    ghost invariant = { λ w. IsWorker N.names.script N.clock
-        (record { pen = w.pen; round = w.round; drew = w.drew; stopped = w.stopped }) };
+    ghost invariant = { λ w. IsWorker N.names.script N.clock (record {
+      pen = w.pen;
+      round = w.round;
+      drew = w.drew;
+      stopped = w.stopped;
+      in_step = w.in_step;
+    }) };
 }
 
 impl<N: LaneSession> WorkerSeat<N> {
@@ -48,7 +60,7 @@ impl<N: LaneSession> WorkerSeat<N> {
         ensures { Stops self.old self.new (may_draw_stop self.old) }
     {
         self.stopped = true;
-        if self.drew || self.round.base == SHUT {
+        if !self.in_step || self.drew || self.round.base == SHUT {
             return;
         }
         self.pen
@@ -57,8 +69,8 @@ impl<N: LaneSession> WorkerSeat<N> {
     }
 
     /// Takes in what a lane did, which may begin something with these stops. A worker and a lane that
-    /// took in the same events of the opener have the same; where they haven't, nothing counts as open
-    /// for the worker until its next event.
+    /// took in the same events of the opener have the same; where they haven't, the worker draws no
+    /// stop until its next event. The stops of its round stay.
     pub fn hear(&mut self, clock: &LaneClock, lane: &mut Pen, base: u64)
         requires clock { clock.now ≡ N.clock }
         requires lane { lane.old.seat.clock ≡ N.clock }
@@ -68,7 +80,7 @@ impl<N: LaneSession> WorkerSeat<N> {
     {
         let copy = lane.split(clock);
         self.pen.meet(clock, copy);
-        self.round = heard_round(self.round, base);
+        self.in_step = still_in_step(self.in_step, self.round, base);
     }
 
     /// Reads the clock, the work and the stops.
@@ -111,21 +123,11 @@ pub fn tell_lane<N: LaneSession>(
     worker.hear(clock, &mut state.pen, base);
 }
 
-/// What is kept of where the rounds stand after a lane was heard that may begin something with these
-/// stops.
-fn heard_round(round: RoundNow, base: u64) -> RoundNow
-    ensures { result ≡ heard_round round base }
+/// Whether a worker is in step after it heard a lane that may begin something with these stops.
+fn still_in_step(in_step: bool, round: RoundNow, base: u64) -> bool
+    ensures { result ≡ (in_step && (base == round.base)) }
 {
-    if base == round.base {
-        round
-    } else {
-        RoundNow {
-            closings: round.closings,
-            restarted: round.restarted,
-            base: SHUT,
-            running: round.running,
-        }
-    }
+    in_step && base == round.base
 }
 
 /// Whether a worker that drew a stop in a round drew one in the round that is now.
@@ -164,6 +166,7 @@ impl<N: LaneSession> Attendee<N> for WorkerSeat<N> {
         let round = opener.round(script);
         self.drew = drew_now(self.drew, self.round, round);
         self.stopped = stopped_now(self.stopped, self.round, round);
+        self.in_step = true;
         self.round = round;
     }
 }

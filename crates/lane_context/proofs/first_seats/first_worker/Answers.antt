@@ -1,4 +1,4 @@
-use Rattle.std.proofs.Common.{◌≤◌, false, arith, ap, subst, sym, ◌∙◌}
+use Rattle.std.proofs.Common.{◌≤◌, true, false, arith, ap, subst, sym, ◌∙◌}
 use Rattle.session_script.specs.Script.{ScriptModel}
 use Rattle.lane_clock.specs.Steps.{most_draws}
 use Rattle.lane_logs.specs.SeatNumbers.{IsWorkerSeat}
@@ -16,7 +16,8 @@ invariant_of-result g c =
     let clock = g.N.LaneSession.clock in
     let number = c.args.pen.seat.number in
     subst (λ (round : RoundNow).
-    IsWorker names.script clock (record { pen = c.args.pen; round = round; drew = false; stopped = false }))
+    IsWorker names.script clock
+    (record { pen = c.args.pen; round = round; drew = false; stopped = false; in_step = true }))
     (sym
     (c.requires.round
     ∙ ap (λ (script : ScriptModel). round_of script (first_stand script)) c.requires.script))

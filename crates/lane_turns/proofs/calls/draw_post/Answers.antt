@@ -12,10 +12,10 @@ allot-requires-clause-lane c =
 
 pub allot-requires-clause-room : goal.allot-requires-clause-room
 allot-requires-clause-room c =
-    after_draw _ _ c.draw.result 1 1 0 c.args.pen.now c.draw.new.self c.draw.ensures c.requires.room (omega arith)
+    after_draw _ _ c.draw_call.result 1 1 0 c.args.pen.now c.draw_call.new.self c.draw_call.ensures c.requires.room (omega arith)
 
 pub returns : goal.returns
 returns c =
-    post_called c.args.script.now c.args.act c.asked-lane.result c.draw.result c.args.pen.now c.draw.new.self
+    post_called c.args.script.now c.args.act c.asked-lane.result c.draw_call.result c.args.pen.now c.draw_call.new.self
     c.allot.new.self (c.asked-lane.ensures ∙ ap (λ script. asked_lane script c.args.act) c.requires.map) c.requires.going
-    c.requires.outside c.draw.ensures c.allot.ensures
+    c.requires.outside c.draw_call.ensures c.allot.ensures

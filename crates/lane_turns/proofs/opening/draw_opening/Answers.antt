@@ -3,6 +3,7 @@ use Rattle.std.specs.Prelude.{get_or}
 use Rattle.lane_turns.proofs.CallLemmas.{back_called}
 use Rattle.lane_turns.proofs.OpeningLemmas.{all_called, back_room, next_called, next_known, next_room, none_called, opening_room}
 use Rattle.lane_turns.proofs.PenLemmas.{gone_clock, may_go_less}
+use Rattle.lane_turns.proofs.RememberingLemmas.{gone_number}
 use Rattle.lane_turns.proofs.opening.draw_opening.Goals as goal
 
 pub loop-act-init : goal.loop-act-init
@@ -16,6 +17,10 @@ pub draw_call-requires-clause-known : goal.draw_call-requires-clause-known
 draw_call-requires-clause-known c =
     next_known c.args.script.now c.opening-acts.result.now c.loop-act.act-index c.opening-acts.ensures
     c.loop-act-test.true
+
+pub draw_call-requires-clause-opener : goal.draw_call-requires-clause-opener
+draw_call-requires-clause-opener c none =
+    gone_number _ c.args.pen.now c.loop-act.pen c.loop-act.invariant.gone ∙ c.requires.opener
 
 pub draw_call-requires-clause-room : goal.draw_call-requires-clause-room
 draw_call-requires-clause-room c =

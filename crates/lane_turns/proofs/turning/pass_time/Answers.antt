@@ -5,6 +5,7 @@ use Rattle.proactor_core.specs.Proactor.{Follows}
 use Rattle.lane_clock.specs.declared.found.Change.TheVariants as change
 use Rattle.lane_logs.specs.Labels.{shows}
 use Rattle.lane_turns.specs.Pens.{HasGone}
+use Rattle.lane_turns.proofs.CallLemmas.{time_no_call}
 use Rattle.lane_turns.proofs.PassingLemmas.{broken_keeps, broken_may, broken_passed, broken_room, moved_of, pass_fault_keeps, pass_fault_may, pass_fault_room, pass_keeps, pass_may, pass_mid, pass_turned, point_of}
 use Rattle.lane_turns.proofs.turning.pass_time.Goals as goal
 
@@ -125,3 +126,10 @@ returns-in-None-clause-room g c =
     pass_fault_room g.N.LaneSession.names g.X.Reactor.state g.X.Reactor.told g.X.Reactor.faults g.N.LaneSession.faults
     c.args.pen.now c.args.proactor.now c.requires.works c.requires.keeps c.requires.room c.requires.pending
     c.draw_fault-in-None.result c.draw_fault-in-None.new.pen c.draw_fault-in-None.ensures
+
+pub draw-requires-clause-other : goal.draw-requires-clause-other
+draw-requires-clause-other g c = time_no_call c.in-Ok.point c.point_event.result c.point_event.ensures
+
+pub draw-requires-in-Some-clause-other : goal.draw-requires-in-Some-clause-other
+draw-requires-in-Some-clause-other g c =
+    time_no_call c.in-Some.point c.point_event-in-Some.result c.point_event-in-Some.ensures

@@ -1,17 +1,8 @@
-use Rattle.std.proofs.Common.{inr}
 use Rattle.lane_turns.specs.declared.one.One.TheVariants as one
 use Rattle.lane_turns.specs.LaneValues.{terms, tries}
 use Rattle.lane_context.proofs.RunLemmas.{came_last, nothing_ends}
 use Rattle.lane_turns.proofs.ScanLemmas.{on_and_on}
 use Rattle.lane_context.proofs.context.Context.look_once.Goals as goal
-
-pub returns-in-Stopped-clause-ended : goal.returns-in-Stopped-clause-ended
-returns-in-Stopped-clause-ended g c =
-    let t =
-    tries (terms g.N.LaneSession.names g.H.CompletionHandler.marks g.X.Reactor.state g.X.Reactor.told g.X.Reactor.faults
-    g.N.LaneSession.faults g.N.LaneSession.clock) 16 in
-    inr (came_last t c.args.self.now.lanes one.Stopped c.args.worker.now c.look_round.new.worker
-    c.in-Stopped.ensures.looked)
 
 pub returns-in-Fault-clause-ended : goal.returns-in-Fault-clause-ended
 returns-in-Fault-clause-ended g c =

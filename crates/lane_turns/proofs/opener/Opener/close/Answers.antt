@@ -5,6 +5,7 @@ use Rattle.lane_logs.specs.SeatNumbers.{lane_count}
 use Rattle.lane_turns.specs.Benches.{places_of}
 use Rattle.lane_turns.specs.OpenerEvents.{HasClosed, HasWaited}
 use Rattle.lane_turns.specs.Openers.{OpenerView, round_of, stand_at}
+use Rattle.lane_turns.proofs.CallLemmas.{closing_no_call}
 use Rattle.lane_turns.proofs.OpenerClosingLemmas.{closed_opener, closing_room, has_closed, has_waited, still_opener}
 use Rattle.lane_turns.proofs.opener.Opener.close.Goals as goal
 
@@ -80,3 +81,6 @@ returns-clause-closed g c =
     c.load-found.ensures.gone c.args.map.now (c.requires.map ∙ c.requires.script) c.weigh.ensures
     (rw (← c.self.view_is) at c.requires.round) c.if-not-weigh.false c.event.result c.change.result c.draw.result
     c.draw.new.self c.event.ensures c.change.ensures c.draw.ensures)
+
+pub draw-requires-clause-other : goal.draw-requires-clause-other
+draw-requires-clause-other g c = closing_no_call c.args.closing c.event.result c.event.ensures

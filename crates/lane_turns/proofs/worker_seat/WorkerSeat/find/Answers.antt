@@ -10,16 +10,17 @@ invariant_of-self g c =
     let old = c.self.inside in
     let looked = finds_gone c.args.lane c.args.cells c.args.op c.find.result old.pen c.find.new.self c.find.ensures in
     worker_looks g.N.LaneSession.names.script g.N.LaneSession.clock
-    (record { pen = old.pen; round = old.round; drew = old.drew; stopped = old.stopped }) c.self.invariant
-    c.find.new.self c.args.lane looked.0 looked.1
+    (record { pen = old.pen; round = old.round; drew = old.drew; stopped = old.stopped; in_step = old.in_step })
+    c.self.invariant c.find.new.self c.args.lane looked.0 looked.1
 
 pub returns : goal.returns
 returns g c =
     let old = c.self.inside in
     subst (λ (before : WorkerView).
     FindsIn SeatHasGone c.args.lane c.args.cells c.args.op c.find.result before
-    (record { pen = c.find.new.self; round = old.round; drew = old.drew; stopped = old.stopped })) c.self.view_is
+    (record { pen = c.find.new.self; round = old.round; drew = old.drew; stopped = old.stopped; in_step = old.in_step }))
+    c.self.view_is
     (seat_finds c.args.lane c.args.cells c.args.op c.find.result
-    (record { pen = old.pen; round = old.round; drew = old.drew; stopped = old.stopped })
-    (record { pen = c.find.new.self; round = old.round; drew = old.drew; stopped = old.stopped }) refl refl refl
-    c.find.ensures)
+    (record { pen = old.pen; round = old.round; drew = old.drew; stopped = old.stopped; in_step = old.in_step })
+    (record { pen = c.find.new.self; round = old.round; drew = old.drew; stopped = old.stopped; in_step = old.in_step })
+    refl refl refl refl c.find.ensures)

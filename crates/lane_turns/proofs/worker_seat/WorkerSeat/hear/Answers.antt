@@ -1,6 +1,5 @@
-use Rattle.std.proofs.Common.{sym, subst}
+use Rattle.std.proofs.Common.{subst, sym}
 use Rattle.lane_clock.specs.Seats.{SeatView}
-use Rattle.lane_turns.specs.declared.standing.RoundNow.{RoundNow}
 use Rattle.lane_turns.specs.Meeting.{PenHasMet}
 use Rattle.lane_turns.specs.Workers.{IsWorker}
 use Rattle.lane_turns.proofs.WorkerLemmas.{worker_hears}
@@ -10,15 +9,16 @@ pub invariant_of-self : goal.invariant_of-self
 invariant_of-self g c =
     let script = g.N.LaneSession.names.script in
     let old = c.self.inside in
-    subst (λ (now : RoundNow).
+    subst (λ in_step.
     IsWorker script g.N.LaneSession.clock (record {
       pen = c.meet.new.self;
-      round = now;
+      round = old.round;
       drew = old.drew;
       stopped = old.stopped;
-    })) (sym c.heard_round-self-inside.ensures)
+      in_step = in_step;
+    })) (sym c.still_in_step-self-inside.ensures)
     (worker_hears script g.N.LaneSession.clock
-    (record { pen = old.pen; round = old.round; drew = old.drew; stopped = old.stopped }) c.self.invariant
-    c.args.lane.now.seat c.meet.new.self
+    (record { pen = old.pen; round = old.round; drew = old.drew; stopped = old.stopped; in_step = old.in_step })
+    c.self.invariant c.args.lane.now.seat c.meet.new.self
     (subst (λ (copy : SeatView). PenHasMet copy old.pen c.meet.new.self) c.split-copy.ensures.copy c.meet.ensures)
     c.args.base c.requires.base)

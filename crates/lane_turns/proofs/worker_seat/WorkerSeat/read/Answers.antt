@@ -9,4 +9,5 @@ invariant_of-self g c =
       round = c.self.inside.round;
       drew = c.self.inside.drew;
       stopped = c.self.inside.stopped;
+      in_step = c.self.inside.in_step;
     }) c.self.invariant c.load.new.self c.load.result c.load.ensures.gone

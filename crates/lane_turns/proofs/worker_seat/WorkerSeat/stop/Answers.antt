@@ -10,6 +10,8 @@ invariant_of-self-2 g c =
       round = c.self.inside.round;
       drew = c.self.inside.drew;
       stopped = c.self.inside.stopped;
+      in_step = c.self.inside.in_step;
     }) c.self.invariant c.draw.new.self c.draw.result
-    (may_stop c.self.inside.drew c.self.inside.round.base c.if-self.false (omega (arith, c.if-self-eq-SHUT.false)))
+    (may_stop c.self.inside.in_step c.self.inside.drew c.self.inside.round.base c.if-not-self.false c.if-self.false
+    (omega (arith, c.if-self-eq-SHUT.false)))
     c.draw.ensures

@@ -1,4 +1,4 @@
-use Rattle.std.proofs.Common.{◌≡◌, sym, ap, subst, ◌∙◌}
+use Rattle.std.proofs.Common.{◌≡◌, true, sym, ap, subst, ◌∙◌}
 use Rattle.std.specs.Prelude.{◌&&◌, ◌==◌, not}
 use Rattle.lane_clock.specs.Seats.{own}
 use Rattle.lane_turns.specs.declared.standing.RoundNow.{RoundNow}
@@ -22,7 +22,8 @@ invariant_of-self g c =
       round = now;
       drew = old.drew && (old.round.closings == now.closings);
       stopped = old.stopped && not (restarts_since old.round now);
+      in_step = true;
     })) (sym round)
     (worker_meets script g.N.LaneSession.clock
-    (record { pen = old.pen; round = old.round; drew = old.drew; stopped = old.stopped }) c.self.invariant other
-    c.meet.new.other c.meet.ensures.number c.meet.ensures.told heard.behind))
+    (record { pen = old.pen; round = old.round; drew = old.drew; stopped = old.stopped; in_step = old.in_step })
+    c.self.invariant other c.meet.new.other c.meet.ensures.number c.meet.ensures.told heard.behind))
