@@ -65,7 +65,8 @@ compare() {
 }
 
 echo "$runs runs each; nanoseconds a handler by the clock; $(nproc) processors; load $(cut -d ' ' -f 1-3 /proc/loadavg)"
-for shape in four_strands many_strands one_strand no_strand expired computing; do
+lengths=(computing_35 computing_90 computing_220 computing_550 computing_1400 computing)
+for shape in four_strands many_strands one_strand no_strand expired "${lengths[@]}"; do
   for workers in 1 2 4; do
     compare "$shape, $workers workers" shapes "$shape" 1024 "$workers"
   done

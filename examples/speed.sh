@@ -67,7 +67,8 @@ handlers() {
     done
   done
 }
-handlers 1024 1024 four_strands many_strands no_strand one_strand computing
+handlers 1024 1024 four_strands many_strands no_strand one_strand
+handlers 1024 1024 computing_35 computing_90 computing_220 computing_550 computing_1400 computing
 handlers 4096 4096 four_strands many_strands no_strand
 handlers 1024 992 expired
 echo "load $(cut -d ' ' -f 1-3 /proc/loadavg)"

@@ -52,9 +52,9 @@ fn session_of<R: Clock + CpuClock + Threads + Wait + Sync>(
     script: &Script,
     handlers: u32,
 ) -> Result<Measured, Failure> {
-    if shape == Shape::Computing {
+    if let Shape::Computing { steps } = shape {
         let zeros = AtomicU64::new(0);
-        let mut rack = computing_rack(alloc, &zeros)?;
+        let mut rack = computing_rack(alloc, steps, &zeros)?;
         let took = session(rt, alloc, kind, script, handlers, &mut rack);
         rack.discard_all();
         return took;

@@ -10,6 +10,12 @@ const FOUR: u32 = 4;
 /// How many acts a timer has: one sets it, and the others wait.
 const ACTS_OF_TIMER: u32 = 32;
 
+/// How many steps a computing handler takes where its shape says no number: some 5 microseconds.
+const COMPUTED: u32 = 3_500;
+
+/// How many it takes at most.
+const MOST_COMPUTED: u32 = 10_000;
+
 /// What stands in `open` of a session that is measured: so many acts, one like the other.
 #[derive(Clone, Copy, PartialEq, Eq)]
 pub(crate) enum Shape {
@@ -21,8 +27,8 @@ pub(crate) enum Shape {
     NoStrand,
     /// Postings to one strand.
     OneStrand,
-    /// Postings over 4 strands, whose handlers compute.
-    Computing,
+    /// Postings over 4 strands, whose handlers compute so many steps.
+    Computing { steps: u32 },
     /// Waits over 4 strands for timers that have expired.
     Expired,
 }
@@ -35,8 +41,16 @@ impl Shape {
             "many_strands" => Some(Shape::ManyStrands),
             "no_strand" => Some(Shape::NoStrand),
             "one_strand" => Some(Shape::OneStrand),
-            "computing" => Some(Shape::Computing),
+            "computing" => Some(Shape::Computing { steps: COMPUTED }),
             "expired" => Some(Shape::Expired),
+            _ => Shape::computing(word.strip_prefix("computing_")?),
+        }
+    }
+
+    /// The shape whose handlers compute so many steps.
+    fn computing(number: &str) -> Option<Shape> {
+        match number.parse::<u32>() {
+            Ok(steps) if steps <= MOST_COMPUTED => Some(Shape::Computing { steps }),
             _ => None,
         }
     }
@@ -47,7 +61,7 @@ impl Shape {
             Shape::NoStrand => 0,
             Shape::OneStrand => 1,
             Shape::ManyStrands => MANY,
-            Shape::FourStrands | Shape::Computing | Shape::Expired => FOUR,
+            Shape::FourStrands | Shape::Computing { .. } | Shape::Expired => FOUR,
         }
     }
 

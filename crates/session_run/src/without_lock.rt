@@ -87,6 +87,18 @@ fn run_lanes<
     Ok((merge::<N>(&logs, script, history), reactor, let_go))
 }
 
+/// How many bytes a session takes for an act: its share of the lanes, logs and rooms, rounded up.
+const BYTES_OF_ACT: usize = 1_024;
+
+/// Asks for as much memory as a session takes, in one piece, and gives it back untouched, or goes on
+/// where it is refused. An allocator that has given a piece of this size keeps what it gets back (glibc
+/// does: mallopt, "M_TRIM_THRESHOLD"). So the sessions of a program that runs many find their memory
+/// there, and needn't take it from the system anew, page by page.
+fn hint_memory(alloc: Global, script: &Script) {
+    let bytes = BYTES_OF_ACT * script.acts() as usize;
+    let _piece: Result<Vec<u8>, _> = Vec::with_capacity(alloc, bytes);
+}
+
 /// Runs a script on the io_context without a lock. Takes all memory first.
 pub(crate) fn run_unlocked<
     R: Threads + Wait + Sync,
@@ -112,6 +124,7 @@ pub(crate) fn run_unlocked<
         (drop_mark H.marks rack.old) ran.0.events) }
     ensures few { IfOk result (λ ran. ran.2 ≤ 2 ^ 96) }
 {
+    hint_memory(alloc, script);
     let Ok(map) = LaneMap::make(alloc, script) else {
         return Err((SetupFault::NoMemory, reactor));
     };
