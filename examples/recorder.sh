@@ -98,6 +98,12 @@ verdict_on() {
   esac
 }
 
+# The status of the answer to what keeps the claims of run $1 apart: 0 if they never overlap in any order of it, 9 if that isn't known
+# of some, 8 if the run isn't legal.
+overlaps_in() {
+  "${judge[@]/%check/overlaps}" "$1" > "$room/said" 2>&1
+}
+
 # Every second run goes to its file while the program runs.
 record() {
   ASIO_RUN=$room/run ASIO_RUN_MEMORY=$(($2 % 2 * 16)) timeout 30 "$room/$1" > "$room/said" 2>&1
@@ -112,6 +118,10 @@ for sample in chat contexts coroutines pool timers; do
     verdict=$(verdict_on "$room/run")
     [ "$status $verdict" = '0 legal' ]
     count $? "$sample: status $status, $verdict"
+    # (what a join keeps apart isn't known)
+    [ ${#judge[@]} -gt 0 ] && [ "$sample" != pool ] || continue
+    overlaps_in "$room/run"
+    count $? "$sample: claims may overlap in another order"
   done
 done
 
@@ -128,6 +138,10 @@ for mistake in 'chat MISSING_STRAND Untouched' 'chat TWO_WRITES Single' 'context
     [[ $verdict == legal* || $verdict == "$rule" ]]
     count $? "$sample with $macro: $verdict"
     [ "$verdict" != "$rule" ] || found=$((found + 1))
+    # in each run a mistake with claims is found, in this order of it or in another one
+    [ ${#judge[@]} -gt 0 ] && [ "$rule" != Single ] || continue
+    ! overlaps_in "$room/run"
+    count $? "$sample with $macro: its claims are said never to overlap"
   done
   [ ${#judge[@]} -gt 0 ] || continue
   echo "recorder: $sample with $macro: $found of $runs runs break $rule"

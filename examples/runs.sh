@@ -71,6 +71,26 @@ END
 "$room/run_judge" why "$room/run" | cmp -s - "$room/wanted"
 count $? "why of a run that goes on: $("$room/run_judge" why "$room/run")"
 
+# What keeps claims apart: the lines of a run, the status, and what is said. All claims are of thing 1.
+overlaps=0
+while IFS='|' read -r lines status wanted; do
+  write_run "$lines"
+  said=$("$room/run_judge" overlaps "$room/run")
+  [ "$?" = "$status" ] && [[ $said == "$wanted"* ]]
+  count $? "overlaps of $lines: $said"
+  overlaps=$((overlaps + 1))
+done << 'END'
+0 call 0 post 0 4 - / 0 call 1 post 0 4 - / 1 begin 0 ok 0 / 1 claim 1 / 1 release 1 / 1 end 0 / 2 begin 1 ok 0 / 2 claim 1|0|never: thing 1: 2 claims, on strand 4
+0 call 0 post 0 4 - / 0 call 1 post 0 5 - / 1 begin 0 ok 0 / 1 claim 1 / 1 release 1 / 1 end 0 / 2 begin 1 ok 0 / 2 claim 1|9|unknown: thing 1: 2 claims
+0 call 0 post 0 4 - / 0 call 1 post 0 5 - / 1 begin 0 ok 0 / 1 claim 1 / 1 release 1 / 1 end 0 / 1 begin 1 ok 0 / 1 claim 1|0|never: thing 1: 2 claims, on thread 1
+0 call 0 post 0 4 - / 2 work 0 / 1 claim 1 / 1 release 1 / 1 begin 0 ok 0 / 1 claim 1|9|unknown: thing 1: 2 claims
+1 lock 3 / 1 claim 1 / 1 release 1 / 1 unlock 3 / 2 lock 3 / 2 claim 1|0|never: thing 1: 2 claims, under lock 3
+1 lock 3 / 1 claim 1 / 1 unlock 3 / 1 release 1 / 2 lock 3 / 2 claim 1|9|
+1 claim 1 / 2 claim 1|8|
+END
+[ "$overlaps" = 7 ]
+count $? "$overlaps runs were asked for overlaps"
+
 # The picture of docs/RUNS.md, one of a window, and one of what is no run.
 "$room/run_judge" picture crates/run_judge/data/room.run | cmp -s - examples/room.svg
 count $? "the picture of room.run isn't examples/room.svg"

@@ -61,8 +61,10 @@ int main() {
       counts.add("line " + std::to_string(i) + " of the text");
       asio::post(strand, [&] {
         asio_recorder::label("log");
-        asio_recorder::claim here(log);
-        ++logged;
+        {
+          asio_recorder::claim here(log);
+          ++logged;
+        }
         joined.here();
       });
     });

@@ -10,10 +10,12 @@ pub enum Question {
     Why,
     /// A picture of the lines of a window.
     Picture { window: Window },
+    /// What keeps claims apart in each order of it.
+    Overlaps,
 }
 
 /// A command: what is asked, at which level, of which file. The file `-` is standard input, of which
-/// `why` can't be asked.
+/// `why` and `overlaps` can't be asked.
 #[derive(Clone, Copy)]
 pub struct Form<'a> {
     pub question: Question,
@@ -77,7 +79,7 @@ fn with(level: Level, option: &str) -> Option<Level> {
 
 fn form_by<'a>(word: &str, level: Level, file: &'a str) -> Option<Form<'a>> {
     let question = question_of(word)?;
-    if question == Question::Why && file.as_bytes() == b"-".as_slice() {
+    if question != Question::Check && file.as_bytes() == b"-".as_slice() {
         return None;
     }
     Some(Form {
@@ -92,6 +94,8 @@ fn question_of(word: &str) -> Option<Question> {
         Some(Question::Check)
     } else if word.as_bytes() == b"why".as_slice() {
         Some(Question::Why)
+    } else if word.as_bytes() == b"overlaps".as_slice() {
+        Some(Question::Overlaps)
     } else {
         None
     }

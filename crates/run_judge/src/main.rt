@@ -2,10 +2,13 @@
 #![tactic(auto)]
 
 mod form;
+mod listing;
+mod overlaps;
 mod session;
 mod status;
 
 use crate::form::{Form, Question, form_of};
+use crate::overlaps::overlaps;
 use crate::session::{Sources, check, picture, why};
 use crate::status::Status;
 use asio_types::{Sink, Source, StdSink, StdSource, write_all};
@@ -13,7 +16,7 @@ use std::fs::File;
 use std::process::ExitCode;
 use text_io::{NoWords, words_of};
 
-/// The verdict on the run in the file that a command names, and what stands against it.
+/// What is asked of the run in the file that a command names, and that is read more than once.
 fn explain<K: Sink>(rt: &HostRuntime, form: &Form<'_>, out: &mut K) -> Status {
     let Ok(first) = File::open(rt, form.file) else {
         return Status::ReadFault;
@@ -26,7 +29,11 @@ fn explain<K: Sink>(rt: &HostRuntime, form: &Form<'_>, out: &mut K) -> Status {
         second: StdSource::of(second),
         third: StdSource::of(third),
     };
-    why(rt.alloc(), form, &mut sources, out)
+    if form.question == Question::Overlaps {
+        overlaps(rt.alloc(), &mut sources, out)
+    } else {
+        why(rt.alloc(), form, &mut sources, out)
+    }
 }
 
 /// What is asked of the run that a source gives.
@@ -39,7 +46,7 @@ fn answer<S: Source, K: Sink + Drop, N: Sink>(
 ) -> Status {
     match form.question {
         Question::Check => check(rt.alloc(), form, source, &mut out),
-        Question::Why => explain(rt, form, &mut out),
+        Question::Why | Question::Overlaps => explain(rt, form, &mut out),
         Question::Picture { window } => picture(rt.alloc(), window, source, out, notes),
     }
 }

@@ -17,6 +17,8 @@ pub enum Status {
     Bad,
     /// The run isn't legal: a line breaks a rule, or something is under way at the end.
     NotLegal,
+    /// Of some claims of the run it isn't known that they never overlap.
+    Unknown,
 }
 
 impl Status {
@@ -43,15 +45,16 @@ impl Status {
             Status::NoMemory => 6,
             Status::Bad => 7,
             Status::NotLegal => 8,
+            Status::Unknown => 9,
         }
     }
 
     /// The line that is written to standard error: none with a verdict.
     pub fn note(self) -> &'static [u8] {
         match self {
-            Status::Legal | Status::Bad | Status::NotLegal => b"",
+            Status::Legal | Status::Bad | Status::NotLegal | Status::Unknown => b"",
             Status::Usage => b"run_judge: usage: run_judge check|why [--streams] [--strict] FILE, \
-                or run_judge picture FILE [--from LINE] [--to LINE]\n",
+                run_judge overlaps FILE, or run_judge picture FILE [--from LINE] [--to LINE]\n",
             Status::ReadFault => b"run_judge: read fault\n",
             Status::WriteFault => b"run_judge: write fault\n",
             Status::NoMemory => b"run_judge: no memory\n",

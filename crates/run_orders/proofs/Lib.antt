@@ -9,3 +9,4 @@ pub mod UnderLockLemmas
 pub mod GuardLemmas
 pub mod ForcedLemmas
 pub mod OrderLemmas
+pub mod JoinLemmas

@@ -56,12 +56,12 @@ same_frame-refl (Execution op) = eq-eqb op op refl
 same_frame-refl (Outside thread) = eq-eqb thread thread refl
 
 -- two takings that are the same
-record AreSame (one other : Taking) : Type 0 where
+pub record AreSame (one other : Taking) : Type 0 where
   pub thread : one.thread ≡ other.thread
   pub who : one.frame ≡ other.frame
   pub resource : one.resource ≡ other.resource
 
-are_same : (one other : Taking) → same_taking one other ≡ true → AreSame one other
+pub are_same : (one other : Taking) → same_taking one other ≡ true → AreSame one other
 are_same one other is =
     let parts = and_parts (one.thread == other.thread) (same_frame one.frame other.frame && same_resource one.resource other.resource) is in
     let inner = and_parts (same_frame one.frame other.frame) (same_resource one.resource other.resource) parts.1 in

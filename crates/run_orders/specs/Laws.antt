@@ -7,6 +7,7 @@ use Rattle.run_orders.specs.declared.order.Step.{Step}
 use Rattle.run_orders.specs.Guards.{Guards, GuardsAll}
 use Rattle.run_orders.specs.Forced.{IsForced}
 use Rattle.run_orders.specs.Holding.{GivesBack, HoldsBoth}
+use Rattle.run_orders.specs.Joins.{JoinsAll}
 use Rattle.run_orders.specs.Orders.{IsOrderOf, plain}
 use Rattle.run_orders.specs.Trees.{Spot, spot_at, tree}
 
@@ -44,3 +45,8 @@ abbrev pub KeepsForcedApart : List Line → List ℕ → List Step → Type 0
 KeepsForcedApart run apart steps = (thing place other at : ℕ) (one later : Spot) → IsLegalSoFar plain run →
     IsOrderOf run apart steps → spot_at run place ≡ Some one → spot_at run at ≡ Some later →
     GivesBack thing one later → IsForced run at other → HoldsBoth run steps thing place other → ⊥
+
+-- a thing never overlaps if a join comes behind all claims that something else guards, and before the others
+abbrev pub JoinsSuffice : List Line → Type 0
+JoinsSuffice run = (guard : Guard) (thread place thing : ℕ) → IsLegalSoFar plain run → JoinsAll run guard thread place thing →
+    NeverOverlaps run thing

@@ -5,4 +5,5 @@ pub mod Orders
 pub mod Holding
 pub mod Guards
 pub mod Forced
+pub mod Joins
 pub mod Laws

@@ -1,7 +1,7 @@
 ghost use Rattle.std.specs.Prelude.{ℕ, List};
 ghost use Rattle.run_lines.specs.declared.line.Line.{Line};
 ghost use Rattle.run_orders.specs.declared.order.Step.{Step};
-ghost use Rattle.run_orders.specs.Laws.{GuardsSuffice, IsOrderOfItself, KeepsForcedApart, KeepsGuardedApart, KeepsOneTreeApart};
+ghost use Rattle.run_orders.specs.Laws.{GuardsSuffice, IsOrderOfItself, JoinsSuffice, KeepsForcedApart, KeepsGuardedApart, KeepsOneTreeApart};
 
 /// A legal run is an order of itself, with nothing set apart.
 pub fn runs_are_orders_of_themselves()
@@ -26,4 +26,10 @@ pub fn guarded_things_never_overlap()
 /// Two claims of one thing never overlap if one is given back before the other is made in each order.
 pub fn forced_claims_never_overlap()
     ensures { (run : List Line) (apart : List ℕ) (steps : List Step) → KeepsForcedApart run apart steps }
+{}
+
+/// A thing never overlaps if a join comes behind all claims that something else guards, and before the
+/// others, which its thread makes.
+pub fn joined_things_never_overlap()
+    ensures { (run : List Line) → JoinsSuffice run }
 {}

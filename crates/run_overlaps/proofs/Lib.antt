@@ -1,0 +1,4 @@
+pub mod WatchLemmas
+pub mod UnlockLemmas
+pub mod GuardingLemmas
+pub mod SeeingLemmas
