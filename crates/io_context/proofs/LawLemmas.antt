@@ -1,7 +1,7 @@
 -- The laws of the rules, of one history.
 use Rattle.std.proofs.Common.{arith, subst, sym, ◌∙◌}
 use Rattle.std.proofs.lemmas.Bool.{true≢false}
-use Rattle.std.specs.Prelude.{◌≡◌, ◌≤◌, ℕ, suc, Bool, true, false, List, [], ◌∷◌, ◌++◌, if◌then◌else◌}
+use Rattle.std.specs.Prelude.{◌≡◌, ◌≤◌, ◌||◌, ℕ, suc, Bool, true, false, List, [], ◌∷◌, ◌++◌, if◌then◌else◌}
 use Rattle.asio_types.specs.declared.code.Code.{Code}
 use Rattle.asio_types.specs.declared.code.Code.TheVariants as code
 use Rattle.io_rules.specs.declared.event.Event.{Event}
@@ -21,7 +21,7 @@ use Rattle.io_rules.specs.Legal.{IsLegal, IsWhole, MayHappen, state_of}
 use Rattle.io_rules.specs.Once.{AllAreOver, BegunBeforeEnded, BegunOrDropped, CalledOnce}
 use Rattle.io_rules.specs.Stopped.{NothingBeginsStopped}
 use Rattle.io_history.specs.Rule.{EndsWith}
-use Rattle.io_scheduler.specs.Told.{is_newest_call}
+use Rattle.io_scheduler.specs.Told.{is_call_in}
 use Rattle.io_context.specs.Laws.{KeepsLaws}
 
 -- an older history is legal too
@@ -73,23 +73,27 @@ one_more : (b : Bool) (n : ℕ) → 1 ≤ n → 1 ≤ (if b then suc n else n)
 one_more true n least = omega (arith, least)
 one_more false n least = least
 
-first_one : (b : Bool) (n : ℕ) → b ≡ true → 1 ≤ (if b then suc n else n)
-first_one true n is = omega arith
-first_one false n is = absurd (cc)
+first_or : (b rest : Bool) (n : ℕ) → (rest ≡ true → 1 ≤ n) → (b || rest) ≡ true → 1 ≤ (if b then suc n else n)
+first_or true rest n later is = omega arith
+first_or false rest n later is = later is
 
--- what came last in an older history came
-told_once : (op : ℕ) (later told : List Event) → is_newest_call op told ≡ true → 1 ≤ times (calls op) (later ++ told)
-told_once op [] [] newest = absurd (cc)
-told_once op [] (e ∷ before) newest = first_one (calls op e) (times (calls op) before) newest
-told_once op (e ∷ later) told newest =
-    one_more (calls op e) (times (calls op) (later ++ told)) (told_once op later told newest)
+-- what is among these events came once at least
+told_first : (op : ℕ) (told : List Event) → is_call_in op told ≡ true → 1 ≤ times (calls op) told
+told_first op [] told_it = absurd (cc)
+told_first op (e ∷ before) told_it =
+    first_or (calls op e) (is_call_in op before) (times (calls op) before) (told_first op before) told_it
+
+told_once : (op : ℕ) (later told : List Event) → is_call_in op told ≡ true → 1 ≤ times (calls op) (later ++ told)
+told_once op [] told told_it = told_first op told told_it
+told_once op (e ∷ later) told told_it =
+    one_more (calls op e) (times (calls op) (later ++ told)) (told_once op later told told_it)
 
 pub is_over_once : CalledOnce → AllAreOver → (limits : Limits) (past told : List Event) (op : ℕ) →
-    IsLegal limits past → IsWhole (state_of limits past) → EndsWith past told → is_newest_call op told ≡ true →
+    IsLegal limits past → IsWhole (state_of limits past) → EndsWith past told → is_call_in op told ≡ true →
     times (is_over op) past ≡ 1
-is_over_once called all limits past told op legal whole ends newest =
+is_over_once called all limits past told op legal whole ends told_it =
     let least : 1 ≤ times (calls op) past =
-    subst (λ p. 1 ≤ times (calls op) p) (sym ends.1) (told_once op ends.0 told newest) in
+    subst (λ p. 1 ≤ times (calls op) p) (sym ends.1) (told_once op ends.0 told told_it) in
     let most : times (calls op) past ≤ 1 = called limits past legal op in
     let one : times (calls op) past ≡ 1 = omega (arith, least, most) in
     all limits past legal whole op ∙ one

@@ -1,7 +1,8 @@
 -- What a handler initiates while it executes (Asio reference, Requirements on asynchronous operations;
 -- that it takes effect when the handler has returned is this project's own).
-use Rattle.std.specs.Prelude.{◌≡◌, ◌<◌, ◌≤◌, ℕ, ◌+◌, ◌-◌, ◌||◌, min, nat_lt, Bool, true, false, List, [], ◌∷◌, ◌++◌, length, None, Some}
+use Rattle.std.specs.Prelude.{◌≡◌, ◌<◌, ◌≤◌, ℕ, ◌+◌, ◌-◌, ◌||◌, min, nat_lt, Bool, true, false, List, [], ◌∷◌, ◌++◌, length, Option, None, Some}
 use Rattle.std.specs.Duration.{as_nanos}
+use Rattle.std.specs.Global.{Vec}
 use Rattle.std.specs.declared.time.Duration.{Duration}
 use Rattle.io_rules.specs.declared.control.Control.{Control}
 use Rattle.io_rules.specs.declared.control.Control.TheVariants as control
@@ -93,10 +94,13 @@ delayed timer after i = record i {
   delays = true;
 }
 
--- without a cancellation slot
+-- without a cancellation slot, and with a buffer or without
+abbrev pub transferring : {H : Type 0} → Lane → Operation → Option (Vec ℕ) → H → Initiating H
+transferring lane kind buffer handler =
+    record { lane = lane; binding = None; kind = kind; buffer = buffer; handler = handler }
+
 abbrev pub initiating : {H : Type 0} → Lane → Operation → H → Initiating H
-initiating lane kind handler =
-    record { lane = lane; binding = None; kind = kind; handler = handler }
+initiating lane kind handler = transferring lane kind None handler
 
 abbrev pub new_initiated : {H : Type 0} → ℕ → Initiated H
 new_initiated most = record {
@@ -138,9 +142,22 @@ abbrev pub is_offered_kind : Operation → Bool
 is_offered_kind (operation.Wait timer) = true
 is_offered_kind kind = is_posting kind
 
+-- an operation on a stream or a listener: some bytes are read or written, all are written, or a connection is
+-- accepted
+abbrev pub is_transfer : Operation → Bool
+is_transfer (operation.ReadSome stream size) = true
+is_transfer (operation.WriteSome stream size) = true
+is_transfer (operation.WriteAll stream size) = true
+is_transfer (operation.Accept listener) = true
+is_transfer _ = false
+
+-- which operations a handler may initiate
+abbrev pub is_initiated : Operation → Bool
+is_initiated kind = is_transfer kind || is_offered_kind kind
+
 -- without a cancellation slot
 pub record IsOfferedCall {H : Type 0} (call : Initiating H) : Type 0 where
-  pub offered : is_offered_kind call.kind ≡ true
+  pub offered : is_initiated call.kind ≡ true
   pub unbound : call.binding ≡ None
 
 abbrev pub is_timer : Kind → Bool

@@ -48,6 +48,7 @@ impl<H> Initiator<H> {
             lane,
             binding: None,
             kind,
+            buffer: None,
             handler,
         })
     }
@@ -66,6 +67,7 @@ impl<H> Initiator<H> {
             lane,
             binding: None,
             kind,
+            buffer: None,
             handler,
         })
     }
@@ -84,6 +86,7 @@ impl<H> Initiator<H> {
             lane,
             binding: None,
             kind,
+            buffer: None,
             handler,
         })
     }
@@ -104,6 +107,7 @@ impl<H> Initiator<H> {
             lane,
             binding: None,
             kind,
+            buffer: None,
             handler,
         })
     }

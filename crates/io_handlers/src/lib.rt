@@ -9,11 +9,12 @@ mod initiator;
 mod spares;
 mod staged;
 mod staging;
+mod transfers;
 
 pub use completion::Completion;
 pub use handler::Handler;
 pub use initiator::Initiator;
 pub use io_rules::Marks;
 pub use spares::without_spare;
-pub use staged::{Full, Initiating, Staged};
+pub use staged::{Full, FullTransfer, Initiating, Staged};
 pub use staging::Staging;

@@ -8,6 +8,8 @@ pub struct Initiating<H> {
     pub binding: Option<Binding>,
     /// What the operation does.
     pub kind: Operation,
+    /// The buffer of a read or a write.
+    pub buffer: Option<Vec<u8>>,
     /// What is called when it has completed.
     pub handler: H,
 }
@@ -25,3 +27,11 @@ pub enum Staged<H> {
 
 /// No place is left for one more operation: its handler comes back.
 pub struct Full<H>(pub H);
+
+/// Likewise of a read or a write: its buffer comes back too.
+pub struct FullTransfer<H> {
+    /// What was to be read into, or to be written.
+    pub buffer: Vec<u8>,
+    /// What was to be called when it has completed.
+    pub handler: H,
+}

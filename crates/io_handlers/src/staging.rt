@@ -1,3 +1,4 @@
+ghost use Rattle.std.specs.Bool.{OnFalse, OnTrue};
 ghost use Rattle.std.specs.Prelude.{◌≡◌, ◌≤◌, ◌+◌, if◌then◌else◌, [], ◌∷◌, nat_lt, true, IfErr, IfNone, IfOk, IfSome, OnErr, OnOk};
 ghost use Rattle.io_handlers.specs.Initiated.{IsMade, IsMadeOf, IsOffered, IsOfferedCall, IsRoomFor, MayInitiate, called, changed, delayed, is_offered_change, left_by, new_initiated, operations_in, renewed, room_after};
 
@@ -119,20 +120,38 @@ impl<H> Staging<H> {
         ensures same { OnErr result (self.new ≡ self.old) }
         ensures back { IfErr result (λ full. full.0 ≡ call.handler) }
     {
-        if self.places == 0 || (!self.first && self.room == 0) {
+        if self.is_full() {
             let Initiating {
                 lane: _,
                 binding: _,
                 kind: _,
+                buffer: _,
                 handler,
             } = call;
             return Err(Full(handler));
         }
+        self.stage(call);
+        Ok(())
+    }
+
+    /// Whether no place or no room is left for one more operation.
+    pub(crate) fn is_full(&self) -> bool
+        ensures full { OnTrue result (¬ MayInitiate self.now) }
+        ensures may { OnFalse result (MayInitiate self.now) }
+    {
+        self.places == 0 || (!self.first && self.room == 0)
+    }
+
+    /// Initiates an operation, for which place and room are left.
+    pub(crate) fn stage(&mut self, call: Initiating<H>)
+        requires offered { IsOfferedCall call }
+        requires may { MayInitiate self.old }
+        ensures { self.new ≡ called call self.old }
+    {
         self.places -= 1;
         self.room = room_after(self.first, self.room);
         self.first = false;
         self.staged.push_back_reserved(Staged::Called(call));
-        Ok(())
     }
 
     /// A call that has no handler, as far as there is room for it; answers whether there is.

@@ -2,7 +2,7 @@
 use Rattle.std.proofs.Common.{arith, ap, refl, subst, sym, ◌∙◌}
 use Rattle.std.proofs.lemmas.Bool.{true≢false}
 use Rattle.std.specs.Global.{Vec}
-use Rattle.std.specs.Prelude.{◌≡◌, ◌<◌, ℕ, ◌+◌, ◌-◌, ◌&&◌, nat_lt, Bool, true, false, List, [], ◌∷◌, ◌++◌, Option, Some, None, IsSome}
+use Rattle.std.specs.Prelude.{◌≡◌, ◌<◌, ℕ, ◌+◌, ◌-◌, ◌&&◌, ◌||◌, nat_lt, Bool, true, false, List, [], ◌∷◌, ◌++◌, Option, Some, None, IsSome, if◌then◌else◌}
 use Rattle.asio_types.specs.declared.code.Code.{Code}
 use Rattle.asio_types.specs.declared.code.Code.TheVariants as code
 use Rattle.io_rules.specs.declared.event.Event.{Event}
@@ -10,28 +10,32 @@ use Rattle.io_rules.specs.declared.event.Event.TheVariants as event
 use Rattle.io_rules.specs.declared.limits.Limits.{Limits}
 use Rattle.io_rules.specs.declared.name.Lane.{Lane}
 use Rattle.io_rules.specs.declared.op.Op.{Op}
+use Rattle.io_rules.specs.declared.op.Phase.{Phase}
 use Rattle.io_rules.specs.declared.op.Phase.TheVariants as phase
 use Rattle.io_rules.specs.declared.op.Wait.{Wait}
 use Rattle.io_rules.specs.declared.operation.Operation.{Operation}
 use Rattle.io_rules.specs.declared.operation.Operation.TheVariants as operation
+use Rattle.io_rules.specs.declared.operation.Side.{Side}
 use Rattle.io_rules.specs.declared.request.Gone.{Gone}
 use Rattle.io_rules.specs.declared.request.Gone.TheVariants as gone
 use Rattle.io_rules.specs.declared.request.Marks.{Marks}
 use Rattle.io_rules.specs.declared.spares.Spares.{Spares}
 use Rattle.io_rules.specs.Calls.{IsWithin, accepted, caller_lane, gone_by, gone_of, is_lane_gone, is_timer_gone, new_op, target_if}
+use Rattle.io_rules.specs.Cancelling.{is_out_for}
 use Rattle.io_rules.specs.Legal.{IsLegal, MayHappen, after, state_of}
 use Rattle.io_rules.specs.Names.{Names}
-use Rattle.io_rules.specs.Operations.{is_posting, target_of, timer_of}
-use Rattle.io_rules.specs.Ops.{op_at, passes}
+use Rattle.io_rules.specs.Operations.{Target, is_posting, target_of, timer_of}
+use Rattle.io_rules.specs.Ops.{is_running, op_at, passes}
 use Rattle.io_rules.specs.Room.{has_place, one_if, place_given, place_given_by}
-use Rattle.io_rules.specs.Serving.{served}
-use Rattle.io_rules.specs.State.{ContextState}
+use Rattle.io_rules.specs.Serving.{Served, first_of, served, served_op, served_phase}
+use Rattle.io_rules.specs.State.{ContextState, StreamState, stream_at}
 use Rattle.io_rules.specs.Strands.{called_on, entry_of, entry_of_dispatch, entry_of_kind, on_lane}
+use Rattle.io_rules.proofs.StrandLemmas.{by_test}
 use Rattle.io_rules.proofs.TotalLemmas.{lane-found}
-use Rattle.io_handlers.specs.Initiated.{is_offered_kind}
+use Rattle.io_handlers.specs.Initiated.{is_initiated, is_offered_kind, is_transfer}
 use Rattle.io_history.specs.declared.view.Held.{Held}
 use Rattle.io_history.specs.Steps.{held_still, holding}
-use Rattle.io_history.proofs.AtLemmas.{at-push}
+use Rattle.io_history.proofs.AtLemmas.{at-changed_of, at-push}
 use Rattle.io_strands.specs.declared.ready.ReadyOp.{ReadyOp}
 use Rattle.io_strands.specs.Cell.{Cell}
 use Rattle.io_jobs.specs.Listed.{JobList}
@@ -97,12 +101,31 @@ gone_offered s on operation.Dispatch marks is = refl
 gone_offered s on (operation.Wait timer) marks is = refl
 gone_offered s on _ marks is = absurd (true≢false (sym is))
 
-within_offered : (held : ℕ) (kind : Operation) → is_offered_kind kind ≡ true → IsWithin held kind
-within_offered held operation.Post is = tt
-within_offered held operation.Defer is = tt
-within_offered held operation.Dispatch is = tt
-within_offered held (operation.Wait timer) is = tt
-within_offered held _ is = absurd (true≢false (sym is))
+within_initiated : (held : ℕ) (kind : Operation) → is_initiated kind ≡ true → IsWithin held kind
+within_initiated held (operation.ReadUntil stream max) is = absurd (true≢false (sym is))
+within_initiated held operation.Post is = tt
+within_initiated held operation.Defer is = tt
+within_initiated held operation.Dispatch is = tt
+within_initiated held (operation.Wait timer) is = tt
+within_initiated held (operation.ReadSome stream size) is = tt
+within_initiated held (operation.ReadAll stream size) is = tt
+within_initiated held (operation.WriteSome stream size) is = tt
+within_initiated held (operation.WriteAll stream size) is = tt
+within_initiated held (operation.Accept listener) is = tt
+within_initiated held (operation.Connect stream) is = tt
+
+or_true : (b : Bool) → (b || true) ≡ true
+or_true true = refl
+or_true false = refl
+
+pub initiated_offered : (kind : Operation) → is_offered_kind kind ≡ true → is_initiated kind ≡ true
+initiated_offered kind is = ap (λ b. is_transfer kind || b) is ∙ or_true (is_transfer kind)
+
+pub initiated_transfer : (kind : Operation) → is_transfer kind ≡ true → is_initiated kind ≡ true
+initiated_transfer kind is = ap (λ b. b || is_offered_kind kind) is
+
+pub offered_else : (kind : Operation) → is_transfer kind ≡ false → is_initiated kind ≡ true → is_offered_kind kind ≡ true
+offered_else kind other is = sym (ap (λ b. b || is_offered_kind kind) other) ∙ is
 
 pub offered_posting : (kind : Operation) → is_posting kind ≡ true → is_offered_kind kind ≡ true
 offered_posting operation.Post is = refl
@@ -140,14 +163,14 @@ left_there names on kind gone.Other is any =
 
 pub may_be_called : (s : ContextState) (n by : ℕ) (from on : Lane) (kind : Operation) (marks : Marks) (given : Gone)
     (own : Bool) (grant : ℕ) (spares : Spares) (held : Option Held) → s.finishing ≡ false → n ≡ s.next →
-    is_offered_kind kind ≡ true → given ≡ gone_for s.names on kind → HeldOp s by from own grant spares held →
+    is_initiated kind ≡ true → given ≡ gone_of s (posting on kind marks) → HeldOp s by from own grant spares held →
     0 < one_if own + grant → MayHappen s (event.Called n (Some by) (posting on kind marks) given)
 may_be_called s n by from on kind marks given own grant spares held going is offered given_is it some = record {
   going = going;
   number = is;
-  names = given_is ∙ gone_offered s on kind marks offered;
+  names = given_is;
   allowed = ap (passes has_place) it.is ∙ ap has_place it.runs ∙ may_give own grant spares some;
-  within = within_offered s.limits.held kind offered;
+  within = within_initiated s.limits.held kind offered;
 }
 
 pub state_called : (s : ContextState) (first : Bool) (n by : ℕ) (from on : Lane) (kind : Operation) (marks : Marks)
@@ -207,51 +230,50 @@ still_held s by from was own had grant spares left held new it executes at lane_
 abbrev pub with_less : Op → Op
 with_less op = record op { phase = place_given op.phase }
 
-pub held_called : (s new : ContextState) (by : ℕ) (from : Lane) (own : Bool) (grant : ℕ) (spares : Spares)
-    (held still : Option Held) (last : Op) → IsExecution by from own grant spares held →
-    HeldOp s by from own grant spares held → new.ops ≡ place_given_by (Some by) s.ops ++ last ∷ [] →
-    still ≡ held_still new held → StillHeld by from (own && nat_lt 0 grant) (grant - 1) spares held still
-held_called s new by from own grant spares held still last executes it are is =
-    still_held new by from own (own && nat_lt 0 grant) grant (grant - 1) spares spares held still (with_less it.op) executes
-    (ap (λ ops. op_at ops by) are
-    ∙ at-push by (place_given_by (Some by) s.ops) last (with_less it.op)
-    (at_changed by (λ o. place_given o.phase) s.ops it.op it.is))
-    it.at (ap place_given it.runs ∙ given_phase own grant spares) it.returns is
+-- serving the first of a side leaves what executes
+phase_runs : (stream : StreamState) (kind : Operation) (p : Phase) → is_running p ≡ true →
+    (served_phase stream kind p).phase ≡ p
+phase_runs stream kind (phase.Running own grant spares) is = refl
+phase_runs stream kind (phase.Pending moved cancelled) is = absurd (true≢false (sym is))
+phase_runs stream kind (phase.Settled code size) is = absurd (true≢false (sym is))
+phase_runs stream kind (phase.Ready code size) is = absurd (true≢false (sym is))
 
--- the operations behind a call
-no_target : (kind : Operation) → is_offered_kind kind ≡ true → target_of kind ≡ None
-no_target operation.Post is = refl
-no_target operation.Defer is = refl
-no_target operation.Dispatch is = refl
-no_target (operation.Wait timer) is = refl
-no_target _ is = absurd (true≢false (sym is))
+served_runs : (stream : StreamState) (on : Side) (op : Op) → is_running op.phase ≡ true →
+    (served_op stream on op).phase ≡ op.phase
+served_runs stream on op is =
+    let same : Served = record { phase = op.phase; held = stream.held } in
+    by_test (is_out_for on stream.out)
+    (λ out. ap (λ b. (if b then same else served_phase stream op.kind op.phase).phase) out)
+    (λ in_it.
+    ap (λ b. (if b then same else served_phase stream op.kind op.phase).phase) in_it
+    ∙ phase_runs stream op.kind op.phase is)
 
-none_if : (given : Gone) → target_if given None ≡ None
-none_if gone.Nothing = refl
-none_if gone.Strand = refl
-none_if gone.Other = refl
-
-pub ops_called : (s : ContextState) (n by : ℕ) (on : Lane) (kind : Operation) (marks : Marks) (given : Gone) →
-    is_offered_kind kind ≡ true →
-    (after (event.Called n (Some by) (posting on kind marks) given) s).ops
-    ≡ place_given_by (Some by) s.ops
-    ++ new_op (entry_of (caller_lane s.ops (Some by)) (posting on kind marks) given) n (posting on kind marks) given ∷ []
-ops_called s n by on kind marks given offered =
-    let request = posting on kind marks in
-    let t = accepted (entry_of (caller_lane s.ops (Some by)) request given) n (Some by) request given s in
-    ap (λ target. (served target t).ops)
-    (ap (target_if given) (no_target kind offered) ∙ none_if given)
+at_served : (t : ContextState) (target : Option Target) (n : ℕ) (it : Op) → is_running it.phase ≡ true →
+    op_at t.ops n ≡ Some it → op_at (served target t).ops n ≡ Some it
+at_served t None n it runs is = is
+at_served t (Some target) n it runs is =
+    let stream = stream_at t.streams target.stream in
+    at-changed_of (first_of target.side stream) n (λ op. (served_op stream target.side op).phase) t.ops it
+    (served_runs stream target.side it runs) is
 
 -- what executes does still
 pub held_calling : (s : ContextState) (n by : ℕ) (from on : Lane) (kind : Operation) (marks : Marks) (given : Gone)
-    (own : Bool) (grant : ℕ) (spares : Spares) (held still : Option Held) → is_offered_kind kind ≡ true →
-    IsExecution by from own grant spares held → HeldOp s by from own grant spares held →
+    (own : Bool) (grant : ℕ) (spares : Spares) (held still : Option Held) → IsExecution by from own grant spares held →
+    HeldOp s by from own grant spares held →
     still ≡ held_still (after (event.Called n (Some by) (posting on kind marks) given) s) held →
     StillHeld by from (own && nat_lt 0 grant) (grant - 1) spares held still
-held_calling s n by from on kind marks given own grant spares held still offered executes it is =
-    held_called s (after (event.Called n (Some by) (posting on kind marks) given) s) by from own grant spares held still
-    (new_op (entry_of (caller_lane s.ops (Some by)) (posting on kind marks) given) n (posting on kind marks) given)
-    executes it (ops_called s n by on kind marks given offered) is
+held_calling s n by from on kind marks given own grant spares held still executes it is =
+    let request = posting on kind marks in
+    let entry = entry_of (caller_lane s.ops (Some by)) request given in
+    let new = after (event.Called n (Some by) request given) s in
+    let runs : place_given it.op.phase ≡ phase.Running (own && nat_lt 0 grant) (grant - 1) spares =
+    ap place_given it.runs ∙ given_phase own grant spares in
+    still_held new by from own (own && nat_lt 0 grant) grant (grant - 1) spares spares held still (with_less it.op) executes
+    (at_served (accepted entry n (Some by) request given s) (target_if given (target_of kind)) by (with_less it.op)
+    (ap is_running runs)
+    (at-push by (place_given_by (Some by) s.ops) (new_op entry n request given) (with_less it.op)
+    (at_changed by (λ o. place_given o.phase) s.ops it.op it.is)))
+    it.at runs it.returns is
 
 -- what is needed of the numbers and of the room
 pub called_number : (limits : Limits) (past : List Event) (counts : Counts) (by : ℕ) (from : Lane) (own : Bool) (grant : ℕ)

@@ -61,7 +61,7 @@ not_it ops n m it op at isnt is ready here =
     let same_op : op ≡ it = found_same op it (sym is ∙ ap (op_at ops) (sym here) ∙ at) in
     true≢false (sym ready ∙ ap (λ (o : Op). is_ready o.phase) same_op ∙ isnt)
 
-keeps_completed : (n : ℕ) (p : Phase) (ops : List Op) (it : Op) → op_at ops n ≡ Some it → is_ready it.phase ≡ false →
+pub keeps_completed : (n : ℕ) (p : Phase) (ops : List Op) (it : Op) → op_at ops n ≡ Some it → is_ready it.phase ≡ false →
     Keeps ops (with_phase n p ops)
 keeps_completed n p ops it at isnt m op is ready =
     at-changed n m (λ o. p) ops op (λ (here : n ≡ m). absurd (not_it ops n m it op at isnt is ready here)) is

@@ -3,7 +3,7 @@ use Rattle.std.proofs.Common.{arith, ap, refl, subst, sym, ◌∙◌, ⊎_elim}
 use Rattle.std.proofs.lemmas.Bool.{cases_lt}
 use Rattle.std.proofs.lemmas.Bool.{true≢false}
 use Rattle.std.proofs.lemmas.List.{get_or-replicate, get_or_past, length-replicate}
-use Rattle.std.specs.Prelude.{◌≡◌, ◌<◌, ◌≤◌, ℕ, ◌+◌, zero, suc, true, false, List, [], ◌∷◌, ◌++◌, None, Some, map, replicate}
+use Rattle.std.specs.Prelude.{◌≡◌, ◌<◌, ◌≤◌, ℕ, ◌+◌, ◌^◌, zero, suc, false, List, [], ◌∷◌, ◌++◌, None, Some, map, replicate, true}
 use Rattle.std.specs.List.{slice_index_or}
 use Rattle.io_rules.specs.declared.limits.Limits.{Limits}
 use Rattle.io_rules.specs.declared.request.Marks.{Marks}
@@ -92,11 +92,12 @@ waits_first marks limits = record {
   room = omega arith;
 }
 
-pub streams_first : {H : Type 0} (marks : H → Marks) (limits : Limits) →
+pub streams_first : {H : Type 0} (marks : H → Marks) (limits : Limits) → limits.streams < 2 ^ 32 →
     ShowsStreams marks limits (no_streams limits.streams limits.operations) (first_state limits)
-streams_first marks limits = record {
+streams_first marks limits small = record {
   streams_are = refl;
   places = length-replicate limits.streams new_stream ∙ sym (length-replicate limits.streams new_place);
+  few = subst (λ n. n < 2 ^ 32) (sym (length-replicate limits.streams new_stream)) small;
   each = tt;
   all = sym (none_first limits.streams);
   room = omega arith;

@@ -1,13 +1,20 @@
 pub mod AbortingLemmas
+pub mod AbsentLemmas
 pub mod AcceptedLemmas
+pub mod AtOnceLemmas
 pub mod AwaitedLemmas
+pub mod BackLemmas
+pub mod BackedLemmas
 pub mod BegunLemmas
 pub mod CalledLemmas
+pub mod CameLemmas
 pub mod CancelledLemmas
 pub mod ComeLemmas
 pub mod CompletedLemmas
 pub mod CompletedSpaceLemmas
 pub mod CountedLemmas
+mod CurrentLemmas
+pub mod DoneAtOnceLemmas
 pub mod DroppedLemmas
 pub mod EndedLemmas
 pub mod EntryLemmas
@@ -17,17 +24,35 @@ pub mod ForgottenLemmas
 pub mod FreedLemmas
 pub mod GatheredLemmas
 pub mod GivenLemmas
+pub mod GoesOnLemmas
+pub mod HandedLemmas
 pub mod IdleLemmas
+mod KnownLemmas
+pub mod LeaveBackLemmas
+pub mod LeavingLemmas
 pub mod LeftLemmas
+pub mod LeftOpLemmas
 pub mod LeftStreamsLemmas
 pub mod LeftWaitsLemmas
+pub mod LinkedLemmas
 pub mod ListedLemmas
 pub mod MadeLemmas
+pub mod OnlyLemmas
+mod OpenedLemmas
+pub mod OverLemmas
 pub mod PassedLemmas
+pub mod PlacedLemmas
 pub mod PostedLemmas
 pub mod ReadyLemmas
 pub mod RefusedLemmas
+mod ReservedLemmas
+pub mod ReturnableLemmas
+pub mod ReturnedLemmas
 pub mod SectionLemmas
+pub mod ServedLemmas
+pub mod ServingLemmas
+pub mod SettledAtOnceLemmas
+pub mod SettledLemmas
 pub mod SortedLemmas
 pub mod SpaceLemmas
 pub mod SpareLemmas
@@ -41,4 +66,10 @@ pub mod TimerLemmas
 pub mod TimerMadeLemmas
 pub mod TimingLemmas
 pub mod ToldLemmas
+pub mod TransferLemmas
+pub mod TransferredLemmas
+pub mod TransferringLemmas
+pub mod TriedLemmas
+mod UnusedLemmas
+pub mod VacatedLemmas
 pub mod WaitsLemmas

@@ -44,7 +44,7 @@ use Rattle.io_scheduler.proofs.PostedLemmas.{posted_op}
 use Rattle.io_scheduler.proofs.ReadyLemmas.{at_new, changed_new}
 
 -- what is settled by its call
-abbrev refused_op : ℕ → Lane → Operation → Marks → Op
+abbrev pub refused_op : ℕ → Lane → Operation → Marks → Op
 refused_op n on kind marks = record {
   number = n;
   lane = on;
@@ -54,7 +54,7 @@ refused_op n on kind marks = record {
   phase = phase.Settled code.Bad 0;
 }
 
-abbrev gone_state : ℕ → ℕ → Lane → Op → ContextState → ContextState
+abbrev pub gone_state : ℕ → ℕ → Lane → Op → ContextState → ContextState
 gone_state n by on new s = record s {
   next = s.next + 1;
   promised = s.promised - 1;
@@ -93,10 +93,10 @@ done_for o n s =
       streams = streams_left n (target_of (kind_of o)) s.streams;
     })))
 
-abbrev left_settled : ℕ → List ℕ → List ℕ
+abbrev pub left_settled : ℕ → List ℕ → List ℕ
 left_settled n settled = others_than n settled ++ [] ++ [] ++ []
 
-abbrev left_waits : ℕ → List Wait → List Wait
+abbrev pub left_waits : ℕ → List Wait → List Wait
 left_waits n waits = filter (λ wait. not (wait.op == n)) waits
 
 abbrev done_state : ℕ → Lane → ContextState → ContextState
@@ -119,7 +119,7 @@ after_refused : (n : ℕ) (on : Lane) (kind : Operation) (marks : Marks) (s : Co
     op_at s.ops n ≡ Some (refused_op n on kind marks) → after (event.Done n code.Bad 0) s ≡ done_state n on s
 after_refused n on kind marks s is at = ap (λ (o : Option Op). done_for o n s) at ∙ done_offered n on kind marks s is
 
-refused_there : (n by : ℕ) (on : Lane) (kind : Operation) (marks : Marks) (s : ContextState) → AreBelow n s.ops →
+pub refused_there : (n by : ℕ) (on : Lane) (kind : Operation) (marks : Marks) (s : ContextState) → AreBelow n s.ops →
     op_at (gone_state n by on (refused_op n on kind marks) s).ops n ≡ Some (refused_op n on kind marks)
 refused_there n by on kind marks s below =
     at_new (place_given_by (Some by) s.ops) (refused_op n on kind marks)
@@ -144,7 +144,7 @@ may_be_refused n by on kind marks given s is any going none below =
     })
 
 -- the state behind both events
-abbrev refused_with : ℕ → ℕ → ContextState → List Op → List StrandState → ContextState
+abbrev pub refused_with : ℕ → ℕ → ContextState → List Op → List StrandState → ContextState
 refused_with n by s ops strands = record s {
   next = s.next + 1;
   promised = s.promised - 1;
@@ -184,7 +184,7 @@ behind_refused n by on kind marks given s is any below =
     ∙ ap (refused_with n by s (place_given_by (Some by) s.ops ++ posted_op n to kind marks code.Bad ∷ []))
     (ready_tied to n s.strands)
 
-none_settled : (n : ℕ) → left_settled n ([] ++ (n ∷ []) ++ []) ≡ []
+pub none_settled : (n : ℕ) → left_settled n ([] ++ (n ∷ []) ++ []) ≡ []
 none_settled n = ap (λ b. (if not b then n ∷ [] else []) ++ [] ++ [] ++ []) (same n)
 
 -- what is kept behind both

@@ -1,7 +1,7 @@
 -- What leaves the operations that are pending on streams: what is kept of them shows the state behind it.
 use Rattle.std.proofs.Common.{ap, refl, subst, sym, ◌∙◌}
 use Rattle.std.proofs.lemmas.List.{append-nil}
-use Rattle.std.specs.Prelude.{◌≡◌, ◌≤◌, ℕ, ◌==◌, nat_le, cond, not, Bool, true, false, List, [], ◌∷◌, ◌++◌, Option, Some, None, filter, length, map, slice_get, take, if◌then◌else◌}
+use Rattle.std.specs.Prelude.{◌≡◌, ◌<◌, ◌≤◌, ◌^◌, ℕ, ◌==◌, nat_le, cond, not, Bool, true, false, List, [], ◌∷◌, ◌++◌, Option, Some, None, filter, length, map, slice_get, take, if◌then◌else◌}
 use Rattle.asio_types.specs.declared.code.Code.{Code}
 use Rattle.asio_types.specs.declared.code.Code.TheVariants as code
 use Rattle.io_rules.specs.declared.event.Event.{Event}
@@ -79,6 +79,7 @@ module _ {H : Type 0} (marks : H → Marks) (limits : Limits) (streams : StreamL
   streams_still stays = record {
     streams_are = shows.streams_are ∙ sym stays.streams;
     places = ap length stays.streams ∙ shows.places ∙ sym stays.places;
+    few = subst (λ states. length states < 2 ^ 32) (sym stays.streams) shows.few;
     each = still marks s new streams.ops stays shows.each;
     all = shows.all ∙ sym (ap on_streams stays.streams);
     room = shows.room;

@@ -2,7 +2,8 @@
 use Rattle.std.proofs.Common.{arith, ap, refl, subst, sym, ◌∙◌}
 use Rattle.std.proofs.lemmas.Bool.{ltb-true, true≢false}
 use Rattle.std.specs.Prelude.{◌≡◌, ◌<◌, ◌≤◌, ℕ, ◌+◌, ◌==◌, ◌&&◌, not, Bool, true, false, List, [], ◌∷◌, ◌++◌, replicate, suc, zero, Option, Some, None, length, map, nat_lt}
-use Rattle.std.specs.List.{list_all}
+use Rattle.std.specs.List.{list_all, slice_index_or, slice_set}
+use Rattle.std.proofs.lemmas.List.Sums.{sum_by-set}
 use Rattle.asio_types.specs.declared.code.Code.{Code}
 use Rattle.asio_types.specs.declared.code.Code.TheVariants as code
 use Rattle.io_rules.specs.declared.control.Control.{Control}
@@ -24,9 +25,10 @@ use Rattle.io_rules.specs.declared.spares.Spares.{Spares}
 use Rattle.io_rules.specs.Calls.{is_lane_gone}
 use Rattle.io_rules.specs.Changes.{is_out, streams_changed}
 use Rattle.io_rules.specs.Executions.{MayBegin, MayEnd}
+use Rattle.io_rules.specs.Completing.{streams_left}
 use Rattle.io_rules.specs.Legal.{after}
 use Rattle.io_rules.specs.Ops.{is_ready, is_running, op_at, with_phase}
-use Rattle.io_rules.specs.Operations.{is_posting}
+use Rattle.io_rules.specs.Operations.{Target, is_posting}
 use Rattle.io_rules.specs.Room.{most_numbers, numbers_left, one_if, place_given, place_given_by}
 use Rattle.io_rules.specs.State.{ContextState, StreamState, TimerState, first_state, new_stream}
 use Rattle.io_rules.specs.Timers.{earliest}
@@ -49,15 +51,18 @@ use Rattle.io_scheduler.specs.Expired.{wait_done}
 use Rattle.io_handlers.specs.Initiated.{is_offered_kind}
 use Rattle.io_scheduler.specs.Called.{is_any_gone, lane_left}
 use Rattle.io_scheduler.specs.Posted.{posting}
+use Rattle.io_scheduler.specs.Settling.{op_done}
 use Rattle.io_scheduler.specs.Shown.{AreBelow}
+use Rattle.io_scheduler.proofs.AcceptedLemmas.{accepted_with, pending_op}
 use Rattle.io_scheduler.proofs.CalledLemmas.{state_called}
+use Rattle.io_scheduler.proofs.GivenLemmas.{given_state}
 use Rattle.io_scheduler.proofs.IdleLemmas.{idles, incomplete_total}
 use Rattle.io_scheduler.proofs.PostedLemmas.{after_posting, called_state, outside_last, posted_op}
 use Rattle.io_scheduler.proofs.RefusedLemmas.{behind_refused}
 use Rattle.io_scheduler.proofs.SpaceLemmas.{three}
 use Rattle.io_scheduler.proofs.StreamingLemmas.{in_first, none_first, none_shown}
-use Rattle.io_scheduler.specs.Streaming.{none_out, on_sides, on_streams, out_in}
-use Rattle.io_scheduler.specs.Tallied.{IsTally, is_at_rest, is_idle, rests, running_in, tally_begun, tally_called, tally_ended, waiting_in}
+use Rattle.io_scheduler.specs.Streaming.{none_out, on_streams, out_in, on_sides}
+use Rattle.io_scheduler.specs.Tallied.{IsTally, is_at_rest, is_idle, rests, running_in, tally_begun, tally_called, tally_completed, tally_ended, waiting_in, tally_pended}
 use Rattle.io_scheduler.specs.Waits.{ShowsWaits, incomplete_in}
 use Rattle.io_scheduler.specs.Running.{HeldOp}
 
@@ -157,6 +162,19 @@ tally_pushed t s new by it tally ready ops next streams =
     ready_idle (phase.Settled code size) is = absurd (true≢false (sym is))
     ready_idle (phase.Running own grant spares) is = absurd (true≢false (sym is))
 
+-- a handler gives a place away
+pub tally_given : (t : Tally) (s : ContextState) (by : ℕ) → IsTally t s → IsTally t (given_state by s)
+tally_given t s by tally =
+    let waiting = tally.waiting ∙ waiting_total s.ops in let running = tally.running ∙ running_total s.ops in
+    let few = tally.few in let many = length_total s.ops in let more = length_total (place_given_by (Some by) s.ops) in
+    let w = kept_by waits in let x = kept_by executes in let o = kept_by one in
+    moved t s (given_state by s) t tally (omega (arith, waiting, w)) (omega (arith, running, x))
+    (omega (arith, many, more, o, few)) refl refl refl
+  where
+    kept_by : (h : ℕ → Lane → Stage → ℕ) →
+        total (staged h) (place_given_by (Some by) s.ops) ≡ total (staged h) s.ops
+    kept_by h = kept_of h (Some by) (λ op. place_given op.phase) (λ op. give_keeps op.phase) s.ops
+
 pub tally_posts : (t : Tally) (s : ContextState) (n : ℕ) (on : Lane) (kind : Operation) (marks : Marks) → IsTally t s →
     is_posting kind ≡ true → IsTally (tally_called t) (after (event.Called n None (posting on kind marks) gone.Nothing) s)
 tally_posts t s n on kind marks tally posts =
@@ -218,6 +236,34 @@ tally_waits t s n by on timer marks tally =
         total-push (staged h) (place_given_by by s.ops) it
         ∙ ap (λ n. n + staged h it) (kept_of h by (λ op. place_given op.phase) (λ op. give_keeps op.phase) s.ops)
 
+-- an operation of a stream is accepted
+pub tally_transfers : (t : Tally) (s : ContextState) (on : Lane) (kind : Operation) (marks : Marks) (settled : List ℕ)
+    (waits_behind : List Wait) (place : ℕ) (stream : StreamState) → IsTally t s → place < length s.streams →
+    on_sides stream ≡ on_sides (slice_index_or s.streams place new_stream) + 1 →
+    stream.out ≡ (slice_index_or s.streams place new_stream).out →
+    IsTally (tally_pended t)
+    (accepted_with s.next on kind marks settled waits_behind (slice_set s.streams place stream) s)
+tally_transfers t s on kind marks settled waits_behind place stream tally within more same =
+    let new = accepted_with s.next on kind marks settled waits_behind (slice_set s.streams place stream) s in
+    let it = pending_op s.next on kind marks in
+    let waiting = tally.waiting ∙ waiting_total s.ops in let running = tally.running ∙ running_total s.ops in
+    let new_waiting = waiting_total new.ops in let new_running = running_total new.ops in
+    let many = length_total s.ops in let longer = length_total new.ops in let few = tally.few in
+    let w = total-push (staged waits) s.ops it in let x = total-push (staged executes) s.ops it in
+    let o = total-push (staged one) s.ops it in
+    let streaming = tally.streaming in
+    let sides = sum_by-set on_sides s.streams place stream new_stream within in
+    let out = tally.out in
+    let outs = sum_by-set (λ (st : StreamState). one_if (is_out st.out)) s.streams place stream new_stream within in
+    let as_before = ap (λ side. one_if (is_out side)) same in
+    record {
+      waiting = omega (arith, waiting, w, new_waiting);
+      running = omega (arith, running, x, new_running);
+      streaming = omega (arith, streaming, sides, more);
+      out = omega (arith, out, outs, as_before);
+      few = omega (arith, many, longer, o, few);
+    }
+
 -- one that hadn't completed does
 pub tally_completes : (t : Tally) (s : ContextState) (n : ℕ) (given : Code) (on : Lane) (it : Op) → IsTally t s →
     op_at s.ops n ≡ Some it → stage_of it.phase ≡ Idle → IsTally (tally_called t) (wait_done n given on s)
@@ -236,6 +282,44 @@ tally_completes t s n given on it tally is idle =
         subst (λ stage. total (staged h) (with_phase n (phase.Ready given 0) s.ops) + h it.number it.lane stage
         ≡ total (staged h) s.ops + h it.number it.lane Prepared) idle
         (total-changed (staged h) n (λ o. phase.Ready given 0) s.ops it is)
+
+-- one that was pending on a stream does
+pub tally_leaves : (t : Tally) (s : ContextState) (n : ℕ) (given : Code) (size : ℕ) (on : Lane) (target : Target) (it : Op) →
+    IsTally t s → op_at s.ops n ≡ Some it → stage_of it.phase ≡ Idle →
+    on_streams (streams_left n (Some target) s.streams) + 1 ≡ on_streams s.streams →
+    out_in (streams_left n (Some target) s.streams) ≡ out_in s.streams →
+    IsTally (tally_completed t) (op_done n given size on target s)
+tally_leaves t s n given size on target it tally is idle fewer out =
+    let new = op_done n given size on target s in
+    let waiting = tally.waiting ∙ waiting_total s.ops in let running = tally.running ∙ running_total s.ops in
+    let many = length_total s.ops in let more = length_total new.ops in let few = tally.few in
+    let w = come waits in let x = come executes in let o = come one in
+    let streaming = tally.streaming in
+    let now = waiting_total new.ops in let runs = running_total new.ops in
+    record {
+      waiting = omega (arith, waiting, w, now);
+      running = omega (arith, running, x, runs);
+      streaming = omega (arith, streaming, fewer);
+      out = tally.out ∙ sym out;
+      few = omega (arith, many, more, o, few);
+    }
+  where
+    come : (h : ℕ → Lane → Stage → ℕ) →
+        total (staged h) (with_phase n (phase.Ready given size) s.ops) + h it.number it.lane Idle
+        ≡ total (staged h) s.ops + h it.number it.lane Prepared
+    come h =
+        subst (λ stage. total (staged h) (with_phase n (phase.Ready given size) s.ops) + h it.number it.lane stage
+        ≡ total (staged h) s.ops + h it.number it.lane Prepared) idle
+        (total-changed (staged h) n (λ o. phase.Ready given size) s.ops it is)
+
+-- where none comes to another stage
+pub tally_same_stages : (t : Tally) (s new : ContextState) → IsTally t s →
+    ((h : ℕ → Lane → Stage → ℕ) → total (staged h) new.ops ≡ total (staged h) s.ops) → new.next ≡ s.next →
+    new.streams ≡ s.streams → IsTally t new
+tally_same_stages t s new tally alike next streams =
+    let many = length_total s.ops in let more = length_total new.ops in let few = tally.few in let o = alike one in
+    moved t s new t tally (tally.waiting ∙ waiting_total s.ops ∙ sym (alike waits))
+    (tally.running ∙ running_total s.ops ∙ sym (alike executes)) (omega (arith, many, more, few, o, next)) streams refl refl
 
 -- there is a number for it
 pub tally_incomplete : (t : Tally) (s : ContextState) (n : ℕ) (it : Op) → IsTally t s → op_at s.ops n ≡ Some it →

@@ -1,5 +1,6 @@
 pub mod Aborting
 pub mod Accepted
+pub mod Back
 pub mod Begun
 pub mod Called
 pub mod Come
@@ -10,11 +11,14 @@ pub mod Entered
 pub mod Expired
 pub mod Holding
 pub mod Left
+pub mod Opened
 pub mod Outside
 pub mod Posted
 pub mod Ready
+pub mod Returned
 pub mod Running
 pub mod Sections
+pub mod Settling
 pub mod Shown
 pub mod Staged
 pub mod Steps
@@ -25,4 +29,7 @@ pub mod Taken
 pub mod Tallied
 pub mod Timing
 pub mod Told
+pub mod Transferred
+pub mod Tried
+pub mod Vacated
 pub mod Waits

@@ -1,11 +1,8 @@
 -- What a handler staged while it executed takes effect in the order of its calls, and then it has ended.
 use Rattle.std.specs.Prelude.{◌≡◌, ◌+◌, ℕ, List, [], ◌∷◌, Option, None, Some, min}
-use Rattle.asio_types.specs.declared.code.Code.TheVariants as code
 use Rattle.io_rules.specs.declared.control.Control.TheVariants as control
 use Rattle.io_rules.specs.declared.event.Event.{Event}
 use Rattle.io_rules.specs.declared.event.Event.TheVariants as event
-use Rattle.io_rules.specs.declared.request.Gone.{Gone}
-use Rattle.io_rules.specs.declared.request.Gone.TheVariants as gone
 use Rattle.io_rules.specs.declared.request.Marks.{Marks}
 use Rattle.io_rules.specs.declared.request.Request.{Request}
 use Rattle.io_rules.specs.declared.spares.Spares.{Spares}
@@ -18,16 +15,14 @@ use Rattle.io_handlers.specs.Initiated.{request_of}
 use Rattle.io_scheduler.specs.Come.{MayCome, behind, changes}
 use Rattle.io_scheduler.specs.Ended.{mark_of}
 use Rattle.io_scheduler.specs.Running.{Execution}
+use Rattle.io_scheduler.specs.Transferred.{code_at_once, done_if}
 
--- what names something gone completes at once
-abbrev pub done_at_once : ℕ → Gone → List Event
-done_at_once op gone.Nothing = []
-done_at_once op _ = event.Done op code.Bad 0 ∷ []
-
+-- the call, and the completion if it completes at once: where something that it names is gone, or as an
+-- operation on a stream does
 abbrev pub called_by : ℕ → Request → ContextState → List Event
 called_by by request s =
     event.Called s.next (Some by) request (gone_of s request)
-    ∷ done_at_once s.next (gone_of s request)
+    ∷ done_if s.next (code_at_once s request.kind (gone_of s request))
 
 -- what the clock shows; where it can't be read, what it showed last
 abbrev pub reading_or : Option ℕ → ContextState → ℕ

@@ -1,6 +1,6 @@
 -- Which operations are pending on streams, with their handlers and buffers, shows what is pending there in the
 -- state of the history (Asio reference, basic_stream_socket, basic_socket_acceptor).
-use Rattle.std.specs.Prelude.{◌≡◌, ℕ, ◌+◌, true, List, [], ◌∷◌, Some, None, length}
+use Rattle.std.specs.Prelude.{◌≡◌, ◌<◌, ℕ, ◌+◌, ◌^◌, true, List, [], ◌∷◌, Some, None, length}
 use Rattle.io_rules.specs.declared.limits.Limits.{Limits}
 use Rattle.io_rules.specs.declared.name.Name.{Name}
 use Rattle.io_rules.specs.declared.op.Op.{Op}
@@ -48,6 +48,7 @@ pub record ShowsStreams {H : Type 0} (marks : H → Marks) (limits : Limits) (st
     (s : ContextState) : Type 0 where
   pub streams_are : streams.streams ≡ s.streams
   pub places : length s.streams ≡ length s.names.streams
+  pub few : length s.streams < 2 ^ 32
   pub each : AreStreaming marks s.ops streams.ops
   -- nothing else is pending on a stream
   pub all : length streams.ops ≡ on_streams s.streams

@@ -42,8 +42,21 @@ pub record IsTally (tally : Tally) (s : ContextState) : Type 0 where
 abbrev pub tally_called : Tally → Tally
 tally_called t = record t { waiting = t.waiting + 1 }
 
+abbrev pub tally_pended : Tally → Tally
+tally_pended t = record t { streaming = t.streaming + 1 }
+
 abbrev pub tally_begun : Tally → Tally
 tally_begun t = record t { waiting = t.waiting - 1; running = t.running + 1 }
 
 abbrev pub tally_ended : Tally → Tally
 tally_ended t = record t { running = t.running - 1 }
+
+abbrev pub tally_out : Tally → Tally
+tally_out t = record t { out = t.out + 1 }
+
+-- one more waits for its handler's execution, and no longer on a stream
+abbrev pub tally_completed : Tally → Tally
+tally_completed t = record t { waiting = t.waiting + 1; streaming = t.streaming - 1 }
+
+abbrev pub tally_back : Tally → Tally
+tally_back t = record t { out = t.out - 1 }

@@ -3,11 +3,11 @@ ghost use Rattle.io_rules.specs.declared.control.Control.TheVariants as control;
 ghost use Rattle.io_rules.specs.declared.event.Event.TheVariants as event;
 ghost use Rattle.io_rules.specs.declared.operation.Operation.TheVariants as operation;
 ghost use Rattle.io_rules.specs.declared.request.Gone.TheVariants as gone;
-ghost use Rattle.io_rules.specs.Calls.{is_timer_gone};
+ghost use Rattle.io_rules.specs.Calls.{gone_of, is_timer_gone};
 ghost use Rattle.io_rules.specs.Legal.{IsLegal, IsStep, MayHappen, state_of};
 ghost use Rattle.io_rules.specs.Operations.{is_posting, timer_of};
 ghost use Rattle.io_rules.specs.Strands.{entry_of_dispatch, entry_of_kind, is_same_strand};
-ghost use Rattle.io_handlers.specs.Initiated.{is_offered_kind};
+ghost use Rattle.io_handlers.specs.Initiated.{is_initiated, is_offered_kind};
 ghost use Rattle.io_names.specs.Tables.{names_of};
 ghost use Rattle.io_scheduler.specs.Accepted.{waiting_on};
 ghost use Rattle.io_scheduler.specs.Called.{gone_for, is_any_gone, lane_left};
@@ -88,7 +88,7 @@ fn what_is_gone(names: &NameTables, lane: Lane, kind: Operation) -> Gone
 }
 
 /// Where the handler of an operation executes, of which this is gone.
-fn lane_left(lane: Lane, given: Gone) -> Lane
+pub(crate) fn lane_left(lane: Lane, given: Gone) -> Lane
     ensures { result ≡ lane_left lane given }
 {
     match given {
@@ -98,7 +98,7 @@ fn lane_left(lane: Lane, given: Gone) -> Lane
 }
 
 /// A handler that executes initiates an operation, and gives one of its places to it.
-fn begin_call<H: Handler, C: Named>(
+pub(crate) fn begin_call<H: Handler, C: Named>(
     table: &HistoryTable,
     keeper: &mut Keeper<C>,
     counts: &mut Counts,
@@ -112,8 +112,8 @@ fn begin_call<H: Handler, C: Named>(
     requires none { keeper.old.held ≡ None }
     requires counts { counts.old ≡ counts_of (state_of C.limits keeper.old.past) }
     requires going { (state_of C.limits keeper.old.past).finishing ≡ false }
-    requires offered { is_offered_kind kind ≡ true }
-    requires given { given ≡ gone_for (state_of C.limits keeper.old.past).names lane kind }
+    requires offered { is_initiated kind ≡ true }
+    requires given { given ≡ gone_of (state_of C.limits keeper.old.past) (posting lane kind (H.marks handler.now)) }
     requires place { 0 < running.places }
     ensures may { MayHappen (state_of C.limits keeper.old.past)
         (event.Called counts.old.next (Some running.op) (posting lane kind (H.marks handler.now)) given) }
@@ -150,8 +150,8 @@ fn begin_call<H: Handler, C: Named>(
 }
 
 impl<H: Handler, C: Named> Scheduler<H, C> {
-    /// A handler that executes initiates an operation, which completes at once where something that it names
-    /// is gone.
+    /// A handler that executes posts another one, or waits, which completes at once where something that it
+    /// names is gone.
     pub(crate) fn call_by(
         &mut self,
         table: &HistoryTable,

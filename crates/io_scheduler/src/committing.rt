@@ -6,7 +6,7 @@ ghost use Rattle.io_scheduler.specs.Staged.{AreStaged, GoesOn, IsCommitted, late
 use crate::running::Running;
 use crate::scheduler::Scheduler;
 use crate::timing::TimerChange;
-use io_handlers::{Handler, Initiating, Staged, Staging};
+use io_handlers::{Handler, Staged, Staging};
 use io_history::{HistoryTable, Named};
 use io_rules::Control;
 
@@ -70,15 +70,7 @@ impl<H: Handler, C: Named> Scheduler<H, C> {
                 let at = later_by(now, after);
                 self.change_timer_by(table, running, timer, TimerChange::ExpiresAt { at })
             }
-            Staged::Called(call) => {
-                let Initiating {
-                    lane,
-                    binding: _,
-                    kind,
-                    handler,
-                } = call;
-                self.call_by(table, running, lane, kind, handler)
-            }
+            Staged::Called(call) => self.initiate_by(table, running, call),
         }
     }
 

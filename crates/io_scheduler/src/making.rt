@@ -1,4 +1,4 @@
-ghost use Rattle.std.specs.Prelude.{◌≡◌, ℕ, false, IfOk, replicate};
+ghost use Rattle.std.specs.Prelude.{◌≡◌, ◌<◌, ◌^◌, ℕ, false, IfOk, replicate};
 ghost use Rattle.io_strands.specs.Cell.{is_there, vacant};
 ghost use Rattle.io_jobs.specs.Listed.{no_jobs};
 ghost use Rattle.io_timers.specs.Pending.{no_waits};
@@ -11,6 +11,13 @@ use io_rules::Limits;
 use io_strands::{ReadyOp, Strand};
 use io_timers::Timers;
 use std::alloc::Global;
+
+/// So many places are fewer than 2^32. Runs nothing.
+pub(crate) fn hold_few(places: u32)
+    ensures { places < 2 ^ 32 }
+{
+    let _places = places;
+}
 
 /// So many places for strands, each with room for so many ready operations.
 pub(crate) fn make_strands<H, S>(

@@ -2,7 +2,7 @@ ghost use Rattle.std.specs.Prelude.{◌≡◌, [], IfOk, None};
 ghost use Rattle.io_rules.specs.State.{first_state};
 
 use crate::counts::Counts;
-use crate::making::make_parts;
+use crate::making::{hold_few, make_parts};
 use crate::streaming::Streaming;
 use crate::tally::Tally;
 use crate::waiting::Waiting;
@@ -70,6 +70,7 @@ impl<H: Handler, C: Named> Scheduler<H, C> {
         let Ok(names) = NameTables::make(alloc, &limits) else {
             return Err(keeper);
         };
+        hold_few(limits.streams);
         let Ok(streams) = Streams::make(alloc, limits.streams, limits.operations) else {
             return Err(keeper);
         };

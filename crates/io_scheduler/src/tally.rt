@@ -1,5 +1,5 @@
 ghost use Rattle.std.specs.Prelude.{◌≡◌, ◌+◌, ◌<◌, false, true};
-ghost use Rattle.io_scheduler.specs.Tallied.{rests, tally_begun, tally_called, tally_ended};
+ghost use Rattle.io_scheduler.specs.Tallied.{rests, tally_back, tally_begun, tally_called, tally_completed, tally_ended, tally_out, tally_pended};
 
 /// How many operations there are.
 #[derive(Clone, Copy)]
@@ -35,6 +35,14 @@ impl Tally {
         self.waiting += 1;
     }
 
+    /// One more is pending on a stream.
+    pub(crate) fn pend(&mut self)
+        requires { self.old.streaming < 18446744073709551615 }
+        ensures { self.new ≡ tally_pended self.old }
+    {
+        self.streaming += 1;
+    }
+
     /// One that waited begins.
     pub(crate) fn begin(&mut self)
         requires { self.old.running < 18446744073709551615 }
@@ -49,6 +57,30 @@ impl Tally {
         ensures { self.new ≡ tally_ended self.old }
     {
         self.running = self.running.saturating_sub(1);
+    }
+
+    /// One that was pending on a stream has completed.
+    pub(crate) fn complete(&mut self)
+        requires { self.old.waiting < 18446744073709551615 }
+        ensures { self.new ≡ tally_completed self.old }
+    {
+        self.waiting += 1;
+        self.streaming = self.streaming.saturating_sub(1);
+    }
+
+    /// One more socket is in a system call.
+    pub(crate) fn go_out(&mut self)
+        requires { self.old.out < 18446744073709551615 }
+        ensures { self.new ≡ tally_out self.old }
+    {
+        self.out += 1;
+    }
+
+    /// One is back from its system call.
+    pub(crate) fn come_in(&mut self)
+        ensures { self.new ≡ tally_back self.old }
+    {
+        self.out = self.out.saturating_sub(1);
     }
 
     /// Whether none is left, but for waits that are pending.

@@ -6,6 +6,8 @@ use Rattle.io_rules.specs.declared.request.Gone.TheVariants as gone
 use Rattle.io_rules.specs.Legal.{state_of}
 use Rattle.io_names.specs.Tables.{names_of}
 use Rattle.io_scheduler.specs.Accepted.{waiting_on}
+use Rattle.io_rules.proofs.TotalLemmas.{same}
+use Rattle.io_scheduler.proofs.ToldLemmas.{call_told}
 use Rattle.io_scheduler.proofs.AcceptedLemmas.{may_be_accepted, may_parts, wait_last, wait_pending, wait_shown, wait_some, wait_tied, wait_within}
 use Rattle.io_scheduler.proofs.accepting.accept_wait.Goals as goal
 
@@ -87,3 +89,8 @@ returns-clause-after g c =
     c.note_waiting-section.ensures.after
     ∙ ap (λ k. event.Called c.args.counts.now.next None
     (waiting_on c.args.lane c.args.timer (g.H.Handler.marks c.args.handler)) gone.Nothing ∷ k.past) c.learn.ensures.same
+
+pub invariant_of-result : goal.invariant_of-result
+invariant_of-result g c = record {
+  called = call_told _ _ _ _ c.note_waiting-section.ensures.after (same c.args.counts.now.next);
+}

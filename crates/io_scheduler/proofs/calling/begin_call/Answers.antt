@@ -38,7 +38,7 @@ give_out-claim-requires-clause-some g c =
     let held = held_calling (state_of g.C.Named.limits c.args.keeper.now.past) c.args.counts.now.next c.running.inside.op
     c.running.inside.lane c.args.lane c.args.kind (g.H.Handler.marks c.args.handler.now) c.args.given c.running.inside.own
     c.running.inside.grant c.running.inside.spares c.running.inside.claim.held c.note_called.new.keeper.held
-    c.requires.offered c.running.invariant it
+    c.running.invariant it
     (rw (c.learn.ensures.same, c.take_back.ensures.past, c.take_back.ensures.held) at c.note_called.ensures.held) in
     held.some
 
@@ -50,7 +50,7 @@ invariant_of-result g c =
     let held = held_calling (state_of g.C.Named.limits c.args.keeper.now.past) c.args.counts.now.next c.running.inside.op
     c.running.inside.lane c.args.lane c.args.kind (g.H.Handler.marks c.args.handler.now) c.args.given c.running.inside.own
     c.running.inside.grant c.running.inside.spares c.running.inside.claim.held c.give_out-claim.result.held
-    c.requires.offered c.running.invariant it
+    c.running.invariant it
     (c.give_out-claim.ensures.held
     ∙ rw (c.learn.ensures.same, c.take_back.ensures.past, c.take_back.ensures.held) at c.note_called.ensures.held) in
     rw (c.own_left.ensures, c.saturating_sub.ensures) held.executes
@@ -97,7 +97,7 @@ returns-clause-goes_on g c =
     let held = held_calling (state_of g.C.Named.limits c.args.keeper.now.past) c.args.counts.now.next c.running.inside.op
     c.running.inside.lane c.args.lane c.args.kind (g.H.Handler.marks c.args.handler.now) c.args.given c.running.inside.own
     c.running.inside.grant c.running.inside.spares c.running.inside.claim.held c.give_out-claim.result.held
-    c.requires.offered c.running.invariant it
+    c.running.invariant it
     (c.give_out-claim.ensures.held
     ∙ rw (c.learn.ensures.same, c.take_back.ensures.past, c.take_back.ensures.held) at c.note_called.ensures.held) in
     rw (← c.running.view_is)

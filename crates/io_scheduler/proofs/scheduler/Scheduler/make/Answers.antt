@@ -20,5 +20,5 @@ invariant_of-result g c = (
   rw (c.in-Ok-make_parts.ensures.timers, ap (λ k. k.past) c.requires.new, c.requires.limits)
       (waits_first g.H.Handler.marks g.C.Named.limits),
   rw (c.in-Ok-make.ensures, ap (λ k. k.past) c.requires.new, c.requires.limits)
-      (streams_first g.H.Handler.marks g.C.Named.limits),
+      (streams_first g.H.Handler.marks g.C.Named.limits (rw c.requires.limits at c.hold_few.ensures)),
 )

@@ -5,6 +5,8 @@ use Rattle.io_rules.specs.declared.request.Gone.TheVariants as gone
 use Rattle.io_rules.specs.Legal.{state_of}
 use Rattle.io_names.specs.Tables.{names_of}
 use Rattle.io_scheduler.specs.Posted.{posting}
+use Rattle.io_rules.proofs.TotalLemmas.{same}
+use Rattle.io_scheduler.proofs.ToldLemmas.{call_told}
 use Rattle.io_scheduler.proofs.PostedLemmas.{may_be_posted, shows_outside}
 use Rattle.io_scheduler.proofs.SpaceLemmas.{posted_space}
 use Rattle.io_scheduler.proofs.SectionLemmas.{notes_one}
@@ -83,3 +85,8 @@ returns-clause-noted g c =
     (posting c.args.lane c.args.kind (g.H.Handler.marks c.args.handler)) gone.Nothing) _ _ c.self.inside.keeper.past
     (rw c.learn.ensures.same at c.note_posted-section.ensures.before)
     (rw c.learn.ensures.same at c.note_posted-section.ensures.after))
+
+pub invariant_of-result : goal.invariant_of-result
+invariant_of-result g c = record {
+  called = call_told _ _ _ _ c.note_posted-section.ensures.after (same c.self.inside.counts.next);
+}

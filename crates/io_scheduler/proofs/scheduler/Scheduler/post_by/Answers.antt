@@ -5,8 +5,8 @@ use Rattle.io_rules.specs.declared.request.Gone.TheVariants as gone
 use Rattle.io_rules.specs.Legal.{after, state_of}
 use Rattle.io_names.specs.Tables.{names_of}
 use Rattle.io_scheduler.specs.Posted.{posting}
-use Rattle.io_scheduler.proofs.CalledLemmas.{all_there, called_space, gone_offered, offered_posting, shows_called}
-use Rattle.io_scheduler.proofs.StagedLemmas.{is_called}
+use Rattle.io_scheduler.proofs.CalledLemmas.{all_there, called_space, gone_offered, initiated_offered, offered_posting, shows_called}
+use Rattle.io_scheduler.proofs.StagedLemmas.{is_called_alone, never_at_once}
 use Rattle.io_scheduler.proofs.StayedLemmas.{stays_called, waits_stay}
 use Rattle.io_scheduler.proofs.StreamedLemmas.{streams_stay}
 use Rattle.io_scheduler.proofs.TallyLemmas.{tally_below, tally_calls}
@@ -18,8 +18,10 @@ begin_call-left-requires g c = record {
   none = c.self.invariant.0;
   counts = c.self.invariant.1.counts_are;
   going = c.self.invariant.1.going;
-  offered = offered_posting c.args.kind c.requires.posting;
-  given = rw (← c.self.view_is) at c.requires.there;
+  offered = initiated_offered c.args.kind (offered_posting c.args.kind c.requires.posting);
+  given = rw (← c.self.view_is) at c.requires.there
+      ∙ gone_offered (state_of g.C.Named.limits c.self.inside.keeper.past) c.args.lane c.args.kind (g.H.Handler.marks c.args.handler)
+      (offered_posting c.args.kind c.requires.posting);
   place = c.requires.place;
 }
 
@@ -74,10 +76,11 @@ returns-clause-called g c =
     let request = posting c.args.lane c.args.kind (g.H.Handler.marks c.args.handler) in
     let next = ap (λ n. n.next) c.self.invariant.1.counts_are in
     rw (← c.self.view_is)
-    (is_called c.args.running.op request gone.Nothing s _
+    (is_called_alone c.args.running.op request gone.Nothing s _
     (rw (← c.self.view_is) at c.requires.there
     ∙ gone_offered s c.args.lane c.args.kind (g.H.Handler.marks c.args.handler)
     (offered_posting c.args.kind c.requires.posting))
-    (rw next at c.begin_call-left.ensures.may, tt)
+    (never_at_once s c.args.kind (offered_posting c.args.kind c.requires.posting))
+    (rw next at c.begin_call-left.ensures.may)
     (ap (state_of g.C.Named.limits) c.begin_call-left.ensures.past
     ∙ ap (λ n. after (event.Called n (Some c.args.running.op) request gone.Nothing) s) next))

@@ -7,7 +7,7 @@ use Rattle.io_names.specs.Tables.{names_of}
 use Rattle.io_scheduler.specs.Called.{lane_left}
 use Rattle.io_scheduler.specs.Posted.{posting}
 use Rattle.io_scheduler.specs.Shown.{AreBelow}
-use Rattle.io_scheduler.proofs.CalledLemmas.{called_space, gone_offered, left_there}
+use Rattle.io_scheduler.proofs.CalledLemmas.{called_space, gone_offered, initiated_offered, left_there}
 use Rattle.io_scheduler.proofs.RefusedLemmas.{may_be_refused, shows_refused}
 use Rattle.io_scheduler.proofs.StagedLemmas.{is_refused}
 use Rattle.io_scheduler.proofs.StayedLemmas.{refused_places, stays_refused, waits_stay}
@@ -21,8 +21,9 @@ begin_call-left-requires g c = record {
   none = c.self.invariant.0;
   counts = c.self.invariant.1.counts_are;
   going = c.self.invariant.1.going;
-  offered = c.requires.offered;
-  given = rw (← c.self.view_is) at c.requires.given;
+  offered = initiated_offered c.args.kind c.requires.offered;
+  given = rw (← c.self.view_is) at c.requires.given
+      ∙ gone_offered (state_of g.C.Named.limits c.self.inside.keeper.past) c.args.lane c.args.kind (g.H.Handler.marks c.args.handler) c.requires.offered;
   place = c.requires.place;
 }
 

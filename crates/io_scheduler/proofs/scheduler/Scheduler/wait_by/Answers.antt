@@ -21,7 +21,8 @@ begin_call-left-requires g c = record {
   counts = c.self.invariant.1.counts_are;
   going = c.self.invariant.1.going;
   offered = refl;
-  given = rw (← c.self.view_is) at c.requires.there;
+  given = rw (← c.self.view_is) at c.requires.there
+      ∙ gone_offered (state_of g.C.Named.limits c.self.inside.keeper.past) c.args.lane (operation.Wait c.args.timer) (g.H.Handler.marks c.args.handler) refl;
   place = c.requires.place;
 }
 

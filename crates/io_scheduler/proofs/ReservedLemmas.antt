@@ -1,0 +1,606 @@
+-- In each legal history the name of a stream that is kept for a handler, or for what an accept makes, is
+-- kept for it alone.
+use Rattle.std.proofs.Common.{arith, ap, refl, subst, sym, ◌∙◌, ⊎_elim}
+use Rattle.std.proofs.lemmas.Bool.{cases_lt, true≢false}
+use Rattle.std.proofs.lemmas.List.{get_or-set_other, get_or-set_same, get_or_past, length-set, set_past}
+use Rattle.std.proofs.lemmas.List.Sums.{sum_by-set}
+use Rattle.std.proofs.lemmas.List.Folds.{sum_by-replicate}
+use Rattle.std.specs.Prelude.{◌≡◌, ◌<◌, ◌≤◌, ℕ, ◌+◌, ◌-◌, ◌==◌, ◌&&◌, not, nat_lt, Bool, true, false, List, [], ◌∷◌, Option, Some, None, length, sum_by, if◌then◌else◌}
+use Rattle.std.specs.List.{slice_index_or, slice_set}
+use Rattle.asio_types.specs.declared.code.Code.{Code}
+use Rattle.asio_types.specs.declared.code.Code.TheVariants as code
+use Rattle.io_rules.specs.declared.control.Control.{Control}
+use Rattle.io_rules.specs.declared.control.Control.TheVariants as control
+use Rattle.io_rules.specs.declared.event.Event.{Event}
+use Rattle.io_rules.specs.declared.event.Event.TheVariants as event
+use Rattle.io_rules.specs.declared.gave.Gave.{Gave}
+use Rattle.io_rules.specs.declared.limits.Limits.{Limits}
+use Rattle.io_rules.specs.declared.name.Kind.{Kind}
+use Rattle.io_rules.specs.declared.name.Kind.TheVariants as kind
+use Rattle.io_rules.specs.declared.name.Name.{Name}
+use Rattle.io_rules.specs.declared.op.Phase.TheVariants as phase
+use Rattle.io_rules.specs.declared.operation.Side.{Side}
+use Rattle.io_rules.specs.declared.operation.Side.TheVariants as side
+use Rattle.io_rules.specs.declared.place.Life.{Life}
+use Rattle.io_rules.specs.declared.place.Life.TheVariants as life
+use Rattle.io_rules.specs.declared.place.Place.{Place}
+use Rattle.io_rules.specs.declared.request.Gone.{Gone}
+use Rattle.io_rules.specs.declared.request.Gone.TheVariants as gone
+use Rattle.io_rules.specs.declared.request.Request.{Request}
+use Rattle.io_rules.specs.declared.spares.Spares.{Spares}
+use Rattle.io_rules.specs.Cancelling.{is_first, ops_cancelled}
+use Rattle.io_rules.specs.Calls.{accepted, caller_lane, first_phase, streams_called, target_if}
+use Rattle.io_rules.specs.Changes.{MayChangeTo, MayMake, has_spare, is_forgotten, is_kept, is_there, names_changed, ops_changed, place_freed, reached, spare_used, streams_changed}
+use Rattle.io_rules.specs.Completing.{after_done, completed, kind_of, side_left, streams_left}
+use Rattle.io_rules.specs.Executions.{granted_more, spares_in, spares_of}
+use Rattle.io_rules.specs.Legal.{IsLegal, after, state_of}
+use Rattle.io_rules.specs.Names.{is_closing, is_current, is_leaving, is_living, is_unused, no_place, place_at, with_life}
+use Rattle.io_rules.specs.Operations.{Target, behind_connect, target_of}
+use Rattle.io_rules.specs.Ops.{is_at, is_ready, is_running, op_at}
+use Rattle.io_rules.specs.Room.{at_op, grant_of, granted_in, more_granted, one_if, place_given, place_given_by}
+use Rattle.io_rules.specs.Serving.{first_of, op_of, served, streams_served, with_queue}
+use Rattle.io_rules.specs.Spares.{MayKeep, first_of_two, is_spare, with_life_of}
+use Rattle.io_rules.specs.declared.op.Op.{Op}
+use Rattle.io_rules.specs.declared.op.Phase.{Phase}
+use Rattle.io_rules.specs.State.{ContextState, StreamState, new_stream, stream_at, with_stream}
+use Rattle.io_rules.specs.Strands.{entry_of}
+use Rattle.io_rules.specs.Tries.{MayReserve, is_accept_of, is_made, may_be_tried, place_closed, place_kept, place_made, stream_back, stream_closed, stream_made}
+use Rattle.io_rules.proofs.KeptLemmas.{spare_at}
+use Rattle.io_rules.proofs.MoveLemmas.{dropping}
+use Rattle.io_rules.proofs.RoomLemmas.{first_calm}
+use Rattle.io_rules.proofs.ShareLemmas.{IsCalm, weighed, weighed-called, weighed-cancelled, weighed-changed, weighed-done, weighed-told, weighed-without}
+use Rattle.io_rules.proofs.StrandLemmas.{both, by_test, same-name}
+use Rattle.io_rules.proofs.TotalLemmas.{apart, equal, found, same, total, total-kept_of}
+
+-- a handler that executes has a name of this place for a stream
+abbrev pub spared : ℕ → ℕ → Phase → ℕ
+spared p n it = spare_at p (spares_in it).stream
+
+-- how many accepts that are under way have a name of this place
+abbrev pub reserved_at : ℕ → List StreamState → ℕ
+reserved_at p streams = sum_by (λ (stream : StreamState). spare_at p stream.reserved) streams
+
+-- and with them the handlers that execute
+abbrev pub keepers : ℕ → ContextState → ℕ
+keepers p s = total (weighed (spared p)) s.ops + reserved_at p s.streams
+
+abbrev pub is_kept_life : Life → Bool
+is_kept_life (life.Kept op) = true
+is_kept_life _ = false
+
+calm_spared : (p : ℕ) → IsCalm (spared p)
+calm_spared p n a b one other = none a one ∙ sym (none b other)
+  where
+    none : (a : Phase) → is_running a ≡ false → spare_at p (spares_in a).stream ≡ 0
+    none (phase.Pending moved cancelled) is = refl
+    none (phase.Settled code size) is = refl
+    none (phase.Ready code size) is = refl
+    none (phase.Running own grant spares) is = absurd (true≢false is)
+
+-- so many have a name of this place, at most one and only while it is kept
+abbrev KeptAt : ℕ → ℕ → List Place → Type 0
+KeptAt p many places = many ≤ one_if (is_kept_life (place_at places p).life)
+
+at_most : (b : Bool) → one_if b ≤ 1
+at_most true = omega arith
+at_most false = omega arith
+
+-- where nothing is kept there is none
+none_kept : (p many : ℕ) (places : List Place) → is_kept_life (place_at places p).life ≡ false → KeptAt p many places →
+    many ≡ 0
+none_kept p many places isnt kept = let none = ap one_if isnt in omega (arith, kept, none)
+
+unused_not : (l : Life) → is_unused l ≡ true → is_kept_life l ≡ false
+unused_not life.Free is = refl
+unused_not (life.Kept op) is = absurd (true≢false (sym is))
+unused_not life.Alive is = refl
+unused_not life.Closing is = refl
+unused_not life.Spent is = refl
+
+living_not : (l : Life) → is_living l ≡ true → is_kept_life l ≡ false
+living_not (life.Kept op) is = absurd (true≢false (sym is))
+living_not life.Free is = refl
+living_not life.Alive is = refl
+living_not life.Closing is = refl
+living_not life.Spent is = refl
+
+closing_not : (l : Life) → is_closing l ≡ true → is_kept_life l ≡ false
+closing_not (life.Kept op) is = absurd (true≢false (sym is))
+closing_not life.Free is = refl
+closing_not life.Alive is = refl
+closing_not life.Closing is = refl
+closing_not life.Spent is = refl
+
+-- a free place is one of them
+pub unused_within : (places : List Place) (n : ℕ) → is_unused (place_at places n).life ≡ true → n < length places
+unused_within places n is =
+    ⊎_elim (λ (lt : n < length places). lt)
+    (λ (le : length places ≤ n).
+    absurd (true≢false (sym is ∙ ap (λ at. is_unused at.life) (get_or_past places n no_place le))))
+    (cases_lt n (length places))
+
+differ : (m n : ℕ) → (m ≡ n → ⊥) → (m == n) ≡ false
+differ m n other = by_test (m == n) (λ is. absurd (other (equal m n is))) (λ isnt. isnt)
+
+-- one place changes: there none is left, or it stays kept
+set_keeps : (p q many new : ℕ) (places : List Place) (place : Place) → KeptAt p many places →
+    (q ≡ p → new ≡ 0) → ((q ≡ p → ⊥) → new ≤ many) → KeptAt p new (slice_set places q place)
+set_keeps p q many new places place kept here elsewhere =
+    by_test (q == p)
+    (λ is. let none = here (equal q p is) in omega (arith, none))
+    (λ other.
+    let less = elsewhere (λ is. apart q p other (sym is)) in
+    subst (λ at. new ≤ one_if (is_kept_life at.life)) (sym (get_or-set_other places q p place no_place (apart q p other)))
+    (omega (arith, less, kept)))
+
+-- a free name is kept for one more
+keeps_one : (p n many : ℕ) (places : List Place) (taken : Option Name) → MayKeep places None taken →
+    KeptAt p many places → KeptAt p (many + spare_at p taken) (with_life_of (life.Kept n) taken places)
+keeps_one p n many places None may kept = omega (arith, kept)
+keeps_one p n many places (Some name) may kept =
+    let unused = (both (is_current places name) (is_unused (place_at places name.place).life) may).other in
+    by_test (name.place == p)
+    (λ is.
+    let here = equal name.place p is in
+    let none = none_kept p many places
+    (subst (λ k. is_kept_life (place_at places k).life ≡ false) here
+    (unused_not (place_at places name.place).life unused)) kept in
+    let one = ap one_if is in
+    subst (λ k. many + one_if (name.place == p) ≤ one_if
+    (is_kept_life (place_at (with_life (life.Kept n) name places) k).life)) here
+    (subst (λ (at : Place). many + one_if (name.place == p) ≤ one_if (is_kept_life at.life))
+    (sym (get_or-set_same places name.place _ no_place (unused_within places name.place unused)))
+    (omega (arith, none, one))))
+    (λ other.
+    let none = ap one_if other in
+    subst (λ (at : Place). many + one_if (name.place == p) ≤ one_if (is_kept_life at.life))
+    (sym (get_or-set_other places name.place p _ no_place (apart name.place p other))) (omega (arith, kept, none)))
+
+-- likewise beside the one that was there
+keeps_more : (p n many : ℕ) (places : List Place) (had taken : Option Name) → MayKeep places had taken →
+    KeptAt p many places → (old new : ℕ) → old ≡ spare_at p had → new ≡ spare_at p (first_of_two had taken) →
+    (count : ℕ) → count + old ≡ many + new → KeptAt p count (with_life_of (life.Kept n) taken places)
+keeps_more p n many places None taken may kept old new was is count change =
+    let one = keeps_one p n many places taken may kept in omega (arith, one, was, is, change)
+keeps_more p n many places (Some name) taken may kept old new was is count change =
+    subst (λ t. KeptAt p count (with_life_of (life.Kept n) t places)) (sym may) (omega (arith, kept, was, is, change))
+
+-- one that is kept is left, and its place comes to something else
+gives_back : (p many new : ℕ) (to : Life) (places : List Place) (spare : Option Name) → KeptAt p many places →
+    new + spare_at p spare ≤ many → KeptAt p new (with_life_of to spare places)
+gives_back p many new to places None kept less = omega (arith, kept, less)
+gives_back p many new to places (Some name) kept less =
+    set_keeps p name.place many new places _ kept
+    (λ is.
+    let one = ap one_if (subst (λ k. (name.place == k) ≡ true) is (same name.place)) in
+    let most = at_most (is_kept_life (place_at places p).life) in
+    omega (arith, kept, less, one, most))
+    (λ other. omega (arith, less))
+
+-- what had no spare: a place that was used, and is free or closing then
+used_place : (p many : ℕ) (places : List Place) (name : Name) (place : Place) →
+    is_kept_life (place_at places name.place).life ≡ false → KeptAt p many places →
+    KeptAt p many (slice_set places name.place place)
+used_place p many places name place isnt kept =
+    set_keeps p name.place many many places place kept
+    (λ is. none_kept p many places (subst (λ k. is_kept_life (place_at places k).life ≡ false) is isnt) kept)
+    (λ other. omega arith)
+
+-- one that is left makes nothing kept
+not_kept_still : (to : Life) (places : List Place) (spare : Option Name) (m : ℕ) → is_kept_life to ≡ false →
+    is_kept_life (place_at places m).life ≡ false →
+    is_kept_life (place_at (with_life_of to spare places) m).life ≡ false
+not_kept_still to places None m none isnt = isnt
+not_kept_still to places (Some name) m none isnt =
+    by_test (name.place == m)
+    (λ is.
+    subst (λ k. is_kept_life (place_at (with_life to name places) k).life ≡ false) (equal name.place m is)
+    (⊎_elim
+    (λ (lt : name.place < length places).
+    ap (λ at. is_kept_life at.life) (get_or-set_same places name.place _ no_place lt) ∙ none)
+    (λ (le : length places ≤ name.place).
+    let many = length-set places name.place (record (place_at places name.place) { life = to }) in
+    ap (λ at. is_kept_life at.life) (get_or_past (with_life to name places) name.place no_place (omega (arith, le, many))))
+    (cases_lt name.place (length places))))
+    (λ other.
+    ap (λ at. is_kept_life at.life) (get_or-set_other places name.place m _ no_place (apart name.place m other)) ∙ isnt)
+
+-- ---- names that are kept for accepts
+
+pub reserved_set : (p : ℕ) (streams : List StreamState) (k : ℕ) (new : StreamState) →
+    reserved_at p (slice_set streams k new) + spare_at p (slice_index_or streams k new_stream).reserved
+    ≤ reserved_at p streams + spare_at p new.reserved
+reserved_set p streams k new =
+    ⊎_elim
+    (λ (lt : k < length streams).
+    let sums = sum_by-set (λ (stream : StreamState). spare_at p stream.reserved) streams k new new_stream lt in
+    omega (arith, sums))
+    (λ (le : length streams ≤ k).
+    let stays = ap (reserved_at p) (set_past streams k new le) in
+    let none = ap (λ (at : StreamState). spare_at p at.reserved) (get_or_past streams k new_stream le) in
+    omega (arith, stays, none))
+    (cases_lt k (length streams))
+
+-- a stream that keeps its own
+reserved_same : (p : ℕ) (streams : List StreamState) (name : Name) (new : StreamState) →
+    new.reserved ≡ (stream_at streams name).reserved →
+    reserved_at p (with_stream name new streams) ≤ reserved_at p streams
+reserved_same p streams name new is =
+    let set = reserved_set p streams name.place new in let own = ap (spare_at p) is in omega (arith, set, own)
+
+-- or has none
+reserved_none : (p : ℕ) (streams : List StreamState) (name : Name) (new : StreamState) → new.reserved ≡ None →
+    reserved_at p (with_stream name new streams) ≤ reserved_at p streams
+reserved_none p streams name new is =
+    let set = reserved_set p streams name.place new in let own = ap (spare_at p) is in omega (arith, set, own)
+
+reserved_served : (p : ℕ) (s : ContextState) (target : Option Target) →
+    reserved_at p (streams_served s target) ≤ reserved_at p s.streams
+reserved_served p s None = omega arith
+reserved_served p s (Some target) = reserved_same p s.streams target.stream _ refl
+
+reserved_side : (on : Side) (n : ℕ) (stream : StreamState) → (side_left on n stream).reserved ≡ stream.reserved
+reserved_side side.Read n stream = by_first (is_first (first_of side.Read stream) n)
+  where
+    by_first : (b : Bool) → (if b then record stream { searched = 0 } else stream).reserved ≡ stream.reserved
+    by_first true = refl
+    by_first false = refl
+reserved_side side.Write n stream = refl
+reserved_side side.Connect n stream = refl
+
+reserved_left : (p n : ℕ) (streams : List StreamState) (target : Option Target) →
+    reserved_at p (streams_left n target streams) ≤ reserved_at p streams
+reserved_left p n streams None = omega arith
+reserved_left p n streams (Some target) =
+    reserved_same p streams target.stream _ (reserved_side target.side n (stream_at streams target.stream))
+
+reserved_done : (p n : ℕ) (given : Code) (size : ℕ) (s : ContextState) →
+    reserved_at p (after_done n given size s).streams ≤ reserved_at p s.streams
+reserved_done p n given size s =
+    let of = kind_of (op_at s.ops n) in
+    let first = completed n given size s in
+    let second = served (target_of of) first in
+    let third = served (behind_connect side.Read of) second in
+    let a = reserved_left p n s.streams (target_of of) in
+    let b = reserved_served p first (target_of of) in
+    let c = reserved_served p second (behind_connect side.Read of) in
+    let d = reserved_served p third (behind_connect side.Write of) in
+    omega (arith, a, b, c, d)
+
+reserved_queue : (on : Side) (queue : List ℕ) (stream : StreamState) →
+    (with_queue on queue stream).reserved ≡ stream.reserved
+reserved_queue side.Read queue stream = refl
+reserved_queue side.Write queue stream = refl
+reserved_queue side.Connect queue stream = refl
+
+reserved_pushed : (p n : ℕ) (given : Gone) (target : Option Target) (streams : List StreamState) →
+    reserved_at p (streams_called n given target streams) ≤ reserved_at p streams
+reserved_pushed p n gone.Nothing (Some target) streams =
+    reserved_same p streams target.stream _ (reserved_queue target.side _ (stream_at streams target.stream))
+reserved_pushed p n gone.Nothing None streams = omega arith
+reserved_pushed p n gone.Strand target streams = omega arith
+reserved_pushed p n gone.Other target streams = omega arith
+
+reserved_called : (p n : ℕ) (by : Option ℕ) (request : Request) (given : Gone) (s : ContextState) →
+    reserved_at p (after (event.Called n by request given) s).streams ≤ reserved_at p s.streams
+reserved_called p n by request given s =
+    let first = accepted (entry_of (caller_lane s.ops by) request given) n by request given s in
+    let pushed = reserved_pushed p n given (target_of request.kind) s.streams in
+    let all = reserved_served p first (target_if given (target_of request.kind)) in
+    omega (arith, pushed, all)
+
+reserved_searched : (p : ℕ) (s : ContextState) (name : Name) (end : Option ℕ) →
+    reserved_at p (after (event.Searched name end) s).streams ≤ reserved_at p s.streams
+reserved_searched p s name None = reserved_same p s.streams name _ refl
+reserved_searched p s name (Some end) = reserved_same p s.streams name _ refl
+
+-- ---- shares of handlers
+
+-- calls leave the spares
+spare_given : (p : ℕ) (a : Phase) → spare_at p (spares_in (place_given a)).stream ≡ spare_at p (spares_in a).stream
+spare_given p (phase.Pending moved cancelled) = refl
+spare_given p (phase.Settled code size) = refl
+spare_given p (phase.Ready code size) = refl
+spare_given p (phase.Running own grant spares) = by_grant (nat_lt 0 grant)
+  where
+    by_grant : (b : Bool) →
+        spare_at p
+        (spares_in (if b then phase.Running own (grant - 1) spares else phase.Running false 0 spares)).stream ≡
+        spare_at p spares.stream
+    by_grant true = refl
+    by_grant false = refl
+
+total_given : (p : ℕ) (by : Option ℕ) (ops : List Op) →
+    total (weighed (spared p)) (place_given_by by ops) ≡ total (weighed (spared p)) ops
+total_given p by ops =
+    total-kept_of (weighed (spared p)) by (λ op. place_given op.phase) (λ op. spare_given p op.phase) ops
+
+ready_none : (p : ℕ) (a : Phase) → is_ready a ≡ true → spare_at p (spares_in a).stream ≡ 0
+ready_none p (phase.Ready code size) is = refl
+ready_none p (phase.Pending moved cancelled) is = absurd (true≢false (sym is))
+ready_none p (phase.Settled code size) is = absurd (true≢false (sym is))
+ready_none p (phase.Running own grant spares) is = absurd (true≢false (sym is))
+
+calm_none : (p n : ℕ) (a : Phase) → is_running a ≡ false → spared p n a ≡ 0
+calm_none p n a isnt = calm_spared p n a (phase.Ready code.Ok 0) isnt refl
+
+-- a handler that is granted more
+granted_spares : (more : ℕ) (taken : Spares) (a : Phase) → is_running a ≡ true →
+    (spares_in (granted_more more taken a)).stream ≡ first_of_two (spares_in a).stream taken.stream
+granted_spares more taken (phase.Running own grant spares) is = refl
+granted_spares more taken (phase.Pending moved cancelled) is = absurd (true≢false (sym is))
+granted_spares more taken (phase.Settled code size) is = absurd (true≢false (sym is))
+granted_spares more taken (phase.Ready code size) is = absurd (true≢false (sym is))
+
+-- ---- what is made and freed
+
+abbrev pub is_stream_kind : Kind → Bool
+is_stream_kind kind.Stream = true
+is_stream_kind kind.Listener = true
+is_stream_kind _ = false
+
+other_spare : (p : ℕ) (of : Kind) (a : Phase) → is_stream_kind of ≡ false →
+    spare_at p (spares_in (spare_used of a)).stream ≡ spare_at p (spares_in a).stream
+other_spare p of (phase.Pending moved cancelled) is = refl
+other_spare p of (phase.Settled code size) is = refl
+other_spare p of (phase.Ready code size) is = refl
+other_spare p kind.Timer (phase.Running own grant spares) is = refl
+other_spare p kind.Slot (phase.Running own grant spares) is = refl
+other_spare p kind.Strand (phase.Running own grant spares) is = refl
+other_spare p kind.Stream (phase.Running own grant spares) is = absurd (true≢false is)
+other_spare p kind.Listener (phase.Running own grant spares) is = absurd (true≢false is)
+
+total_other : (p : ℕ) (of : Kind) (name : Name) (by : Option ℕ) (ops : List Op) → is_stream_kind of ≡ false →
+    total (weighed (spared p)) (ops_changed by (control.Make of name) ops) ≡ total (weighed (spared p)) ops
+total_other p of name by ops is =
+    total-kept_of (weighed (spared p)) by (λ op. spare_used of op.phase) (λ op. other_spare p of op.phase is) ops
+
+abbrev UsesSpare : ℕ → Kind → Name → Phase → Type 0
+UsesSpare p of name a =
+    (spare_at p (spares_in a).stream ≡ one_if (name.place == p)) × (spare_at p (spares_in (spare_used of a)).stream ≡ 0)
+
+by_spare : (p : ℕ) (name : Name) (spare : Option Name) → is_spare name spare ≡ true →
+    spare_at p spare ≡ one_if (name.place == p)
+by_spare p name None is = absurd (true≢false (sym is))
+by_spare p name (Some spare) is = ap (λ (n : Name). one_if (n.place == p)) (same-name spare name is)
+
+used_spare : (p : ℕ) (of : Kind) (name : Name) (a : Phase) → is_stream_kind of ≡ true → has_spare of name a ≡ true →
+    UsesSpare p of name a
+used_spare p kind.Stream name (phase.Running own grant spares) stream is = (by_spare p name spares.stream is, refl)
+used_spare p kind.Listener name (phase.Running own grant spares) stream is = (by_spare p name spares.stream is, refl)
+used_spare p kind.Strand name (phase.Running own grant spares) stream is = absurd (true≢false (sym stream))
+used_spare p kind.Timer name (phase.Running own grant spares) stream is = absurd (true≢false (sym stream))
+used_spare p kind.Slot name (phase.Running own grant spares) stream is = absurd (true≢false (sym stream))
+used_spare p of name (phase.Pending moved cancelled) stream is = absurd (true≢false (sym is))
+used_spare p of name (phase.Settled code size) stream is = absurd (true≢false (sym is))
+used_spare p of name (phase.Ready code size) stream is = absurd (true≢false (sym is))
+
+abbrev MayMakeAt : ContextState → Kind → Name → Option ℕ → Type 0
+MayMakeAt s of name None = (is_current s.names.streams name && is_unused (place_at s.names.streams name.place).life) ≡ true
+MayMakeAt s of name (Some by) = is_at (has_spare of name) s.ops by ≡ true
+
+-- one that is made, from outside or by a handler that had a name for it
+made_stream : (p : ℕ) (s : ContextState) (of : Kind) (name : Name) (by : Option ℕ) (ops : List Op)
+    (streams : List StreamState) → is_stream_kind of ≡ true → ops ≡ s.ops →
+    reserved_at p streams ≤ reserved_at p s.streams → MayMakeAt s of name by → KeptAt p (keepers p s) s.names.streams →
+    KeptAt p (total (weighed (spared p)) (ops_changed by (control.Make of name) ops) + reserved_at p streams)
+    (with_life life.Alive name s.names.streams)
+made_stream p s of name None ops streams stream same_ops less may kept =
+    let unused = (both (is_current s.names.streams name) (is_unused (place_at s.names.streams name.place).life) may).other in
+    let is = ap (total (weighed (spared p))) same_ops in
+    used_place p _ s.names.streams name _ (unused_not (place_at s.names.streams name.place).life unused)
+    (omega (arith, is, less, kept))
+made_stream p s of name (Some by) ops streams stream same_ops less may kept =
+    let it = found (has_spare of name) ops by
+    (subst (λ xs. is_at (has_spare of name) xs by ≡ true) (sym same_ops) may) in
+    let is = ap (total (weighed (spared p))) same_ops in
+    let change = weighed-changed (spared p) ops by (λ op. spare_used of op.phase) it.op it.is in
+    let spare = used_spare p of name it.op.phase stream it.passed in
+    let one = spare.0 in let none = spare.1 in
+    set_keeps p name.place (keepers p s) _ s.names.streams _ kept
+    (λ here.
+    let counted = ap one_if (subst (λ k. (name.place == k) ≡ true) here (same name.place)) in
+    let most = at_most (is_kept_life (place_at s.names.streams p).life) in
+    omega (arith, is, less, kept, change, one, none, counted, most))
+    (λ other. let counted = ap one_if (differ name.place p other) in omega (arith, is, less, change, one, none, counted))
+
+pub living_of : (s : ContextState) (of : Kind) (name : Name) → is_stream_kind of ≡ true → is_there s of name ≡ true →
+    is_living (place_at s.names.streams name.place).life ≡ true
+living_of s kind.Stream name stream is =
+    (both (is_current s.names.streams name) (is_living (place_at s.names.streams name.place).life)
+    (both _ (not (stream_at s.streams name).listener) is).one).other
+living_of s kind.Listener name stream is =
+    (both (is_current s.names.streams name) (is_living (place_at s.names.streams name.place).life)
+    (both _ (stream_at s.streams name).listener is).one).other
+living_of s kind.Strand name stream is = absurd (true≢false (sym stream))
+living_of s kind.Timer name stream is = absurd (true≢false (sym stream))
+living_of s kind.Slot name stream is = absurd (true≢false (sym stream))
+
+-- one that is freed
+freed_stream : (p many : ℕ) (s : ContextState) (name : Name) (there kept : Bool) →
+    (there ≡ true → is_living (place_at s.names.streams name.place).life ≡ true) → KeptAt p many s.names.streams →
+    KeptAt p many (place_freed there kept name s.names.streams)
+freed_stream p many s name false kept living fits = fits
+freed_stream p many s name true true living fits =
+    used_place p many s.names.streams name _ (living_not (place_at s.names.streams name.place).life (living refl)) fits
+freed_stream p many s name true false living fits =
+    used_place p many s.names.streams name _ (living_not (place_at s.names.streams name.place).life (living refl)) fits
+
+reserved_if : (p : ℕ) (streams : List StreamState) (name : Name) (b : Bool) →
+    reserved_at p (if b then with_stream name new_stream streams else streams) ≤ reserved_at p streams
+reserved_if p streams name true = reserved_none p streams name new_stream refl
+reserved_if p streams name false = omega arith
+
+-- control calls; what they cancel has no spares
+changed_kept : (p : ℕ) (s : ContextState) (by : Option ℕ) (change : Control) (ops : List Op) → MayChangeTo s by change →
+    total (weighed (spared p)) ops ≡ total (weighed (spared p)) s.ops → KeptAt p (keepers p s) s.names.streams →
+    (reached s change ≡ [] → ops ≡ s.ops) →
+    KeptAt p (total (weighed (spared p)) (ops_changed by change ops) + reserved_at p (streams_changed s change))
+    (names_changed s change).streams
+changed_kept p s by (control.Make kind.Stream name) ops may is kept same_ops =
+    made_stream p s kind.Stream name by ops (with_stream name new_stream s.streams) refl (same_ops refl)
+    (reserved_none p s.streams name new_stream refl) (may_at by may) kept
+  where
+    may_at : (who : Option ℕ) → MayMake s kind.Stream name who → MayMakeAt s kind.Stream name who
+    may_at None it = it
+    may_at (Some n) it = it
+changed_kept p s by (control.Make kind.Listener name) ops may is kept same_ops =
+    made_stream p s kind.Listener name by ops (with_stream name (record new_stream { listener = true }) s.streams) refl (same_ops refl)
+    (reserved_none p s.streams name (record new_stream { listener = true }) refl) (may_at by may) kept
+  where
+    may_at : (who : Option ℕ) → MayMake s kind.Listener name who → MayMakeAt s kind.Listener name who
+    may_at None it = it
+    may_at (Some n) it = it
+changed_kept p s by (control.Make kind.Strand name) ops may is kept same_ops =
+    let other = total_other p kind.Strand name by ops refl in omega (arith, other, is, kept)
+changed_kept p s by (control.Make kind.Timer name) ops may is kept same_ops =
+    let other = total_other p kind.Timer name by ops refl in omega (arith, other, is, kept)
+changed_kept p s by (control.Make kind.Slot name) ops may is kept same_ops =
+    let other = total_other p kind.Slot name by ops refl in omega (arith, other, is, kept)
+changed_kept p s by (control.Free kind.Stream name) ops may is kept same_ops =
+    let less = reserved_if p s.streams name (is_forgotten s kind.Stream name) in
+    freed_stream p _ s name (is_there s kind.Stream name) (is_kept s kind.Stream name)
+    (λ there. living_of s kind.Stream name refl there) (omega (arith, is, less, kept))
+changed_kept p s by (control.Free kind.Listener name) ops may is kept same_ops =
+    let less = reserved_if p s.streams name (is_forgotten s kind.Listener name) in
+    freed_stream p _ s name (is_there s kind.Listener name) (is_kept s kind.Listener name)
+    (λ there. living_of s kind.Listener name refl there) (omega (arith, is, less, kept))
+changed_kept p s by (control.Free kind.Strand name) ops may is kept same_ops = omega (arith, is, kept)
+changed_kept p s by (control.Free kind.Timer name) ops may is kept same_ops = omega (arith, is, kept)
+changed_kept p s by (control.Free kind.Slot name) ops may is kept same_ops = omega (arith, is, kept)
+changed_kept p s by _ ops may is kept same_ops = omega (arith, is, kept)
+
+-- ---- sockets go into system calls, and come back
+
+tried_kept : (p : ℕ) (s : ContextState) (stream : StreamState) (many : ℕ) (first : Option ℕ) (reserved : Option Name) →
+    may_be_tried stream (op_of s.ops first) ≡ true → MayReserve s.names (is_accept_of (op_of s.ops first)) reserved →
+    KeptAt p many s.names.streams → KeptAt p (many + spare_at p reserved) (place_kept first reserved s.names.streams)
+tried_kept p s stream many None reserved head may kept = absurd (true≢false (sym head))
+tried_kept p s stream many (Some n) None head may kept = omega (arith, kept)
+tried_kept p s stream many (Some n) (Some name) head may kept =
+    keeps_one p n many s.names.streams (Some name) (is_free_for (is_accept_of (op_of s.ops (Some n))) may) kept
+  where
+    is_free_for : (b : Bool) → MayReserve s.names b (Some name) → MayKeep s.names.streams None (Some name)
+    is_free_for true it = it
+    is_free_for false it = absurd (cc)
+
+reserved_made : (p : ℕ) (given : Gave) (reserved : Option Name) (streams : List StreamState) →
+    reserved_at p (stream_made given reserved streams) ≤ reserved_at p streams
+reserved_made p given None streams = omega arith
+reserved_made p given (Some name) streams = by_made (is_made given)
+  where
+    by_made : (b : Bool) →
+        reserved_at p (if b then with_stream name (record new_stream { linked = true }) streams else streams)
+        ≤ reserved_at p streams
+    by_made true = reserved_none p streams name (record new_stream { linked = true }) refl
+    by_made false = omega arith
+
+reserved_closed : (p : ℕ) (closed : Bool) (name : Name) (streams : List StreamState) →
+    reserved_at p (stream_closed closed name streams) ≤ reserved_at p streams
+reserved_closed p false name streams = omega arith
+reserved_closed p true name streams = reserved_none p streams name new_stream refl
+
+made_not : (given : Gave) → is_kept_life (if is_made given then life.Alive else life.Free) ≡ false
+made_not given = by_made (is_made given)
+  where
+    by_made : (b : Bool) → is_kept_life (if b then life.Alive else life.Free) ≡ false
+    by_made true = refl
+    by_made false = refl
+
+closed_kept : (p many : ℕ) (places : List Place) (given : Gave) (reserved : Option Name) (name : Name) (closed : Bool) →
+    is_leaving places name ≡ closed → KeptAt p many (place_made given reserved places) →
+    KeptAt p many (place_closed closed name (place_made given reserved places))
+closed_kept p many places given reserved name false is kept = kept
+closed_kept p many places given reserved name true is kept =
+    let closing = (both (is_current places name) (is_closing (place_at places name.place).life) is).other in
+    used_place p many (place_made given reserved places) name _
+    (not_kept_still _ places reserved name.place (made_not given) (closing_not (place_at places name.place).life closing))
+    kept
+
+back_kept : (p : ℕ) (s : ContextState) (name : Name) (on : Side) (given : Gave) → KeptAt p (keepers p s) s.names.streams →
+    KeptAt p (keepers p (after (event.Back name on given) s)) (after (event.Back name on given) s).names.streams
+back_kept p s name on given kept =
+    let stream = stream_at s.streams name in
+    let closed = is_leaving s.names.streams name in
+    let same_total = weighed-told (spared p) (calm_spared p) (event.Back name on given) s refl in
+    let in_again = with_stream name (stream_back given stream) s.streams in
+    let set = reserved_set p s.streams name.place (stream_back given stream) in
+    let made = reserved_made p given stream.reserved in_again in
+    let left = reserved_closed p closed name (stream_made given stream.reserved in_again) in
+    closed_kept p _ s.names.streams given stream.reserved name closed refl
+    (gives_back p (keepers p s) _ _ s.names.streams stream.reserved kept (omega (arith, same_total, set, made, left)))
+
+kept_here : (limits : Limits) (past : List Event) → IsLegal limits past → (p : ℕ) →
+    KeptAt p (keepers p (state_of limits past)) (state_of limits past).names.streams
+kept_here limits [] legal p =
+    let none = sum_by-replicate (λ (stream : StreamState). spare_at p stream.reserved) limits.streams new_stream in
+    omega (arith, none)
+kept_here limits (event.Called op by request given ∷ past) legal p =
+    let s = state_of limits past in
+    let before = kept_here limits past legal.1 p in
+    let entry = entry_of (caller_lane s.ops by) request given in
+    let call = weighed-called (spared p) (calm_spared p) op by request given s in
+    let same_total = total_given p by s.ops in
+    let none = calm_none p op (first_phase entry given) (first_calm entry given) in
+    let less = reserved_called p op by request given s in
+    omega (arith, before, call, same_total, none, less)
+kept_here limits (event.Done op code size ∷ past) legal p =
+    let before = kept_here limits past legal.1 p in
+    let done = weighed-done (spared p) (calm_spared p) op code size (state_of limits past) legal.0 in
+    let less = reserved_done p op code size (state_of limits past) in
+    omega (arith, before, done, less)
+kept_here limits (event.Begun op spares ∷ past) legal p =
+    let s = state_of limits past in
+    let it = found is_ready s.ops op legal.0.ready in
+    let change = weighed-changed (spared p) s.ops op (λ other. phase.Running true (grant_of s) spares) it.op it.is in
+    keeps_more p op (keepers p s) s.names.streams None spares.stream legal.0.names.stream
+    (kept_here limits past legal.1 p) 0 (spare_at p spares.stream) refl refl _
+    (let none = ready_none p it.op.phase it.passed in omega (arith, change, none))
+kept_here limits (event.Granted op spares ∷ past) legal p =
+    let s = state_of limits past in
+    let it = found is_running s.ops op legal.0.runs in
+    let more = more_granted s (at_op granted_in s.ops op) in
+    let change = weighed-changed (spared p) s.ops op (λ o. granted_more more spares o.phase) it.op it.is in
+    let had = (spares_in it.op.phase).stream in
+    keeps_more p op (keepers p s) s.names.streams had spares.stream
+    (subst (λ o. MayKeep s.names.streams (spares_of o).stream spares.stream) it.is legal.0.names.stream)
+    (kept_here limits past legal.1 p) (spare_at p had) (spare_at p (first_of_two had spares.stream)) refl refl _
+    (let joined = ap (spare_at p) (granted_spares more spares it.op.phase it.passed) in omega (arith, change, joined))
+kept_here limits (event.Ended op mark ∷ past) legal p =
+    let s = state_of limits past in
+    let it = found is_running s.ops op legal.0.runs in
+    let left = weighed-without (spared p) s.ops op it.op it.is in
+    gives_back p (keepers p s) _ life.Free s.names.streams (spares_of (op_at s.ops op)).stream (kept_here limits past legal.1 p)
+    (let own = ap (λ o. spare_at p (spares_of o).stream) it.is in omega (arith, left, own))
+kept_here limits (event.Dropped op mark ∷ past) legal p =
+    let s = state_of limits past in
+    let before = kept_here limits past legal.1 p in
+    let it = dropping s op mark legal.0 in
+    let left = weighed-without (spared p) s.ops op it.it it.is in
+    omega (arith, before, left)
+kept_here limits (event.Changed by change ∷ past) legal p =
+    let s = state_of limits past in
+    changed_kept p s by change (ops_cancelled s (reached s change) s.ops) legal.0.allowed
+    (weighed-cancelled (spared p) (calm_spared p) s (reached s change) s.ops) (kept_here limits past legal.1 p)
+    (λ none. ap (λ numbers. ops_cancelled s numbers s.ops) none)
+kept_here limits (event.Tried name on reserved ∷ past) legal p =
+    let s = state_of limits past in
+    let stream = stream_at s.streams name in
+    let set = reserved_set p s.streams name.place (record stream { out = Some on; reserved = reserved }) in
+    let all = tried_kept p s stream (keepers p s) (first_of on stream) reserved legal.0.head legal.0.place
+    (kept_here limits past legal.1 p) in
+    omega (arith, set, all)
+kept_here limits (event.Back name on given ∷ past) legal p =
+    back_kept p (state_of limits past) name on given (kept_here limits past legal.1 p)
+kept_here limits (event.Searched name end ∷ past) legal p =
+    let before = kept_here limits past legal.1 p in
+    let same_total = weighed-told (spared p) (calm_spared p) (event.Searched name end) (state_of limits past) refl in
+    let less = reserved_searched p (state_of limits past) name end in
+    omega (arith, before, same_total, less)
+kept_here limits (e ∷ past) legal p = kept_here limits past legal.1 p
+
+-- nobody has a name of a place that isn't kept
+pub unkept : (limits : Limits) (past : List Event) → IsLegal limits past → (p : ℕ) →
+    is_kept_life (place_at (state_of limits past).names.streams p).life ≡ false → keepers p (state_of limits past) ≡ 0
+unkept limits past legal p isnt =
+    none_kept p _ (state_of limits past).names.streams isnt (kept_here limits past legal p)

@@ -1,0 +1,9 @@
+use Rattle.std.specs.Prelude.{None}
+use Rattle.io_rules.specs.declared.event.Event.TheVariants as event
+use Rattle.io_rules.specs.declared.request.Gone.TheVariants as gone
+use Rattle.io_scheduler.specs.Posted.{posting}
+use Rattle.io_scheduler.proofs.scheduler.Scheduler.transfer_pending.Given as goal
+
+abbrev pub ghosts-note_posted : goal.ghosts-note_posted
+ghosts-note_posted g a =
+    record { event = event.Called a.op None (posting a.lane a.kind (g.H.Handler.marks a.handler.now)) gone.Nothing }
