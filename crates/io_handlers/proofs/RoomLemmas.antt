@@ -2,7 +2,7 @@
 use Rattle.std.proofs.Common.{arith, ap, refl, subst, sym, ◌∙◌}
 use Rattle.std.proofs.lemmas.Bool.{ltb-true}
 use Rattle.std.proofs.lemmas.List.{length_push}
-use Rattle.std.specs.Prelude.{◌≡◌, ◌≤◌, ℕ, suc, ◌+◌, Bool, true, false, List, [], ◌∷◌, ◌++◌, length}
+use Rattle.std.specs.Prelude.{◌≡◌, ◌<◌, ◌≤◌, ℕ, suc, ◌+◌, Bool, true, false, List, [], ◌∷◌, ◌++◌, length}
 use Rattle.io_rules.specs.Room.{one_if}
 use Rattle.io_handlers.specs.declared.staged.Initiating.{Initiating}
 use Rattle.io_handlers.specs.declared.staged.Staged.{Staged}
@@ -28,6 +28,12 @@ room_taken : (first : Bool) (room : ℕ) → IsRoomFor first room →
     suc (room_after first room) ≤ room + one_if first
 room_taken true room is = omega arith
 room_taken false room is = let lt = ltb-true 0 room is in omega (arith, lt)
+
+-- one more fits into the memory
+pub room_left : {H : Type 0} (capacity : ℕ) (i : Initiated H) → HasRoom capacity i → MayInitiate i →
+    length i.staged < capacity
+room_left capacity i has may =
+    let taken = room_taken i.first i.room may.room in let calls = has.calls in omega (arith, taken, calls)
 
 are_made-last : {H : Type 0} (calls : List (Staged H)) (call : Staged H) (kept : Spares) → AreMade calls kept →
     IsMade call (left_by_all calls kept) → AreMade (calls ++ call ∷ []) kept

@@ -164,14 +164,22 @@ abbrev pub is_timer : Kind → Bool
 is_timer kind.Timer = true
 is_timer _ = false
 
--- a stop, or what is done with a timer: that it is made, a new expiry, a cancellation, its end
+-- a timer, a stream or a listener
+abbrev pub is_freed : Kind → Bool
+is_freed kind.Timer = true
+is_freed kind.Stream = true
+is_freed kind.Listener = true
+is_freed _ = false
+
+-- a stop, what is done with a timer, which is made, gets a new expiry, is cancelled or freed, or that a stream or a
+-- listener is closed
 abbrev pub is_offered_change : Control → Bool
 is_offered_change (control.Make of name) = is_timer of
 is_offered_change control.Stop = true
 is_offered_change (control.Expires timer at) = true
 is_offered_change (control.Cancel timer) = true
 is_offered_change (control.CancelOne timer) = true
-is_offered_change (control.Free of name) = is_timer of
+is_offered_change (control.Free of name) = is_freed of
 is_offered_change _ = false
 
 abbrev pub IsOffered : {H : Type 0} → Staged H → Type 0

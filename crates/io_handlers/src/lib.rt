@@ -9,6 +9,7 @@ mod initiator;
 mod spares;
 mod staged;
 mod staging;
+mod touched;
 mod transfers;
 
 pub use completion::Completion;
@@ -18,3 +19,4 @@ pub use io_rules::Marks;
 pub use spares::without_spare;
 pub use staged::{Full, FullTransfer, Initiating, Staged};
 pub use staging::Staging;
+pub use touched::Touched;

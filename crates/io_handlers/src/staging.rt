@@ -15,7 +15,7 @@ use std::marker::Model;
 /// staged, and for how much more there is room.
 pub struct Staging<H> {
     // in the order of the calls
-    staged: VecDeque<Staged<H>>,
+    pub(crate) staged: VecDeque<Staged<H>>,
     // how many operations the handler was granted, its own place too
     granted: u64,
     // how many of these it may still initiate

@@ -1,10 +1,12 @@
-ghost use Rattle.std.specs.Prelude.{◌≡◌, length, min, true, IfErr, None, OnErr, OnOk, Some};
+ghost use Rattle.std.specs.Prelude.{◌≡◌, if◌then◌else◌, length, min, nat_lt, true, IfErr, None, OnErr, OnOk, Some};
+ghost use Rattle.io_rules.specs.declared.control.Control.TheVariants as control;
+ghost use Rattle.io_rules.specs.declared.name.Kind.TheVariants as kind;
 ghost use Rattle.io_rules.specs.declared.operation.Operation.TheVariants as operation;
-ghost use Rattle.io_handlers.specs.Initiated.{MayInitiate, called, initiating, is_transfer, transferring};
+ghost use Rattle.io_handlers.specs.Initiated.{MayInitiate, called, changed, initiating, is_transfer, transferring};
 
 use crate::initiator::Initiator;
 use crate::staged::{Full, FullTransfer, Initiating};
-use io_rules::{Lane, Name, Operation};
+use io_rules::{Control, Kind, Lane, Name, Operation};
 
 impl<H> Initiator<H> {
     /// `basic_stream_socket::async_read_some`: a handler that is ready once some bytes have come, at most as
@@ -91,6 +93,30 @@ impl<H> Initiator<H> {
             kind,
             buffer: None,
             handler,
+        })
+    }
+
+    /// `basic_socket::close`: closes a stream, whose name is gone then. What is pending on it completes with
+    /// operation_aborted, or with what a system call gave that was under way; no effect where its name is gone.
+    /// Answers whether there was room for the call, and where not nothing has changed.
+    pub fn close(&mut self, stream: Name) -> bool
+        ensures room { result ≡ nat_lt 0 self.old.room }
+        ensures changed { self.new ≡ (if result then changed (control.Free kind.Stream stream) self.old else self.old) }
+    {
+        self.staging.change(Control::Free {
+            kind: Kind::Stream,
+            name: stream,
+        })
+    }
+
+    /// `basic_socket_acceptor::close`: likewise a listener.
+    pub fn close_listener(&mut self, listener: Name) -> bool
+        ensures room { result ≡ nat_lt 0 self.old.room }
+        ensures changed { self.new ≡ (if result then changed (control.Free kind.Listener listener) self.old else self.old) }
+    {
+        self.staging.change(Control::Free {
+            kind: Kind::Listener,
+            name: listener,
         })
     }
 

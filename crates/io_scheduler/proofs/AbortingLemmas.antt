@@ -1,6 +1,6 @@
 -- The waits of a timer are cancelled: the first of them completes.
 use Rattle.std.proofs.Common.{arith, ap, refl, subst, sym, ◌∙◌}
-use Rattle.std.specs.Prelude.{◌≡◌, ◌<◌, ℕ, ◌+◌, ◌==◌, ◌&&◌, cond, not, Bool, true, false, List, [], ◌∷◌, Some, None, length, map, take}
+use Rattle.std.specs.Prelude.{◌≡◌, ◌<◌, ℕ, ◌+◌, ◌==◌, cond, not, Bool, true, false, List, [], ◌∷◌, Some, None, map, take}
 use Rattle.std.specs.List.{filter}
 use Rattle.asio_types.specs.declared.code.Code.TheVariants as code
 use Rattle.io_rules.specs.declared.event.Event.{Event}
@@ -33,7 +33,7 @@ use Rattle.io_timers.specs.declared.pending.PendingWait.{PendingWait}
 use Rattle.io_timers.specs.Kept.{Each, Rises}
 use Rattle.io_timers.specs.Pending.{Entry, IsOnly, Timers, first_in, is_of, is_other, number_of, numbered_in, waits_on, without_wait}
 use Rattle.io_timers.proofs.FoundLemmas.{apart_test}
-use Rattle.io_timers.proofs.OrderLemmas.{each-filter, each-weaker, filter-all}
+use Rattle.io_timers.proofs.OrderLemmas.{each-weaker, filter-all}
 use Rattle.io_scheduler.specs.declared.counts.Counts.{Counts}
 use Rattle.io_scheduler.specs.declared.tally.Tally.{Tally}
 use Rattle.io_scheduler.specs.declared.waiting.Waiting.{Waiting}
@@ -42,7 +42,7 @@ use Rattle.io_scheduler.specs.Come.{HaveCome, MayCome, completions, with_events}
 use Rattle.io_scheduler.specs.Completed.{MayBeReadyOn, readied_cells, readied_jobs}
 use Rattle.io_scheduler.specs.Expired.{left_settled, left_waits, wait_done}
 use Rattle.io_scheduler.specs.Tallied.{tally_called}
-use Rattle.io_scheduler.specs.Waits.{ArePending, IsThere, IsWaitingAs, ShowsWaits}
+use Rattle.io_scheduler.specs.Waits.{ArePending, IsThere, IsWaitingAs}
 use Rattle.io_scheduler.proofs.CancelledLemmas.{IsPendingWait, IsToCancel, complete_in_turn, to_cancel}
 use Rattle.io_scheduler.proofs.CompletedLemmas.{ready_with}
 use Rattle.io_scheduler.proofs.ExpiredLemmas.{room_on, shows_on, there_tied}
@@ -50,7 +50,7 @@ use Rattle.io_scheduler.proofs.TallyLemmas.{tally_completes, tally_incomplete}
 use Rattle.io_scheduler.proofs.WaitsLemmas.{pending_at, unready, waits_left}
 
 -- a cancellation changes no sum that knows no more of a phase than this
-total-cancelled : (f : Op → ℕ) (s : ContextState) →
+pub total-cancelled : (f : Op → ℕ) (s : ContextState) →
     ((t : Bool) (op : Op) → f (record op { phase = cancelled_phase t op.phase }) ≡ f op) → (numbers : List ℕ)
     (ops : List Op) → total f (ops_cancelled s numbers ops) ≡ total f ops
 total-cancelled f s keeps [] ops = refl
@@ -58,7 +58,7 @@ total-cancelled f s keeps (m ∷ numbers) ops =
     total-cancelled f s keeps numbers (phase_changed m (λ op. cancelled_phase (is_tried s op) op.phase) ops)
     ∙ total-kept f m (λ op. cancelled_phase (is_tried s op) op.phase) (λ op. keeps (is_tried s op) op) ops
 
-same_places : (t : Bool) (p : Phase) → places_in (cancelled_phase t p) ≡ places_in p
+pub same_places : (t : Bool) (p : Phase) → places_in (cancelled_phase t p) ≡ places_in p
 same_places true (phase.Pending moved cancelled) = refl
 same_places false (phase.Pending moved cancelled) = refl
 same_places t (phase.Settled code size) = refl

@@ -1,14 +1,14 @@
 -- The sides of streams by the operations that are pending there: a number that isn't there changes nothing, and the first
 -- one is an operation.
-use Rattle.std.proofs.Common.{arith, ap, inl, inr, refl, subst, sym, ◌∙◌, ⊎_elim}
+use Rattle.std.proofs.Common.{arith, ap, inl, inr, refl, sym, ◌∙◌}
 use Rattle.std.proofs.lemmas.Bool.{true≢false}
 use Rattle.std.proofs.lemmas.List.{set-get_or}
-use Rattle.std.specs.Prelude.{◌≡◌, ◌<◌, ◌⊎◌, ℕ, ◌==◌, ◌&&◌, cond, not, Bool, true, false, List, [], ◌∷◌, Some, None, filter, map, slice_get}
+use Rattle.std.specs.Prelude.{◌≡◌, ◌<◌, ℕ, ◌==◌, cond, not, Bool, true, false, List, [], ◌∷◌, Some, None, filter, map, slice_get}
 use Rattle.io_rules.specs.declared.name.Name.{Name}
 use Rattle.io_rules.specs.declared.operation.Side.{Side}
 use Rattle.io_rules.specs.declared.operation.Side.TheVariants as side
 use Rattle.io_rules.specs.Cancelling.{queue_of, same_side}
-use Rattle.io_rules.specs.Completing.{others_than, side_left, streams_left}
+use Rattle.io_rules.specs.Completing.{others_than, streams_left}
 use Rattle.io_rules.specs.Operations.{Target}
 use Rattle.io_rules.specs.Serving.{first_of, with_queue}
 use Rattle.io_rules.specs.State.{StreamState, new_stream, stream_at, with_stream}
@@ -70,13 +70,13 @@ absent_left n t streams states are whole below plain =
 
 -- ---- the first of a side
 
-record Headed {T : Type 0} (test : Entry (PendingOp T) → Bool) (n : ℕ) (xs : List (Entry (PendingOp T))) : Type 0 where
-  it : Entry (PendingOp T)
-  there : IsIn it xs
-  passes : test it ≡ true
-  number : number_of it ≡ n
+pub record Headed {T : Type 0} (test : Entry (PendingOp T) → Bool) (n : ℕ) (xs : List (Entry (PendingOp T))) : Type 0 where
+  pub it : Entry (PendingOp T)
+  pub there : IsIn it xs
+  pub passes : test it ≡ true
+  pub number : number_of it ≡ n
 
-headed : {T : Type 0} (test : Entry (PendingOp T) → Bool) (n : ℕ) (xs : List (Entry (PendingOp T))) →
+pub headed : {T : Type 0} (test : Entry (PendingOp T) → Bool) (n : ℕ) (xs : List (Entry (PendingOp T))) →
     slice_get (map number_of (filter test xs)) 0 ≡ Some n → Headed test n xs
 headed test n [] is = absurd (none_is n is)
 headed {T} test n (x ∷ xs) is =
@@ -93,7 +93,7 @@ headed {T} test n (x ∷ xs) is =
     let later = headed test n xs (sym (ap (λ b. slice_get (map number_of (parts b)) 0) other) ∙ is) in
     record { it = later.it; there = inr later.there; passes = later.passes; number = later.number })
 
-sides_equal : (a b : Side) → same_side a b ≡ true → a ≡ b
+pub sides_equal : (a b : Side) → same_side a b ≡ true → a ≡ b
 sides_equal side.Read side.Read is = refl
 sides_equal side.Write side.Write is = refl
 sides_equal side.Connect side.Connect is = refl

@@ -3,7 +3,7 @@ use Rattle.std.proofs.Common.{arith, ap, refl, subst, sym, ◌∙◌}
 use Rattle.std.proofs.lemmas.Bool.{ltb-true, true≢false}
 use Rattle.std.proofs.lemmas.List.{get_or-set_other, get_or-set_same, length_push, map-set}
 use Rattle.std.proofs.Math.Seq.{map-set_same}
-use Rattle.std.specs.Prelude.{◌≡◌, ◌<◌, ◌≤◌, ℕ, ◌+◌, ◌-◌, ◌==◌, ◌&&◌, Bool, true, false, List, [], ◌∷◌, ◌++◌, None, length, map, nat_lt, not, sum_by}
+use Rattle.std.specs.Prelude.{◌≡◌, ◌<◌, ℕ, ◌+◌, ◌-◌, ◌==◌, true, false, List, [], ◌∷◌, ◌++◌, None, length, map, nat_lt, not}
 use Rattle.std.specs.List.{slice_set}
 use Rattle.asio_types.specs.declared.code.Code.TheVariants as code
 use Rattle.io_rules.specs.declared.event.Event.{Event}
@@ -19,7 +19,7 @@ use Rattle.io_rules.specs.declared.operation.Operation.{Operation}
 use Rattle.io_rules.specs.declared.operation.Operation.TheVariants as operation
 use Rattle.io_rules.specs.declared.request.Gone.TheVariants as gone
 use Rattle.io_rules.specs.declared.request.Marks.{Marks}
-use Rattle.io_rules.specs.Calls.{gone_by, gone_of, is_lane_gone}
+use Rattle.io_rules.specs.Calls.{gone_by, is_lane_gone}
 use Rattle.io_rules.specs.Legal.{IsLegal, MayHappen, after, state_of}
 use Rattle.io_rules.specs.Names.{Names, is_alive, is_current, is_living, place_at}
 use Rattle.io_rules.specs.Room.{numbers_left, one_if, places_in}
@@ -37,7 +37,7 @@ use Rattle.io_strands.specs.Numbered.{numbered}
 use Rattle.io_strands.proofs.StepLemmas.{steps_alike}
 use Rattle.io_jobs.specs.Listed.{JobList}
 use Rattle.io_timers.specs.declared.pending.PendingWait.{PendingWait}
-use Rattle.io_timers.specs.Kept.{Each, Rises}
+use Rattle.io_timers.specs.Kept.{Each}
 use Rattle.io_timers.specs.Pending.{Entry, Timers, number_of, wait_of, with_wait}
 use Rattle.io_timers.proofs.OrderLemmas.{rises-push}
 use Rattle.io_scheduler.specs.declared.counts.Counts.{Counts}
@@ -46,11 +46,11 @@ use Rattle.io_scheduler.specs.Accepted.{MayBeTiedTo, later_cells, may_wait, wait
 use Rattle.io_scheduler.specs.Counted.{may_post}
 use Rattle.io_scheduler.specs.Posted.{counts_posted}
 use Rattle.io_scheduler.specs.Ready.{own_ops}
-use Rattle.io_scheduler.specs.Shown.{AreBelow, Shows, ShowsCell, cell_at, lane_of_place, room_of, waits_own, waits_own_on}
+use Rattle.io_scheduler.specs.Shown.{AreBelow, Shows, ShowsCell, cell_at, lane_of_place, room_of, waits_own_on}
 use Rattle.io_scheduler.specs.Waits.{ArePending, IsWaitingAs, ShowsWaits, is_incomplete}
 use Rattle.io_scheduler.proofs.IdleLemmas.{idles, idles_place, incomplete_total}
 use Rattle.io_scheduler.proofs.ListedLemmas.{cell_is}
-use Rattle.io_scheduler.proofs.PostedLemmas.{keeps_posted, lane_current, others_ready, own_count}
+use Rattle.io_scheduler.proofs.PostedLemmas.{keeps_posted, others_ready, own_count}
 use Rattle.io_scheduler.proofs.ReadyLemmas.{at_new, below-push, ready-kept}
 use Rattle.io_scheduler.proofs.SpaceLemmas.{living_used, not_gone, there_if, there_is, three, within_cells, within_places}
 use Rattle.io_scheduler.proofs.SpareLemmas.{spares_push}

@@ -2,7 +2,7 @@
 use Rattle.std.proofs.Common.{ap, refl, subst, sym, ◌∙◌}
 use Rattle.std.proofs.lemmas.Bool.{true≢false}
 use Rattle.std.proofs.lemmas.List.{get_or-set_same}
-use Rattle.std.specs.Prelude.{◌≡◌, ◌<◌, ℕ, ◌+◌, ◌-◌, ◌==◌, cond, Bool, true, false, List, [], ◌∷◌, ◌++◌, Some, None, length, slice_get, if◌then◌else◌}
+use Rattle.std.specs.Prelude.{◌≡◌, ◌<◌, ℕ, ◌==◌, cond, Bool, true, false, List, [], ◌∷◌, ◌++◌, Some, None, length, slice_get, if◌then◌else◌}
 use Rattle.asio_types.specs.declared.code.Code.{Code}
 use Rattle.asio_types.specs.declared.code.Code.TheVariants as code
 use Rattle.io_rules.specs.declared.event.Event.TheVariants as event
@@ -20,7 +20,6 @@ use Rattle.io_rules.specs.Operations.{Target, target_of}
 use Rattle.io_rules.specs.Serving.{Served, first_of, is_none_of, served, served_on, served_op, served_phase, settles, with_queue}
 use Rattle.io_rules.specs.State.{ContextState, StreamState, new_stream, stream_at}
 use Rattle.io_rules.proofs.StrandLemmas.{by_test}
-use Rattle.io_rules.proofs.TotalLemmas.{same}
 use Rattle.io_scheduler.specs.Posted.{posting}
 use Rattle.io_scheduler.specs.Shown.{AreBelow}
 use Rattle.io_scheduler.specs.Streams.{IsPlain}

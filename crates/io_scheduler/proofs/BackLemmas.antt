@@ -1,9 +1,8 @@
 -- A system call has returned: what its event makes of the operation that it was for.
-use Rattle.std.proofs.Common.{ap, refl, subst, sym, ◌∙◌}
+use Rattle.std.proofs.Common.{ap, refl, sym, ◌∙◌}
 use Rattle.std.proofs.lemmas.Bool.{true≢false}
 use Rattle.std.proofs.lemmas.List.{append-nil}
-use Rattle.std.specs.Prelude.{◌≡◌, ℕ, ◌+◌, ◌==◌, ◌&&◌, ◌||◌, nat_le, Bool, true, false, List, [], ◌∷◌, ◌++◌, Option, Some, None, if◌then◌else◌}
-use Rattle.asio_types.specs.declared.code.Code.{Code}
+use Rattle.std.specs.Prelude.{◌≡◌, ℕ, ◌+◌, ◌&&◌, ◌||◌, nat_le, Bool, true, false, List, [], ◌∷◌, ◌++◌, Option, Some, None, if◌then◌else◌}
 use Rattle.asio_types.specs.declared.code.Code.TheVariants as code
 use Rattle.io_rules.specs.declared.event.Event.TheVariants as event
 use Rattle.io_rules.specs.declared.gave.Gave.{Gave}
@@ -19,16 +18,15 @@ use Rattle.io_rules.specs.declared.operation.Side.TheVariants as side
 use Rattle.io_rules.specs.declared.place.Life.{Life}
 use Rattle.io_rules.specs.declared.place.Life.TheVariants as life
 use Rattle.io_rules.specs.declared.place.Place.{Place}
-use Rattle.io_rules.specs.Cancelling.{is_out_for, same_side}
+use Rattle.io_rules.specs.Cancelling.{is_out_for}
 use Rattle.io_rules.specs.Legal.{MayHappen, after}
-use Rattle.io_rules.specs.Names.{is_alive, is_closing, is_current, is_leaving, is_living, place_at, with_freed}
+use Rattle.io_rules.specs.Names.{is_alive, is_closing, is_current, is_leaving, is_living, place_at}
 use Rattle.io_rules.specs.Ops.{is_pending, is_settled, op_at, phase_changed, phase_changed_of, with_phase}
 use Rattle.io_rules.specs.Serving.{first_of, op_of}
-use Rattle.io_rules.specs.State.{ContextState, StreamState, new_stream, stream_at, with_stream}
-use Rattle.io_rules.specs.Tries.{MayReturn, fits, fits_head, goes_on, head_of, moved_all, moved_by, phase_back, phase_given, place_closed, place_made, settled_back, stream_back, stream_closed, stream_made}
+use Rattle.io_rules.specs.State.{ContextState, StreamState, stream_at, with_stream}
+use Rattle.io_rules.specs.Tries.{fits, fits_head, goes_on, head_of, moved_all, moved_by, phase_back, phase_given, place_closed, place_made, settled_back, stream_back, stream_closed, stream_made}
 use Rattle.io_rules.proofs.StrandLemmas.{both, by_test}
 use Rattle.io_rules.proofs.TotalLemmas.{number-op_at}
-use Rattle.io_scheduler.specs.declared.returning.Came.{Came}
 use Rattle.io_scheduler.specs.declared.returning.Came.TheVariants as came
 use Rattle.io_scheduler.specs.declared.settling.Gets.{Gets}
 use Rattle.io_scheduler.specs.Returned.{came_all, came_of, came_on, fits_back, head_fits, is_held, may_return, phase_of}

@@ -3,13 +3,11 @@
 use Rattle.std.proofs.Common.{arith, ap, refl, subst, sym, ◌∙◌}
 use Rattle.std.proofs.lemmas.Bool.{true≢false}
 use Rattle.std.proofs.lemmas.List.{length-map, length-set}
-use Rattle.std.specs.Prelude.{◌≡◌, ◌≢◌, ◌<◌, ◌^◌, ℕ, ◌+◌, ◌-◌, ◌==◌, cond, not, Bool, true, false, List, [], ◌∷◌, Option, Some, None, length, map, slice_get, if◌then◌else◌}
-use Rattle.io_rules.specs.declared.event.Event.TheVariants as event
+use Rattle.std.specs.Prelude.{◌≡◌, ◌<◌, ◌^◌, ℕ, ◌==◌, cond, true, false, List, [], ◌∷◌, Option, Some, None, length, map, slice_get}
 use Rattle.io_rules.specs.declared.gave.Gave.{Gave}
 use Rattle.io_rules.specs.declared.gave.Gave.TheVariants as gave
 use Rattle.io_rules.specs.declared.limits.Limits.{Limits}
 use Rattle.io_rules.specs.declared.name.Name.{Name}
-use Rattle.io_rules.specs.declared.op.Op.{Op}
 use Rattle.io_rules.specs.declared.operation.Operation.{Operation}
 use Rattle.io_rules.specs.declared.operation.Side.{Side}
 use Rattle.io_rules.specs.declared.operation.Side.TheVariants as side
@@ -17,13 +15,12 @@ use Rattle.io_rules.specs.declared.place.Place.{Place}
 use Rattle.io_rules.specs.declared.request.Marks.{Marks}
 use Rattle.io_rules.specs.Cancelling.{is_out_for, queue_of}
 use Rattle.io_rules.specs.Changes.{is_out}
-use Rattle.io_rules.specs.Names.{Names}
 use Rattle.io_rules.specs.Room.{one_if}
-use Rattle.io_rules.specs.Serving.{first_of, served_on}
+use Rattle.io_rules.specs.Serving.{first_of}
 use Rattle.io_rules.specs.State.{ContextState, StreamState, stream_at, with_stream}
 use Rattle.io_rules.specs.Tries.{place_made, stream_back, stream_made}
 use Rattle.io_rules.proofs.StrandLemmas.{by_test}
-use Rattle.io_rules.proofs.TotalLemmas.{apart, equal, same}
+use Rattle.io_rules.proofs.TotalLemmas.{equal, same}
 use Rattle.io_queues.specs.Ordered.{Each, Rises}
 use Rattle.io_queues.specs.Queued.{found_in}
 use Rattle.io_queues.proofs.FoundLemmas.{apart_test, each-in, found-in}
@@ -35,7 +32,7 @@ use Rattle.io_scheduler.specs.declared.tally.Tally.{Tally}
 use Rattle.io_scheduler.specs.Back.{made_of}
 use Rattle.io_scheduler.specs.Returned.{fits_back}
 use Rattle.io_scheduler.specs.Settling.{ShowsPending}
-use Rattle.io_scheduler.specs.Streaming.{on_sides, on_streams, out_in}
+use Rattle.io_scheduler.specs.Streaming.{on_sides, on_streams}
 use Rattle.io_scheduler.specs.Streams.{AreStreaming, IsPlain, IsStill, ShowsStreams}
 use Rattle.io_scheduler.specs.Tallied.{IsTally, tally_back}
 use Rattle.io_scheduler.proofs.BackLemmas.{back_to}

@@ -1,7 +1,7 @@
 -- What a system call gave brings an operation further, and it goes on: nothing but a system call settles it
 -- then, either.
 use Rattle.std.proofs.Common.{ap, refl, sym, ◌∙◌}
-use Rattle.std.specs.Prelude.{◌≡◌, ℕ, ◌+◌, ◌==◌, nat_le, Bool, true, false, Option, Some, None, if◌then◌else◌}
+use Rattle.std.specs.Prelude.{◌≡◌, ℕ, ◌+◌, nat_le, Bool, true, false, Option, Some, None, if◌then◌else◌}
 use Rattle.asio_types.specs.declared.code.Code.TheVariants as code
 use Rattle.io_rules.specs.declared.gave.Gave.{Gave}
 use Rattle.io_rules.specs.declared.gave.Gave.TheVariants as gave
@@ -12,7 +12,6 @@ use Rattle.io_rules.specs.declared.operation.Operation.TheVariants as operation
 use Rattle.io_rules.specs.Serving.{Served, served_on, stays}
 use Rattle.io_rules.specs.State.{StreamState}
 use Rattle.io_rules.proofs.StrandLemmas.{by_test}
-use Rattle.io_scheduler.specs.declared.returning.Came.{Came}
 use Rattle.io_scheduler.specs.declared.returning.Came.TheVariants as came
 use Rattle.io_scheduler.specs.declared.settling.Gets.{Gets}
 use Rattle.io_scheduler.specs.Back.{made_of}
@@ -119,7 +118,7 @@ none_made kind gave.Linked reserved moved more cancelled is = refl
 settled_pending : (gets : Gets) (moved : ℕ) (cancelled : Bool) → phase.Settled gets.code gets.size ≡ phase.Pending moved cancelled → ⊥
 settled_pending gets moved cancelled is = cc
 
-none_gets : (gets : Option Gets) (moved held : ℕ) (cancelled : Bool) →
+pub none_gets : (gets : Option Gets) (moved held : ℕ) (cancelled : Bool) →
     as_served gets moved cancelled held ≡ stays moved cancelled held → gets ≡ None
 none_gets None moved held cancelled is = refl
 none_gets (Some gets) moved held cancelled is =

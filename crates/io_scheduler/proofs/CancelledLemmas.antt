@@ -1,8 +1,7 @@
 -- Waits are cancelled, one after another: each that completes leaves the state in which the others are cancelled.
 use Rattle.std.proofs.Common.{ap, refl, subst, sym, ◌∙◌}
-use Rattle.std.proofs.lemmas.Bool.{true≢false}
 use Rattle.std.proofs.lemmas.List.{append-nil}
-use Rattle.std.specs.Prelude.{◌≡◌, ℕ, ◌==◌, ◌&&◌, ◌||◌, cond, not, Bool, true, false, List, [], ◌∷◌, ◌++◌, Option, Some, None, slice_get, if◌then◌else◌}
+use Rattle.std.specs.Prelude.{◌≡◌, ℕ, ◌==◌, ◌&&◌, ◌||◌, cond, not, Bool, true, false, List, [], ◌∷◌, ◌++◌, Some, None, slice_get, if◌then◌else◌}
 use Rattle.std.specs.List.{filter}
 use Rattle.asio_types.specs.declared.code.Code.TheVariants as code
 use Rattle.io_rules.specs.declared.event.Event.TheVariants as event
@@ -62,7 +61,7 @@ not_both : (x m n : ℕ) → (m ≡ n → ⊥) → (x == n) ≡ true → (x == m
 not_both x m n other is = differ x m (λ at. other (sym at ∙ equal x n is))
 
 -- of two operations, in either order
-changed_comm : (m n : ℕ) (f g : Op → Phase) (ops : List Op) → (m ≡ n → ⊥) →
+pub changed_comm : (m n : ℕ) (f g : Op → Phase) (ops : List Op) → (m ≡ n → ⊥) →
     phase_changed n f (phase_changed m g ops) ≡ phase_changed m g (phase_changed n f ops)
 changed_comm m n f g [] other = refl
 changed_comm m n f g (x ∷ ops) other =
@@ -84,7 +83,7 @@ changed_comm m n f g (x ∷ ops) other =
     ∙ sym (ap (phase_changed m g) (changed_no n f x ops elsewhere) ∙ changed_no m g x (phase_changed n f ops) neither)))
 
 -- twice the same operation
-changed_twice : (n : ℕ) (p : Phase) (g : Op → Phase) (ops : List Op) →
+pub changed_twice : (n : ℕ) (p : Phase) (g : Op → Phase) (ops : List Op) →
     with_phase n p (phase_changed n g ops) ≡ with_phase n p ops
 changed_twice n p g [] = refl
 changed_twice n p g (x ∷ ops) =
@@ -97,7 +96,7 @@ changed_twice n p g (x ∷ ops) =
     ∙ ap (λ rest. x ∷ rest) (changed_twice n p g ops) ∙ sym (changed_no n (λ o. p) x ops other))
 
 -- a change of one that isn't cancelled
-cancelled_comm : (s : ContextState) (n : ℕ) (p : Phase) (numbers : List ℕ) (ops : List Op) →
+pub cancelled_comm : (s : ContextState) (n : ℕ) (p : Phase) (numbers : List ℕ) (ops : List Op) →
     Each (λ m. m ≡ n → ⊥) numbers →
     with_phase n p (ops_cancelled s numbers ops) ≡ ops_cancelled s numbers (with_phase n p ops)
 cancelled_comm s n p [] ops others = refl
@@ -107,7 +106,7 @@ cancelled_comm s n p (m ∷ numbers) ops others =
     (changed_comm m n (λ o. p) (λ op. cancelled_phase (is_tried s op) op.phase) ops others.0)
 
 -- in a state in which the same is tried
-cancelled_alike : (s new : ContextState) (alike : (op : Op) → is_tried new op ≡ is_tried s op) (numbers : List ℕ)
+pub cancelled_alike : (s new : ContextState) (alike : (op : Op) → is_tried new op ≡ is_tried s op) (numbers : List ℕ)
     (ops : List Op) → ops_cancelled new numbers ops ≡ ops_cancelled s numbers ops
 cancelled_alike s new alike [] ops = refl
 cancelled_alike s new alike (m ∷ numbers) ops =
@@ -116,7 +115,7 @@ cancelled_alike s new alike (m ∷ numbers) ops =
 
 -- ---- what is settled, and what waits
 
-filter_off : (n : ℕ) (numbers : List ℕ) → Each (λ m. m ≡ n → ⊥) numbers → others_than n numbers ≡ numbers
+pub filter_off : (n : ℕ) (numbers : List ℕ) → Each (λ m. m ≡ n → ⊥) numbers → others_than n numbers ≡ numbers
 filter_off n numbers others =
     filter-all (λ k. not (k == n)) numbers (each_off n numbers others)
   where
@@ -124,7 +123,7 @@ filter_off n numbers others =
     each_off n [] others = tt
     each_off n (m ∷ numbers) others = (ap not (differ m n others.0), each_off n numbers others.1)
 
-settles_all : (s : ContextState) (numbers : List ℕ) → Each (IsToCancel s) numbers →
+pub settles_all : (s : ContextState) (numbers : List ℕ) → Each (IsToCancel s) numbers →
     filter (is_settled_by_cancel s) numbers ≡ numbers
 settles_all s numbers all = filter-all (is_settled_by_cancel s) numbers (each_settles numbers all)
   where
@@ -132,14 +131,14 @@ settles_all s numbers all = filter-all (is_settled_by_cancel s) numbers (each_se
     each_settles [] all = tt
     each_settles (m ∷ numbers) all = (ap (settles_at s) all.0.is ∙ all.0.settles, each_settles numbers all.1)
 
-turned : (m n : ℕ) → (m == n) ≡ (n == m)
+pub turned : (m n : ℕ) → (m == n) ≡ (n == m)
 turned m n =
     by_test (n == m)
     (λ is. ap (λ k. k == n) (sym (equal n m is)) ∙ same n ∙ sym is)
     (λ other. differ m n (λ at. apart n m other at) ∙ sym other)
 
 -- those that are left: neither this one nor one of the others
-kept_test : (n k : ℕ) (b : Bool) → not ((n == k) || b) ≡ cond (not (k == n)) (not b) false
+pub kept_test : (n k : ℕ) (b : Bool) → not ((n == k) || b) ≡ cond (not (k == n)) (not b) false
 kept_test n k b =
     by_test (k == n)
     (λ is.
@@ -148,7 +147,7 @@ kept_test n k b =
     ap (λ c. not (c || b)) (turned n k ∙ other) ∙ sym (ap (λ c. cond (not c) (not b) false) other))
 
 -- two filters, as one
-filter_twice : (p q r : Wait → Bool) → ((w : Wait) → r w ≡ cond (p w) (q w) false) → (waits : List Wait) →
+pub filter_twice : (p q r : Wait → Bool) → ((w : Wait) → r w ≡ cond (p w) (q w) false) → (waits : List Wait) →
     filter r waits ≡ filter q (filter p waits)
 filter_twice p q r are [] = refl
 filter_twice p q r are (w ∷ waits) =
@@ -176,7 +175,7 @@ among_twice n k b =
     ap (λ c. not (c || b)) other
     ∙ sym (ap (λ c. cond (not (c || b)) (not (k == n)) false) other ∙ ap (λ c. cond (not b) (not c) false) off ∙ true_if b))
 
-waits_commute : (n : ℕ) (numbers : List ℕ) (waits : List Wait) →
+pub waits_commute : (n : ℕ) (numbers : List ℕ) (waits : List Wait) →
     left_waits n (filter (λ wait. not (is_among (n ∷ numbers) wait.op)) waits)
     ≡ filter (λ wait. not (is_among numbers wait.op)) (left_waits n waits)
 waits_commute n numbers waits =
@@ -215,13 +214,13 @@ still_to_cancel s n on (m ∷ numbers) others all = (
   still_to_cancel s n on numbers others.1 all.1,
 )
 
-three_nil : (xs : List ℕ) → xs ++ [] ++ [] ++ [] ≡ xs
+pub three_nil : (xs : List ℕ) → xs ++ [] ++ [] ++ [] ≡ xs
 three_nil xs = append-nil (xs ++ [] ++ []) ∙ append-nil (xs ++ []) ∙ append-nil xs
 
-first_off : (n : ℕ) (numbers : List ℕ) → others_than n (n ∷ numbers) ≡ others_than n numbers
+pub first_off : (n : ℕ) (numbers : List ℕ) → others_than n (n ∷ numbers) ≡ others_than n numbers
 first_off n numbers = ap (λ b. cond (not b) (n ∷ others_than n numbers) (others_than n numbers)) (same n)
 
-first_settles : (s : ContextState) (n : ℕ) (numbers : List ℕ) → IsToCancel s n → Each (IsToCancel s) numbers →
+pub first_settles : (s : ContextState) (n : ℕ) (numbers : List ℕ) → IsToCancel s n → Each (IsToCancel s) numbers →
     filter (is_settled_by_cancel s) (n ∷ numbers) ≡ n ∷ numbers
 first_settles s n numbers it all =
     ap (λ b. cond b (n ∷ filter (is_settled_by_cancel s) numbers) (filter (is_settled_by_cancel s) numbers))
@@ -264,7 +263,7 @@ module _ (s : ContextState) (n : ℕ) (timer : Name) (on : Lane) (numbers : List
       (left_settled n s.settled ++ filter (is_settled_by_cancel v) numbers) x) waits
 
 -- an operation that others' cancellations leave
-at_cancelled : (s : ContextState) (n : ℕ) (op : Op) (numbers : List ℕ) (ops : List Op) → op_at ops n ≡ Some op →
+pub at_cancelled : (s : ContextState) (n : ℕ) (op : Op) (numbers : List ℕ) (ops : List Op) → op_at ops n ≡ Some op →
     Each (λ m. m ≡ n → ⊥) numbers → op_at (ops_cancelled s numbers ops) n ≡ Some op
 at_cancelled s n op [] ops is others = is
 at_cancelled s n op (m ∷ numbers) ops is others =

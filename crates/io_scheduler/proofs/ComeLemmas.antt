@@ -7,8 +7,7 @@ use Rattle.io_rules.specs.declared.event.Event.{Event}
 use Rattle.io_rules.specs.declared.event.Event.TheVariants as event
 use Rattle.io_rules.specs.declared.limits.Limits.{Limits}
 use Rattle.io_rules.specs.Legal.{MayHappen, after, state_of}
-use Rattle.io_rules.specs.Names.{Names}
-use Rattle.io_rules.specs.State.{ContextState, TimerState}
+use Rattle.io_rules.specs.State.{ContextState}
 use Rattle.io_scheduler.specs.Come.{HaveCome, HavePassed, MayCome, NotesAll, behind, completions, with_events}
 use Rattle.io_scheduler.specs.Expired.{HasPassed}
 use Rattle.io_rules.specs.Timers.{due}

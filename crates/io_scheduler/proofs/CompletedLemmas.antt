@@ -4,7 +4,7 @@ use Rattle.std.proofs.lemmas.Bool.{true≢false}
 use Rattle.std.proofs.lemmas.List.{get_or-set_other, get_or-set_same, length_push, map-set}
 use Rattle.std.proofs.Math.Seq.{map-set_same}
 use Rattle.std.specs.Global.{Vec}
-use Rattle.std.specs.Prelude.{◌≡◌, ◌<◌, ℕ, ◌+◌, ◌==◌, Bool, true, false, List, [], ◌∷◌, ◌++◌, Option, Some, length, map, sum_by}
+use Rattle.std.specs.Prelude.{◌≡◌, ◌<◌, ℕ, ◌+◌, ◌==◌, true, false, List, [], ◌∷◌, Option, Some, length, map, sum_by}
 use Rattle.std.specs.List.{slice_set}
 use Rattle.asio_types.specs.declared.code.Code.{Code}
 use Rattle.io_rules.specs.declared.limits.Limits.{Limits}
@@ -19,9 +19,9 @@ use Rattle.io_rules.specs.declared.request.Marks.{Marks}
 use Rattle.io_rules.specs.Names.{Names, is_current}
 use Rattle.io_rules.specs.Ops.{is_ready, op_at, with_phase}
 use Rattle.io_rules.specs.State.{ContextState, strand_at}
-use Rattle.io_rules.specs.Strands.{on_lane, ready_on}
+use Rattle.io_rules.specs.Strands.{ready_on}
 use Rattle.io_rules.proofs.StrandLemmas.{by_test}
-use Rattle.io_rules.proofs.TotalLemmas.{apart, equal, sum_by-total, total, total-changed}
+use Rattle.io_rules.proofs.TotalLemmas.{apart, equal, sum_by-total, total-changed}
 use Rattle.io_history.proofs.AtLemmas.{at-changed}
 use Rattle.io_strands.specs.declared.ready.ReadyOp.{ReadyOp}
 use Rattle.io_strands.specs.Cell.{Cell, is_there, may_begin, readied, vacant}

@@ -1,8 +1,8 @@
 -- Where an operation completes there is room for it among those that are ready.
-use Rattle.std.proofs.Common.{arith, ap, refl, subst, sym, ◌∙◌}
+use Rattle.std.proofs.Common.{arith, ap, refl, sym, ◌∙◌}
 use Rattle.std.proofs.lemmas.List.{get_or-replicate, length-map, length-replicate}
 use Rattle.std.proofs.Math.ListN.{get_or-map}
-use Rattle.std.specs.Prelude.{◌≡◌, ◌<◌, ◌≤◌, ℕ, ◌+◌, true, List, None, length, map}
+use Rattle.std.specs.Prelude.{◌≡◌, ◌<◌, ◌≤◌, ℕ, ◌+◌, true, List, None, length}
 use Rattle.std.specs.List.{slice_index_or}
 use Rattle.asio_types.specs.declared.code.Code.TheVariants as code
 use Rattle.io_rules.specs.declared.limits.Limits.{Limits}
@@ -28,9 +28,7 @@ use Rattle.io_strands.specs.Numbered.{number_of}
 use Rattle.io_jobs.specs.Listed.{JobList}
 use Rattle.io_scheduler.specs.declared.counts.Counts.{Counts}
 use Rattle.io_scheduler.specs.Completed.{MayBeReadyOn}
-use Rattle.io_scheduler.specs.Ready.{own_ops}
 use Rattle.io_scheduler.specs.Shown.{Shows, cell_at, is_used_place, room_of, waits_own}
-use Rattle.io_scheduler.specs.Waits.{IsThere}
 use Rattle.io_scheduler.proofs.CompletedLemmas.{IsUnready, own_completed}
 use Rattle.io_scheduler.proofs.ListedLemmas.{cell_is}
 use Rattle.io_scheduler.proofs.SpaceLemmas.{own_place, owns_are, strand_place, there_is}

@@ -1,41 +1,30 @@
 -- In each legal history what is pending on a stream names what is there now; and where that was closed meanwhile,
 -- it is the operation whose system call is under way, and is cancelled.
-use Rattle.std.proofs.Common.{arith, ap, refl, subst, sym, ◌∙◌, ⊎_elim, inl, inr}
+use Rattle.std.proofs.Common.{ap, refl, subst, sym, ◌∙◌}
 use Rattle.std.proofs.lemmas.Bool.{true≢false}
-use Rattle.std.proofs.lemmas.List.{get_or-set_other, get_or-set_same, get_or_past}
-use Rattle.std.specs.Prelude.{◌≡◌, ◌<◌, ◌⊎◌, ℕ, ◌+◌, ◌-◌, ◌==◌, ◌&&◌, ◌||◌, min, not, nat_le, nat_lt, Bool, true, false, List, [], ◌∷◌, ◌++◌, Option, Some, None, cond, filter, map, slice_get, if◌then◌else◌}
-use Rattle.std.specs.List.{slice_index_or, slice_set}
+use Rattle.std.specs.Prelude.{◌≡◌, ℕ, ◌+◌, ◌-◌, ◌==◌, min, not, nat_le, nat_lt, Bool, true, false, List, [], ◌∷◌, Option, Some, None, if◌then◌else◌}
 use Rattle.asio_types.specs.declared.code.Code.{Code}
 use Rattle.asio_types.specs.declared.code.Code.TheVariants as code
-use Rattle.io_rules.specs.declared.control.Control.{Control}
-use Rattle.io_rules.specs.declared.control.Control.TheVariants as control
-use Rattle.io_rules.specs.declared.event.Event.{Event}
-use Rattle.io_rules.specs.declared.event.Event.TheVariants as event
 use Rattle.io_rules.specs.declared.gave.Gave.{Gave}
 use Rattle.io_rules.specs.declared.gave.Gave.TheVariants as gave
-use Rattle.io_rules.specs.declared.limits.Limits.{Limits}
 use Rattle.io_rules.specs.declared.name.Kind.{Kind}
-use Rattle.io_rules.specs.declared.name.Kind.TheVariants as kind
-use Rattle.io_rules.specs.declared.name.Name.{Name}
 use Rattle.io_rules.specs.declared.op.Op.{Op}
 use Rattle.io_rules.specs.declared.op.Phase.{Phase}
 use Rattle.io_rules.specs.declared.op.Phase.TheVariants as phase
 use Rattle.io_rules.specs.declared.operation.Operation.{Operation}
 use Rattle.io_rules.specs.declared.operation.Operation.TheVariants as operation
 use Rattle.io_rules.specs.declared.operation.Side.{Side}
-use Rattle.io_rules.specs.declared.operation.Side.TheVariants as side
 use Rattle.io_rules.specs.declared.spares.Spares.{Spares}
-use Rattle.io_rules.specs.Cancelling.{cancelled_phase, is_among, is_out_for, is_tried, ops_cancelled}
+use Rattle.io_rules.specs.Cancelling.{cancelled_phase, is_out_for, is_tried, ops_cancelled}
 use Rattle.io_rules.specs.Executions.{granted_more}
-use Rattle.io_rules.specs.Operations.{Target, target_of}
-use Rattle.io_rules.specs.Ops.{is_pending, is_untouched, op_at, phase_changed, phase_changed_of, with_phase, without}
+use Rattle.io_rules.specs.Operations.{Target}
+use Rattle.io_rules.specs.Ops.{is_pending, is_untouched, op_at, phase_changed, phase_changed_of}
 use Rattle.io_rules.specs.Changes.{spare_used}
 use Rattle.io_rules.specs.Room.{place_given}
 use Rattle.io_rules.specs.Serving.{Served, first_of, is_none_of, ops_served, served_linked, served_on, served_op, served_phase}
 use Rattle.io_rules.specs.State.{ContextState, StreamState, stream_at}
 use Rattle.io_rules.specs.Tries.{goes_on, phase_back, phase_found, phase_given, phase_moved, phase_searched}
-use Rattle.io_rules.proofs.StrandLemmas.{both, by_test}
-use Rattle.io_rules.proofs.TotalLemmas.{apart, equal, same}
+use Rattle.io_rules.proofs.StrandLemmas.{by_test}
 
 -- ---- what an operation comes from
 

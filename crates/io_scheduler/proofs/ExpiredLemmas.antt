@@ -1,9 +1,9 @@
 -- The wait that is due first completes: what is kept shows the state behind that.
-use Rattle.std.proofs.Common.{arith, ap, refl, subst, sym, ◌∙◌, ⊎_elim}
+use Rattle.std.proofs.Common.{arith, ap, subst, sym, ◌∙◌, ⊎_elim}
 use Rattle.std.proofs.lemmas.Bool.{cases_lt, true≢false}
 use Rattle.std.proofs.lemmas.List.{get_or_past, length-map}
 use Rattle.std.specs.Global.{Vec}
-use Rattle.std.specs.Prelude.{◌≡◌, ◌<◌, ◌≤◌, ℕ, ◌+◌, true, false, List, [], Option, Some, None, length, map}
+use Rattle.std.specs.Prelude.{◌≡◌, ◌<◌, ◌≤◌, ℕ, ◌+◌, true, List, [], Option, Some, None, length, map}
 use Rattle.asio_types.specs.declared.code.Code.{Code}
 use Rattle.asio_types.specs.declared.code.Code.TheVariants as code
 use Rattle.io_rules.specs.declared.event.Event.{Event}
@@ -20,7 +20,7 @@ use Rattle.io_rules.specs.Names.{Names, is_on, no_place, place_at}
 use Rattle.io_rules.specs.Ops.{op_at}
 use Rattle.io_rules.specs.Room.{one_if, places_in}
 use Rattle.io_rules.specs.State.{ContextState, StrandState}
-use Rattle.io_rules.specs.Timers.{due, due_by}
+use Rattle.io_rules.specs.Timers.{due_by}
 use Rattle.io_rules.proofs.FitLemmas.{FitsStrand, tied_to}
 use Rattle.io_rules.proofs.RoomLemmas.{places_add_up}
 use Rattle.io_rules.proofs.StageLemmas.{Idle, stage_of, staged}

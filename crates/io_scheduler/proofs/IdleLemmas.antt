@@ -1,6 +1,6 @@
 -- How many operations haven't completed.
-use Rattle.std.proofs.Common.{arith, ap, refl, ◌∙◌}
-use Rattle.std.specs.Prelude.{◌≡◌, ◌≤◌, ℕ, ◌+◌, List, [], ◌∷◌, true, sum_by}
+use Rattle.std.proofs.Common.{arith, refl, ◌∙◌}
+use Rattle.std.specs.Prelude.{◌≡◌, ◌≤◌, ℕ, List, [], ◌∷◌}
 use Rattle.io_rules.specs.declared.name.Lane.{Lane}
 use Rattle.io_rules.specs.declared.op.Op.{Op}
 use Rattle.io_rules.specs.declared.op.Phase.{Phase}

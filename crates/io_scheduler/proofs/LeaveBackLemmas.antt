@@ -1,9 +1,9 @@
 -- A system call has returned whose stream was closed meanwhile: its operation is settled, and its stream is
 -- gone.
-use Rattle.std.proofs.Common.{ap, refl, subst, sym, ◌∙◌}
+use Rattle.std.proofs.Common.{ap, refl, sym, ◌∙◌}
 use Rattle.std.proofs.lemmas.Bool.{true≢false}
 use Rattle.std.proofs.lemmas.List.{get_or-set_other}
-use Rattle.std.specs.Prelude.{◌≡◌, ℕ, ◌&&◌, not, Bool, true, false, List, [], ◌∷◌, Option, Some, None, slice_get}
+use Rattle.std.specs.Prelude.{◌≡◌, ℕ, not, Bool, true, false, List, [], ◌∷◌, Option, Some, None, slice_get}
 use Rattle.std.specs.Global.{Vec}
 use Rattle.std.specs.List.{slice_index_or}
 use Rattle.io_rules.specs.declared.event.Event.{Event}
@@ -50,7 +50,8 @@ use Rattle.io_scheduler.specs.Waits.{ShowsWaits}
 use Rattle.io_scheduler.proofs.BackLemmas.{out_is}
 use Rattle.io_scheduler.proofs.BackedLemmas.{queue_back, returned}
 use Rattle.io_scheduler.proofs.CameLemmas.{goes_on}
-use Rattle.io_scheduler.proofs.KnownLemmas.{IsLast, are_known}
+use Rattle.io_scheduler.proofs.KnownLemmas.{are_known}
+use Rattle.io_scheduler.proofs.KnownStillLemmas.{IsLast}
 use Rattle.io_scheduler.proofs.LinkedLemmas.{apart_unused}
 use Rattle.io_scheduler.proofs.OnlyLemmas.{IsThis, only_alone}
 use Rattle.io_scheduler.proofs.ReturnedLemmas.{back_leaving, hidden, hidden_settling, now_at}

@@ -2,7 +2,7 @@
 use Rattle.std.proofs.Common.{arith, ap, inl, inr, refl, subst, sym, ◌∙◌, ⊎_elim}
 use Rattle.std.proofs.lemmas.Bool.{cases_lt, true≢false}
 use Rattle.std.proofs.lemmas.List.{get_or_past, length-set}
-use Rattle.std.specs.Prelude.{◌≡◌, ◌<◌, ◌≤◌, ◌^◌, ◌⊎◌, ℕ, ◌+◌, ◌-◌, ◌==◌, cond, not, Bool, true, false, List, [], ◌∷◌, Option, Some, None, length, map, slice_get, sum_by, if◌then◌else◌}
+use Rattle.std.specs.Prelude.{◌≡◌, ◌<◌, ◌≤◌, ◌^◌, ◌⊎◌, ℕ, ◌+◌, ◌==◌, cond, not, Bool, true, false, List, [], ◌∷◌, Some, None, length, map, slice_get, if◌then◌else◌}
 use Rattle.std.specs.List.{filter, slice_index_or}
 use Rattle.io_rules.specs.declared.limits.Limits.{Limits}
 use Rattle.io_rules.specs.declared.name.Name.{Name}
@@ -16,8 +16,8 @@ use Rattle.io_rules.specs.declared.request.Marks.{Marks}
 use Rattle.io_rules.specs.Cancelling.{is_first, is_out_for, queue_of}
 use Rattle.io_rules.specs.Changes.{is_out}
 use Rattle.io_rules.specs.Completing.{others_than, search_left, side_left, streams_left}
-use Rattle.io_rules.specs.Operations.{Target, at}
-use Rattle.io_rules.specs.Ops.{op_at, with_phase}
+use Rattle.io_rules.specs.Operations.{at}
+use Rattle.io_rules.specs.Ops.{with_phase}
 use Rattle.io_rules.specs.Room.{one_if}
 use Rattle.io_rules.specs.Serving.{first_of, served_on, stays, with_queue}
 use Rattle.io_rules.specs.State.{ContextState, StreamState, new_stream, stream_at, with_stream}
@@ -99,11 +99,11 @@ pub left_is : (sd : Side) (n : ℕ) (stream : StreamState) → stream.searched �
     side_left sd n stream ≡ with_queue sd (others_than n (queue_of sd stream)) stream
 left_is sd n stream none = ap (with_queue sd (others_than n (queue_of sd stream))) (search_plain sd n stream none)
 
-fewer_on : (sd : Side) (n : ℕ) (rest : List ℕ) (stream : StreamState) → queue_of sd stream ≡ n ∷ rest →
+fewer_on : (sd : Side) (rest : List ℕ) (stream : StreamState) → length rest + 1 ≡ length (queue_of sd stream) →
     on_sides (with_queue sd rest stream) + 1 ≡ on_sides stream
-fewer_on side.Read n rest stream is = let many = ap length is in omega (arith, many)
-fewer_on side.Write n rest stream is = let many = ap length is in omega (arith, many)
-fewer_on side.Connect n rest stream is = let many = ap length is in omega (arith, many)
+fewer_on side.Read rest stream many = omega (arith, many)
+fewer_on side.Write rest stream many = omega (arith, many)
+fewer_on side.Connect rest stream many = omega (arith, many)
 
 -- a side's numbers rise
 pub above_rest : {T : Type 0} (test : Entry (PendingOp T) → Bool) (n : ℕ) (rest : List ℕ) (xs : List (Entry (PendingOp T))) →
@@ -218,7 +218,7 @@ others_streaming marks ops n p (x ∷ xs) all =
     ))
 
 -- what is found among the others was there before
-numbered_before : {T : Type 0} (n k : ℕ) (it : PendingOp T) (xs : List (Entry (PendingOp T))) →
+pub numbered_before : {T : Type 0} (n k : ℕ) (it : PendingOp T) (xs : List (Entry (PendingOp T))) →
     numbered_in k (filter (is_other n) xs) ≡ Some it → numbered_in k xs ≡ Some it
 numbered_before n k it [] is = is
 numbered_before {T = T} n k it (x ∷ xs) is =
@@ -253,25 +253,19 @@ numbered_before {T = T} n k it (x ∷ xs) is =
 
 -- ---- what it leaves of the stream
 
-plain_queue : (sd : Side) (n : ℕ) (rest : List ℕ) (stream : StreamState) → queue_of sd stream ≡ n ∷ rest → IsPlain stream →
-    IsPlain (with_queue sd rest stream)
-plain_queue side.Read n rest stream is plain =
+plain_queue : (sd : Side) (rest : List ℕ) (stream : StreamState) → length rest + 1 ≡ length (queue_of sd stream) →
+    IsPlain stream → IsPlain (with_queue sd rest stream)
+plain_queue side.Read rest stream many plain =
     record { held = plain.held; searched = plain.searched; connects = plain.connects }
-plain_queue side.Write n rest stream is plain =
+plain_queue side.Write rest stream many plain =
     record { held = plain.held; searched = plain.searched; connects = plain.connects }
-plain_queue side.Connect n rest stream is plain = absurd (nothing n rest (sym plain.connects ∙ is))
-  where
-    nothing : (n : ℕ) (rest : List ℕ) → [] ≡ n ∷ rest → ⊥
-    nothing n rest is = cc
+plain_queue side.Connect rest stream many plain = let none = ap length plain.connects in absurd (omega (arith, many, none))
 
-alike_queue : (sd : Side) (n : ℕ) (rest : List ℕ) (stream : StreamState) → queue_of sd stream ≡ n ∷ rest → IsPlain stream →
-    GivesAlike stream (with_queue sd rest stream)
-alike_queue side.Read n rest stream is plain = record { linked = refl; connects = refl; held = refl; searched = refl }
-alike_queue side.Write n rest stream is plain = record { linked = refl; connects = refl; held = refl; searched = refl }
-alike_queue side.Connect n rest stream is plain = absurd (nothing n rest (sym plain.connects ∙ is))
-  where
-    nothing : (n : ℕ) (rest : List ℕ) → [] ≡ n ∷ rest → ⊥
-    nothing n rest is = cc
+pub alike_queue : (sd : Side) (rest : List ℕ) (stream : StreamState) → length rest + 1 ≡ length (queue_of sd stream) →
+    IsPlain stream → GivesAlike stream (with_queue sd rest stream)
+alike_queue side.Read rest stream many plain = record { linked = refl; connects = refl; held = refl; searched = refl }
+alike_queue side.Write rest stream many plain = record { linked = refl; connects = refl; held = refl; searched = refl }
+alike_queue side.Connect rest stream many plain = let none = ap length plain.connects in absurd (omega (arith, many, none))
 
 pub out_queue : (sd : Side) (rest : List ℕ) (stream : StreamState) → (with_queue sd rest stream).out ≡ stream.out
 out_queue side.Read rest stream = refl
@@ -289,6 +283,11 @@ queue_other side.Write side.Connect rest stream other = refl
 queue_other side.Connect side.Read rest stream other = refl
 queue_other side.Connect side.Write rest stream other = refl
 queue_other side.Connect side.Connect rest stream other = absurd (other refl)
+
+pub queue_own : (sd : Side) (rest : List ℕ) (stream : StreamState) → queue_of sd (with_queue sd rest stream) ≡ rest
+queue_own side.Read rest stream = refl
+queue_own side.Write rest stream = refl
+queue_own side.Connect rest stream = refl
 
 read_write : side.Read ≡ side.Write → ⊥
 read_write is = cc
@@ -312,57 +311,64 @@ same_or side.Connect side.Connect = inr refl
 
 -- ---- all of it
 
+-- an operation leaves its side, on which others may stay before it
+pub record LeavesSide {T : Type 0} (name : Name) (sd : Side) (streams : StreamList T) (op : PendingOp T) : Type 0 where
+  pub numbered : numbered_in op.op streams.ops ≡ Some op
+  pub place : op.stream.place ≡ name.place
+  pub on : op.side ≡ sd
+  pub within : name.place < length streams.streams
+  pub rest : List ℕ
+  pub fewer : length rest + 1 ≡ length (queue_of sd (stream_at streams.streams name))
+  pub left : side_left sd op.op (stream_at streams.streams name) ≡ with_queue sd rest (stream_at streams.streams name)
+
 module _ {H : Type 0} (marks : H → Marks) (limits : Limits) (streams : StreamList (Streaming H)) (v : ContextState)
     (name : Name) (sd : Side) (op : PendingOp (Streaming H)) (pending : ShowsPending marks limits streams v)
-    (whole : IsWhole streams) (head : IsHead name sd streams op) where
-  abbrev pub stream : StreamState
+    (whole : IsWhole streams) (leaves : LeavesSide name sd streams op) where
+  abbrev stream : StreamState
   stream = stream_at streams.streams name
+
+  abbrev now : StreamState
+  now = with_queue sd leaves.rest stream
 
   plain : IsPlain stream
   plain = subst (λ xs. IsPlain (stream_at xs name)) (sym pending.streams_are) (pending.plain name)
 
-  pub cut : FirstLeaves stream sd op.op
-  cut = first_leaves streams name sd op.op whole plain head.first
-
-  pub within : name.place < length streams.streams
-  within = first_within streams.streams name sd op.op head.first
-
   -- the operation's own target is this side
-  abbrev pub new_streams : List StreamState → List StreamState
-  new_streams xs = streams_left op.op (at op.stream op.side) xs
+  abbrev left_streams : List StreamState → List StreamState
+  left_streams xs = streams_left op.op (at op.stream op.side) xs
 
-  pub new_is : new_streams streams.streams ≡ with_stream name (with_queue sd cut.rest stream) streams.streams
-  new_is =
-      ap (λ on. streams_left op.op (at op.stream on) streams.streams) head.on
+  pub side_is : left_streams streams.streams ≡ with_stream name now streams.streams
+  side_is =
+      ap (λ on. streams_left op.op (at op.stream on) streams.streams) leaves.on
       ∙ ap (λ k. with_stream (record { place = k; generation = op.stream.generation })
       (side_left sd op.op (stream_at streams.streams (record { place = k; generation = op.stream.generation }))) streams.streams)
-      head.place
-      ∙ ap (λ new. with_stream name new streams.streams) cut.left
+      leaves.place
+      ∙ ap (λ new. with_stream name new streams.streams) leaves.left
 
-  pub fewer_now : on_streams (new_streams streams.streams) + 1 ≡ on_streams streams.streams
-  fewer_now =
-      let sum = sum_with on_sides streams.streams name (with_queue sd cut.rest stream) within in
-      let less = fewer_on sd op.op cut.rest stream cut.queue in
-      let is = ap on_streams new_is in
+  pub side_fewer : on_streams (left_streams streams.streams) + 1 ≡ on_streams streams.streams
+  side_fewer =
+      let sum = sum_with on_sides streams.streams name now leaves.within in
+      let less = fewer_on sd leaves.rest stream leaves.fewer in
+      let is = ap on_streams side_is in
       omega (arith, sum, less, is)
 
-  pub fewer_left : length (without_op op streams).ops + 1 ≡ length streams.ops
-  fewer_left = fewer_ops op.op op streams.ops whole.rises head.numbered
+  pub side_at : stream_at (left_streams streams.streams) name ≡ now
+  side_at =
+      ap (λ xs. stream_at xs name) side_is
+      ∙ at_with (λ st. st ≡ now) streams.streams name now leaves.within name (λ here. refl) (λ other. absurd (other refl))
 
-  pub out_left : (stream_at (new_streams v.streams) name).out ≡ (stream_at v.streams name).out
-  out_left =
-      ap (λ xs. (stream_at (new_streams xs) name).out) (sym pending.streams_are)
-      ∙ ap (λ xs. (stream_at xs name).out) new_is
-      ∙ at_with (λ st. st.out ≡ stream.out) streams.streams name (with_queue sd cut.rest stream) within name
-      (λ here. out_queue sd cut.rest stream) (λ other. refl)
+  pub side_out : (stream_at (left_streams v.streams) name).out ≡ (stream_at v.streams name).out
+  side_out =
+      ap (λ xs. (stream_at (left_streams xs) name).out) (sym pending.streams_are)
+      ∙ ap (λ (st : StreamState). st.out) side_at ∙ out_queue sd leaves.rest stream
       ∙ ap (λ xs. (stream_at xs name).out) pending.streams_are
 
-  pub out_same : out_in (new_streams v.streams) ≡ out_in v.streams
-  out_same =
-      ap (λ xs. out_in (new_streams xs)) (sym pending.streams_are)
-      ∙ ap out_in new_is
-      ∙ sum_same (λ (st : StreamState). one_if (is_out st.out)) streams.streams name (with_queue sd cut.rest stream) within
-      (ap (λ o. one_if (is_out o)) (out_queue sd cut.rest stream))
+  pub side_out_same : out_in (left_streams v.streams) ≡ out_in v.streams
+  side_out_same =
+      ap (λ xs. out_in (left_streams xs)) (sym pending.streams_are)
+      ∙ ap out_in side_is
+      ∙ sum_same (λ (st : StreamState). one_if (is_out st.out)) streams.streams name now leaves.within
+      (ap (λ o. one_if (is_out o)) (out_queue sd leaves.rest stream))
       ∙ ap out_in pending.streams_are
 
   busy_at : (other : Name) (on : Side) → is_out_for on (stream_at streams.streams other).out ≡ true →
@@ -371,71 +377,122 @@ module _ {H : Type 0} (marks : H → Marks) (limits : Limits) (streams : StreamL
       subst (λ xs. is_out_for on (stream_at xs other).out ≡ true → first_of on (stream_at xs other) ≡ None → ⊥)
       (sym pending.streams_are) (pending.busy other on)
 
-  busy_left : is_out_for sd (stream_at v.streams name).out ≡ false → (other : Name) (on : Side) →
-      is_out_for on (stream_at (with_stream name (with_queue sd cut.rest stream) streams.streams) other).out ≡ true →
-      first_of on (stream_at (with_stream name (with_queue sd cut.rest stream) streams.streams) other) ≡ None → ⊥
-  busy_left back other on =
-      at_with (λ st. is_out_for on st.out ≡ true → first_of on st ≡ None → ⊥) streams.streams name
-      (with_queue sd cut.rest stream) within other
+  busy_left : (is_out_for sd stream.out ≡ true → slice_get leaves.rest 0 ≡ None → ⊥) → (other : Name) (on : Side) →
+      is_out_for on (stream_at (with_stream name now streams.streams) other).out ≡ true →
+      first_of on (stream_at (with_stream name now streams.streams) other) ≡ None → ⊥
+  busy_left first other on =
+      at_with (λ st. is_out_for on st.out ≡ true → first_of on st ≡ None → ⊥) streams.streams name now leaves.within other
       (λ here out none.
       ⊎_elim
       (λ (isnt : sd ≡ on → ⊥).
-      busy_at name on (ap (is_out_for on) (sym (out_queue sd cut.rest stream)) ∙ out)
-      (ap (λ q. slice_get q 0) (sym (queue_other sd on cut.rest stream isnt)) ∙ none))
+      busy_at name on (ap (is_out_for on) (sym (out_queue sd leaves.rest stream)) ∙ out)
+      (ap (λ q. slice_get q 0) (sym (queue_other sd on leaves.rest stream isnt)) ∙ none))
       (λ (is : sd ≡ on).
-      true≢false
-      (sym out ∙ ap (is_out_for on) (out_queue sd cut.rest stream) ∙ ap (λ o. is_out_for o stream.out) (sym is)
-      ∙ ap (λ xs. is_out_for sd (stream_at xs name).out) pending.streams_are ∙ back))
+      first
+      (ap (λ o. is_out_for o stream.out) is ∙ ap (is_out_for on) (sym (out_queue sd leaves.rest stream)) ∙ out)
+      (ap (λ q. slice_get q 0) (sym (queue_own sd leaves.rest stream)) ∙ ap (λ o. first_of o now) is ∙ none))
       (same_or sd on))
       (λ elsewhere. busy_at other on)
 
-  pub pending_left : is_out_for sd (stream_at v.streams name).out ≡ false → (p : Phase) → (new : ContextState) → new.ops ≡ with_phase op.op p v.ops →
-      new.streams ≡ new_streams v.streams → new.names ≡ v.names → ShowsPending marks limits (without_op op streams) new
-  pending_left back p new ops states names =
-      let less = fewer_left in let now = fewer_now in let all = pending.all in let room = pending.room in
-      let here = ap (λ xs. on_streams (new_streams xs)) pending.streams_are in
+  pub side_pending : (is_out_for sd stream.out ≡ true → slice_get leaves.rest 0 ≡ None → ⊥) → (p : Phase) → (new : ContextState) →
+      new.ops ≡ with_phase op.op p v.ops → new.streams ≡ left_streams v.streams → new.names ≡ v.names →
+      ShowsPending marks limits (without_op op streams) new
+  side_pending first p new ops states names =
+      let less = fewer_ops op.op op streams.ops whole.rises leaves.numbered in
+      let now_on = side_fewer in let all = pending.all in let room = pending.room in
+      let here = ap (λ xs. on_streams (left_streams xs)) pending.streams_are in
       let there = ap on_streams states in let before = ap on_streams pending.streams_are in
       let long = ap length states ∙ length-set v.streams op.stream.place _ in
       record {
-        streams_are = ap new_streams pending.streams_are ∙ sym states;
+        streams_are = ap left_streams pending.streams_are ∙ sym states;
         places = long ∙ pending.places ∙ sym (ap (λ ns. length ns.streams) names);
         few = subst (λ n. n < 2 ^ 32) (sym long) pending.few;
         each = subst (λ os. AreStreaming marks os (without_op op streams).ops) (sym ops)
             (others_streaming marks v.ops op.op p streams.ops pending.each);
-        all = omega (arith, less, now, all, here, there, before);
+        all = omega (arith, less, now_on, all, here, there, before);
         room = omega (arith, less, room);
         plain = λ other.
-            subst (λ xs. IsPlain (stream_at xs other)) (sym new_is ∙ ap new_streams pending.streams_are ∙ sym states)
-            (plain_with streams.streams name (with_queue sd cut.rest stream) within
-            (plain_queue sd op.op cut.rest stream cut.queue plain)
+            subst (λ xs. IsPlain (stream_at xs other)) (sym side_is ∙ ap left_streams pending.streams_are ∙ sym states)
+            (plain_with streams.streams name now leaves.within (plain_queue sd leaves.rest stream leaves.fewer plain)
             (λ any. subst (λ xs. IsPlain (stream_at xs any)) (sym pending.streams_are) (pending.plain any)) other);
         busy = λ other on.
             subst (λ xs. is_out_for on (stream_at xs other).out ≡ true → first_of on (stream_at xs other) ≡ None → ⊥)
-            (sym new_is ∙ ap new_streams pending.streams_are ∙ sym states) (busy_left back other on);
+            (sym side_is ∙ ap left_streams pending.streams_are ∙ sym states) (busy_left first other on);
       }
 
-  pub still_left : StillBut name sd streams → StillBut name sd (without_op op streams)
-  still_left still other on x it apart_from =
+  -- where the first of a side is as it was, it still waits
+  pub side_still : (other : Name) (on : Side) (x : PendingOp (Streaming H)) → IsHead other on (without_op op streams) x →
+      (name.place ≡ other.place → first_of on now ≡ first_of on stream) →
+      (IsHead other on streams x → IsStill (stream_at streams.streams other) x.item) →
+      IsStill (stream_at (without_op op streams).streams other) x.item
+  side_still other on x it kept still =
       let was : IsHead other on streams x =
       record {
         first =
-            sym (at_with (λ st. first_of on st ≡ first_of on (stream_at streams.streams other)) streams.streams name
-            (with_queue sd cut.rest stream) within other
-            (λ here.
-            ap (λ q. slice_get q 0) (queue_other sd on cut.rest stream (apart_from here))
-            ∙ ap (λ k. first_of on (slice_index_or streams.streams k new_stream)) here)
+            sym (at_with (λ st. first_of on st ≡ first_of on (stream_at streams.streams other)) streams.streams name now
+            leaves.within other
+            (λ here. kept here ∙ ap (λ k. first_of on (slice_index_or streams.streams k new_stream)) here)
             (λ elsewhere. refl))
-            ∙ ap (λ xs. first_of on (stream_at xs other)) (sym new_is) ∙ it.first;
+            ∙ ap (λ xs. first_of on (stream_at xs other)) (sym side_is) ∙ it.first;
         numbered = numbered_before op.op x.op x streams.ops it.numbered;
         place = it.place;
         on = it.on;
       } in
-      subst (λ xs. IsStill (stream_at xs other) x.item) (sym new_is)
-      (still_alike (stream_at streams.streams other) (stream_at (with_stream name (with_queue sd cut.rest stream) streams.streams) other)
-      x.item
-      (at_with (GivesAlike (stream_at streams.streams other)) streams.streams name (with_queue sd cut.rest stream) within other
+      subst (λ xs. IsStill (stream_at xs other) x.item) (sym side_is)
+      (still_alike (stream_at streams.streams other) (stream_at (with_stream name now streams.streams) other) x.item
+      (at_with (GivesAlike (stream_at streams.streams other)) streams.streams name now leaves.within other
       (λ here.
-      subst (λ k. GivesAlike (slice_index_or streams.streams k new_stream) (with_queue sd cut.rest stream)) here
-      (alike_queue sd op.op cut.rest stream cut.queue plain))
+      subst (λ k. GivesAlike (slice_index_or streams.streams k new_stream) now) here
+      (alike_queue sd leaves.rest stream leaves.fewer plain))
       (λ elsewhere. record { linked = refl; connects = refl; held = refl; searched = refl }))
-      (still other on x was apart_from))
+      (still was))
+
+-- likewise the first of a side
+module _ {H : Type 0} (marks : H → Marks) (limits : Limits) (streams : StreamList (Streaming H)) (v : ContextState)
+    (name : Name) (sd : Side) (op : PendingOp (Streaming H)) (pending : ShowsPending marks limits streams v)
+    (whole : IsWhole streams) (head : IsHead name sd streams op) where
+  abbrev state_now : StreamState
+  state_now = stream_at streams.streams name
+
+  pub cut : FirstLeaves state_now sd op.op
+  cut =
+      first_leaves streams name sd op.op whole
+      (subst (λ xs. IsPlain (stream_at xs name)) (sym pending.streams_are) (pending.plain name)) head.first
+
+  abbrev head_leaves : LeavesSide name sd streams op
+  head_leaves = record {
+    numbered = head.numbered;
+    place = head.place;
+    on = head.on;
+    within = first_within streams.streams name sd op.op head.first;
+    rest = cut.rest;
+    fewer = let long = ap length cut.queue in omega (arith, long);
+    left = cut.left;
+  }
+
+  pub new_is : streams_left op.op (at op.stream op.side) streams.streams
+      ≡ with_stream name (with_queue sd cut.rest state_now) streams.streams
+  new_is = side_is marks limits streams v name sd op pending whole head_leaves
+
+  pub fewer_now : on_streams (streams_left op.op (at op.stream op.side) streams.streams) + 1 ≡ on_streams streams.streams
+  fewer_now = side_fewer marks limits streams v name sd op pending whole head_leaves
+
+  pub out_left : (stream_at (streams_left op.op (at op.stream op.side) v.streams) name).out ≡ (stream_at v.streams name).out
+  out_left = side_out marks limits streams v name sd op pending whole head_leaves
+
+  pub out_same : out_in (streams_left op.op (at op.stream op.side) v.streams) ≡ out_in v.streams
+  out_same = side_out_same marks limits streams v name sd op pending whole head_leaves
+
+  pub pending_left : is_out_for sd (stream_at v.streams name).out ≡ false → (p : Phase) → (new : ContextState) →
+      new.ops ≡ with_phase op.op p v.ops → new.streams ≡ streams_left op.op (at op.stream op.side) v.streams →
+      new.names ≡ v.names → ShowsPending marks limits (without_op op streams) new
+  pending_left back =
+      side_pending marks limits streams v name sd op pending whole head_leaves
+      (λ out none.
+      true≢false (sym out ∙ ap (λ xs. is_out_for sd (stream_at xs name).out) pending.streams_are ∙ back))
+
+  pub still_left : StillBut name sd streams → StillBut name sd (without_op op streams)
+  still_left still other on x it apart_from =
+      side_still marks limits streams v name sd op pending whole head_leaves other on x it
+      (λ here. ap (λ q. slice_get q 0) (queue_other sd on cut.rest state_now (apart_from here)))
+      (λ was. still other on x was apart_from)

@@ -12,11 +12,10 @@ use Rattle.io_rules.specs.declared.name.Name.{Name}
 use Rattle.io_rules.specs.declared.operation.Side.{Side}
 use Rattle.io_rules.specs.declared.operation.Side.TheVariants as side
 use Rattle.io_rules.specs.declared.request.Marks.{Marks}
-use Rattle.io_rules.specs.Cancelling.{queue_of}
 use Rattle.io_rules.specs.Completing.{streams_left}
 use Rattle.io_rules.specs.Legal.{MayHappen, after}
 use Rattle.io_rules.specs.Names.{Names}
-use Rattle.io_rules.specs.Operations.{Target, at}
+use Rattle.io_rules.specs.Operations.{Target}
 use Rattle.io_rules.specs.Serving.{first_of, served, with_queue}
 use Rattle.io_rules.specs.State.{ContextState, StreamState, new_stream, stream_at, with_stream}
 use Rattle.io_queues.specs.Queued.{found_in}
@@ -33,7 +32,7 @@ use Rattle.io_scheduler.specs.declared.tally.Tally.{Tally}
 use Rattle.io_scheduler.specs.declared.waiting.Waiting.{Waiting}
 use Rattle.io_scheduler.specs.Completed.{MayBeReadyOn, completed_state, readied_cells, readied_jobs}
 use Rattle.io_scheduler.specs.Expired.{left_waits}
-use Rattle.io_scheduler.specs.Settling.{IsNotAtOnce, IsServing, IsSettling, ShowsPending, has_none, op_done, with_settled}
+use Rattle.io_scheduler.specs.Settling.{IsNotAtOnce, IsServing, IsSettling, has_none, op_done, with_settled}
 use Rattle.io_scheduler.specs.Shown.{Shows}
 use Rattle.io_scheduler.specs.Streams.{IsPlain, IsStreamingAs, ShowsStreams}
 use Rattle.io_scheduler.specs.Tallied.{IsTally, tally_completed}

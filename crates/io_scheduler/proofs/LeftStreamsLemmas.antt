@@ -1,15 +1,14 @@
 -- What is pending on streams is taken out, one after another, as operations with their handlers.
 use Rattle.std.proofs.Common.{arith, ap, refl, subst, sym, ◌∙◌}
-use Rattle.std.proofs.lemmas.Bool.{true≢false}
 use Rattle.std.proofs.lemmas.List.{append-nil}
 use Rattle.std.proofs.lemmas.List.Elements.{All-cons, All-nil}
 use Rattle.std.proofs.lemmas.List.Sorted.{IsPermutation-cons, IsPermutation-middle, IsPermutation-pop_more, IsPermutation-refl, IsPermutation-trans}
-use Rattle.std.specs.Prelude.{◌≡◌, ◌<◌, ◌≤◌, ℕ, ◌+◌, ◌==◌, cond, not, Bool, true, false, List, [], ◌∷◌, ◌++◌, None, Some, length}
+use Rattle.std.specs.Prelude.{◌≡◌, ◌<◌, ◌≤◌, ℕ, ◌+◌, ◌==◌, cond, not, Bool, true, List, [], ◌∷◌, ◌++◌, None, Some, length}
 use Rattle.std.specs.List.{All, filter}
 use Rattle.std.specs.List.Sorted.{IsPermutation}
 use Rattle.io_rules.specs.declared.op.Op.{Op}
 use Rattle.io_rules.specs.declared.request.Marks.{Marks}
-use Rattle.io_rules.specs.Ops.{is_ready, op_at}
+use Rattle.io_rules.specs.Ops.{op_at}
 use Rattle.io_rules.specs.Room.{one_if}
 use Rattle.io_rules.proofs.StageLemmas.{stage_of, staged}
 use Rattle.io_rules.proofs.StrandLemmas.{by_test}

@@ -9,11 +9,14 @@ pub mod BegunLemmas
 pub mod CalledLemmas
 pub mod CameLemmas
 pub mod CancelledLemmas
+pub mod ClosedByLemmas
+pub mod ClosedLemmas
+pub mod ClosingLemmas
 pub mod ComeLemmas
 pub mod CompletedLemmas
 pub mod CompletedSpaceLemmas
 pub mod CountedLemmas
-mod CurrentLemmas
+pub mod CurrentLemmas
 pub mod DoneAtOnceLemmas
 pub mod DroppedLemmas
 pub mod EndedLemmas
@@ -25,27 +28,35 @@ pub mod FreedLemmas
 pub mod GatheredLemmas
 pub mod GivenLemmas
 pub mod GoesOnLemmas
+pub mod GoneLemmas
 pub mod HandedLemmas
 pub mod IdleLemmas
-mod KnownLemmas
+pub mod KeptNamesLemmas
+pub mod KnownCalledLemmas
+pub mod KnownLemmas
+pub mod KnownStillLemmas
 pub mod LeaveBackLemmas
 pub mod LeavingLemmas
 pub mod LeftLemmas
+pub mod LeftOnLemmas
 pub mod LeftOpLemmas
 pub mod LeftStreamsLemmas
 pub mod LeftWaitsLemmas
 pub mod LinkedLemmas
 pub mod ListedLemmas
 pub mod MadeLemmas
+pub mod MarkedLemmas
+pub mod OnItLemmas
 pub mod OnlyLemmas
-mod OpenedLemmas
+pub mod OpenedLemmas
 pub mod OverLemmas
 pub mod PassedLemmas
 pub mod PlacedLemmas
 pub mod PostedLemmas
+pub mod ReachedLemmas
 pub mod ReadyLemmas
 pub mod RefusedLemmas
-mod ReservedLemmas
+pub mod ReservedLemmas
 pub mod ReturnableLemmas
 pub mod ReturnedLemmas
 pub mod SectionLemmas
@@ -70,6 +81,6 @@ pub mod TransferLemmas
 pub mod TransferredLemmas
 pub mod TransferringLemmas
 pub mod TriedLemmas
-mod UnusedLemmas
+pub mod UnusedLemmas
 pub mod VacatedLemmas
 pub mod WaitsLemmas

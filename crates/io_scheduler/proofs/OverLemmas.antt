@@ -3,7 +3,7 @@
 use Rattle.std.proofs.Common.{arith, ap, refl, subst, sym, ◌∙◌}
 use Rattle.std.proofs.lemmas.Bool.{true≢false}
 use Rattle.std.specs.Global.{Vec}
-use Rattle.std.specs.Prelude.{◌≡◌, ◌<◌, ℕ, ◌+◌, ◌-◌, Bool, true, false, List, [], ◌∷◌, ◌++◌, Option, Some, None, filter, length, not, slice_get, ◌==◌}
+use Rattle.std.specs.Prelude.{◌≡◌, ℕ, ◌+◌, ◌-◌, Bool, true, false, List, [], ◌∷◌, ◌++◌, Option, Some, None, length, slice_get}
 use Rattle.asio_types.specs.declared.code.Code.{Code}
 use Rattle.asio_types.specs.declared.code.Code.TheVariants as code
 use Rattle.io_rules.specs.declared.event.Event.TheVariants as event
@@ -22,21 +22,20 @@ use Rattle.io_rules.specs.Cancelling.{is_out_for}
 use Rattle.io_rules.specs.Completing.{MayCompleteAs, binding_of, kind_of, others_than, slots_left, streams_left}
 use Rattle.io_rules.specs.Legal.{MayHappen, after}
 use Rattle.io_rules.specs.Names.{Names}
-use Rattle.io_rules.specs.Operations.{Target, behind_connect, target_of, timer_of}
+use Rattle.io_rules.specs.Operations.{Target, behind_connect, target_of}
 use Rattle.io_rules.specs.Ops.{is_pending, lane_of, op_at, with_phase}
 use Rattle.io_rules.specs.Room.{place_given, place_given_by}
 use Rattle.io_rules.specs.Serving.{first_of, served, served_on, stays}
 use Rattle.io_rules.specs.State.{ContextState, StrandState, StreamState, stream_at}
-use Rattle.io_rules.specs.Strands.{Last, Later, called_on, on_lane, ready_on}
+use Rattle.io_rules.specs.Strands.{Last, called_on, on_lane, ready_on}
 use Rattle.io_rules.proofs.StrandLemmas.{by_test}
 use Rattle.io_handlers.specs.Initiated.{is_transfer}
 use Rattle.io_history.proofs.AtLemmas.{at-changed_of, at-push}
 use Rattle.io_strands.specs.declared.ready.ReadyOp.{ReadyOp}
 use Rattle.io_strands.specs.Cell.{Cell}
 use Rattle.io_jobs.specs.Listed.{JobList}
-use Rattle.io_queues.specs.Ordered.{Each}
 use Rattle.io_streams.specs.Kept.{IsWhole}
-use Rattle.io_streams.specs.Pending.{StreamList, number_of}
+use Rattle.io_streams.specs.Pending.{StreamList}
 use Rattle.io_timers.specs.Pending.{Timers}
 use Rattle.io_scheduler.specs.declared.counts.Counts.{Counts}
 use Rattle.io_scheduler.specs.declared.streaming.Streaming.{Streaming}
@@ -46,7 +45,7 @@ use Rattle.io_scheduler.specs.Called.{lane_left}
 use Rattle.io_scheduler.specs.Entered.{entered_cells, entered_jobs}
 use Rattle.io_scheduler.specs.Posted.{counts_called, posting, ready_posting}
 use Rattle.io_scheduler.specs.Shown.{AreBelow, Shows}
-use Rattle.io_scheduler.specs.Streams.{IsPlain, ShowsStreams}
+use Rattle.io_scheduler.specs.Streams.{ShowsStreams}
 use Rattle.io_scheduler.specs.Tallied.{IsTally, tally_called}
 use Rattle.io_scheduler.specs.Transferred.{code_at_once, gone_for_transfer, settled_at_once}
 use Rattle.io_scheduler.specs.Waits.{ShowsWaits}

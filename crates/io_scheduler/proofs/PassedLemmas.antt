@@ -1,8 +1,7 @@
 -- Time passes: what is kept shows the state behind that.
 use Rattle.std.proofs.Common.{arith, ap, refl, subst, sym, ◌∙◌}
-use Rattle.std.proofs.lemmas.Bool.{ltb-false, ltb-true, true≢false}
-use Rattle.std.specs.Prelude.{◌≡◌, ◌<◌, ◌≤◌, ℕ, ◌+◌, nat_lt, Bool, true, false, List, [], ◌∷◌, ◌++◌, None, length, if◌then◌else◌}
-use Rattle.std.specs.Bool.{OnFalse, OnTrue}
+use Rattle.std.proofs.lemmas.Bool.{ltb-false, true≢false}
+use Rattle.std.specs.Prelude.{◌≡◌, ◌≤◌, ℕ, nat_lt, Bool, true, false, List, [], ◌∷◌, ◌++◌, None, if◌then◌else◌}
 use Rattle.asio_types.specs.declared.code.Code.TheVariants as code
 use Rattle.io_rules.specs.declared.event.Event.{Event}
 use Rattle.io_rules.specs.declared.event.Event.TheVariants as event
@@ -10,10 +9,8 @@ use Rattle.io_rules.specs.declared.limits.Limits.{Limits}
 use Rattle.io_rules.specs.declared.request.Marks.{Marks}
 use Rattle.io_rules.specs.Legal.{MayHappen, after, state_of}
 use Rattle.io_rules.specs.Names.{Names}
-use Rattle.io_rules.specs.Room.{one_if}
 use Rattle.io_rules.specs.State.{ContextState}
 use Rattle.io_rules.specs.Timers.{due}
-use Rattle.io_rules.proofs.StrandLemmas.{by_test}
 use Rattle.io_strands.specs.declared.ready.ReadyOp.{ReadyOp}
 use Rattle.io_strands.specs.Cell.{Cell}
 use Rattle.io_jobs.specs.Listed.{JobList}

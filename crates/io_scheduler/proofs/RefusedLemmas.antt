@@ -2,8 +2,7 @@
 use Rattle.std.proofs.Common.{ap, refl, subst, sym, ◌∙◌, ⊎_elim}
 use Rattle.std.proofs.lemmas.Bool.{cases_lt, true≢false}
 use Rattle.std.proofs.lemmas.List.{get_or-set_same, set-set, set_past}
-use Rattle.std.specs.Global.{Vec}
-use Rattle.std.specs.Prelude.{◌≡◌, ◌<◌, ◌≤◌, ℕ, ◌+◌, ◌-◌, ◌==◌, not, Bool, true, false, List, [], ◌∷◌, ◌++◌, Option, Some, None, filter, length, slice_get, if◌then◌else◌}
+use Rattle.std.specs.Prelude.{◌≡◌, ◌<◌, ◌≤◌, ℕ, ◌+◌, ◌-◌, ◌==◌, not, true, false, List, [], ◌∷◌, ◌++◌, Option, Some, None, filter, length, slice_get, if◌then◌else◌}
 use Rattle.std.specs.List.{slice_set}
 use Rattle.asio_types.specs.declared.code.Code.TheVariants as code
 use Rattle.io_rules.specs.declared.event.Event.TheVariants as event

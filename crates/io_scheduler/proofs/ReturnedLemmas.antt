@@ -1,7 +1,7 @@
 -- A system call has returned: it may, and what is kept shows the state behind that.
 use Rattle.std.proofs.Common.{ap, refl, subst, sym, ◌∙◌}
 use Rattle.std.proofs.lemmas.List.{length-set}
-use Rattle.std.specs.Prelude.{◌≡◌, ◌<◌, ℕ, ◌&&◌, ◌==◌, not, Bool, true, false, List, [], ◌∷◌, Option, Some, None, length, map, if◌then◌else◌}
+use Rattle.std.specs.Prelude.{◌≡◌, ◌<◌, ℕ, ◌&&◌, ◌==◌, Bool, true, false, List, [], ◌∷◌, Option, Some, None, length, if◌then◌else◌}
 use Rattle.std.specs.Global.{Vec}
 use Rattle.io_rules.specs.declared.event.Event.{Event}
 use Rattle.io_rules.specs.declared.event.Event.TheVariants as event
@@ -22,13 +22,12 @@ use Rattle.io_rules.specs.State.{ContextState, stream_at, with_stream}
 use Rattle.io_rules.specs.Tries.{head_of, is_made, moved_by, place_made}
 use Rattle.io_rules.proofs.StrandLemmas.{by_test}
 use Rattle.io_rules.proofs.TotalLemmas.{apart, equal}
-use Rattle.io_queues.specs.Queued.{found_in}
 use Rattle.io_strands.specs.declared.ready.ReadyOp.{ReadyOp}
 use Rattle.io_strands.specs.Cell.{Cell}
 use Rattle.io_jobs.specs.Listed.{JobList}
 use Rattle.io_streams.specs.declared.pending.PendingOp.{PendingOp}
 use Rattle.io_streams.specs.Kept.{IsWhole}
-use Rattle.io_streams.specs.Pending.{IsHead, StreamList, back_in, item_of, item_put, numbered_in, with_item}
+use Rattle.io_streams.specs.Pending.{IsHead, StreamList, back_in, item_of, numbered_in, with_item}
 use Rattle.io_timers.specs.Pending.{Timers}
 use Rattle.io_scheduler.specs.declared.counts.Counts.{Counts}
 use Rattle.io_scheduler.specs.declared.returning.Came.{Came}
@@ -41,8 +40,7 @@ use Rattle.io_scheduler.specs.Back.{CameAt, HasComeBack, IsReturnable, IsStale, 
 use Rattle.io_scheduler.specs.Returned.{HasReturned, came_of, fits_back, head_fits, is_held, may_return}
 use Rattle.io_scheduler.specs.Settling.{HasSettled, HaveSettled, IsSettling, ShowsPending, all_done, with_settled}
 use Rattle.io_scheduler.specs.Shown.{Shows}
-use Rattle.io_scheduler.specs.Streaming.{on_streams}
-use Rattle.io_scheduler.specs.Streams.{AreStreaming, IsPlain, IsStill, IsStreamingAs, ShowsStreams}
+use Rattle.io_scheduler.specs.Streams.{IsPlain, IsStill, IsStreamingAs, ShowsStreams}
 use Rattle.io_scheduler.specs.Tallied.{IsTally, tally_back}
 use Rattle.io_scheduler.specs.Vacated.{without_stream}
 use Rattle.io_scheduler.specs.Waits.{ShowsWaits}
@@ -290,7 +288,7 @@ module _ {H S : Type 0} (marks : H → Marks) (limits : Limits) (counts : Counts
 
   module _ (more : ℕ) (on : come ≡ came.On more) (open_still : closed ≡ false) where
     abbrev going : ContextState
-    going = going_on it.op.op more waiting
+    going = going_on it.op.op more false waiting
 
     further : GoesOn it.op.item.kind it.op.item.moved more it.op.item.cancelled
     further = goes_on it.op.item.kind given it.op.item.moved more it.op.item.cancelled (sym (is it.op it.found) ∙ on)
@@ -311,19 +309,19 @@ module _ {H S : Type 0} (marks : H → Marks) (limits : Limits) (counts : Counts
     pub back_shown : Shows marks limits counts now_names cells jobs (after (event.Back name sd given) s)
     back_shown =
         subst (Shows marks limits counts now_names cells jobs) (sym after_is)
-        (on_shown it.op.op more waiting has.known.op has.known.is it.op.item.moved it.op.item.cancelled has.known.phase
+        (on_shown it.op.op more false waiting has.known.op has.known.is it.op.item.moved it.op.item.cancelled has.known.phase
         marks limits counts now_names cells jobs waiting_shown)
 
     pub back_waits : ShowsWaits marks limits timers (after (event.Back name sd given) s)
     back_waits =
         subst (ShowsWaits marks limits timers) (sym after_is)
-        (on_waits it.op.op more waiting has.known.op has.known.is it.op.item.moved it.op.item.cancelled has.known.phase
+        (on_waits it.op.op more false waiting has.known.op has.known.is it.op.item.moved it.op.item.cancelled has.known.phase
         marks it.op has.known refl limits timers waiting_waits)
 
     pub back_tallied : IsTally (tally_back tally) (after (event.Back name sd given) s)
     back_tallied =
         subst (IsTally (tally_back tally)) (sym after_is)
-        (on_tally it.op.op more waiting has.known.op has.known.is it.op.item.moved it.op.item.cancelled has.known.phase
+        (on_tally it.op.op more false waiting has.known.op has.known.is it.op.item.moved it.op.item.cancelled has.known.phase
         (tally_back tally) waiting_tally)
 
     moved_is : item.moved ≡ more
@@ -344,7 +342,7 @@ module _ {H S : Type 0} (marks : H → Marks) (limits : Limits) (counts : Counts
     pending : ShowsPending marks limits kept going
     pending =
         back_pending marks limits streams s name sd place it.op item streaming whole it.found it.head going refl places
-        (on_streaming it.op.op more waiting has.known.op has.known.is it.op.item.moved it.op.item.cancelled has.known.phase
+        (on_streaming it.op.op more false waiting has.known.op has.known.is it.op.item.moved it.op.item.cancelled has.known.phase
         marks it.op has.known refl place item streams.ops whole.rises (at_place place it.op streams.ops whole.apart it.found)
         it.found new_streaming streaming.each)
 

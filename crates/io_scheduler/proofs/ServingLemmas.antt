@@ -2,7 +2,7 @@
 use Rattle.std.proofs.Common.{arith, ap, refl, subst, sym, ◌∙◌, ⊎_elim}
 use Rattle.std.proofs.lemmas.Bool.{true≢false}
 use Rattle.std.proofs.lemmas.List.{append-nil, set-get_or}
-use Rattle.std.specs.Prelude.{◌≡◌, ◌<◌, ℕ, ◌+◌, ◌-◌, ◌==◌, ◌&&◌, min, nat_le, not, Bool, true, false, List, [], ◌∷◌, ◌++◌, Option, Some, None, if◌then◌else◌}
+use Rattle.std.specs.Prelude.{◌≡◌, ℕ, ◌+◌, ◌-◌, ◌==◌, ◌&&◌, min, nat_le, not, Bool, true, false, List, [], ◌∷◌, ◌++◌, Option, Some, None, if◌then◌else◌}
 use Rattle.std.specs.Bool.{OnFalse}
 use Rattle.asio_types.specs.declared.code.Code.{Code}
 use Rattle.asio_types.specs.declared.code.Code.TheVariants as code
@@ -16,12 +16,9 @@ use Rattle.io_rules.specs.declared.op.Phase.TheVariants as phase
 use Rattle.io_rules.specs.declared.operation.Operation.{Operation}
 use Rattle.io_rules.specs.declared.operation.Operation.TheVariants as operation
 use Rattle.io_rules.specs.declared.operation.Side.{Side}
-use Rattle.io_rules.specs.declared.operation.Side.TheVariants as side
 use Rattle.io_rules.specs.declared.request.Marks.{Marks}
-use Rattle.io_rules.specs.Cancelling.{is_out_for}
-use Rattle.io_rules.specs.Legal.{MayHappen, state_of}
 use Rattle.io_rules.specs.Names.{Names}
-use Rattle.io_rules.specs.Operations.{Target, at}
+use Rattle.io_rules.specs.Operations.{Target}
 use Rattle.io_rules.specs.Ops.{is_pending, is_settled, op_at, phase_changed, phase_changed_of, with_phase}
 use Rattle.io_rules.specs.Serving.{Served, first_of, is_none_of, now_held, now_settled, op_of, served, served_on, served_op, served_phase, settles, stays, with_held}
 use Rattle.io_rules.specs.State.{ContextState, StreamState, new_stream, stream_at, with_stream}
@@ -39,7 +36,7 @@ use Rattle.io_scheduler.specs.declared.streaming.Streaming.{Streaming}
 use Rattle.io_scheduler.specs.declared.tally.Tally.{Tally}
 use Rattle.io_scheduler.specs.declared.waiting.Waiting.{Waiting}
 use Rattle.io_scheduler.specs.Come.{HaveCome}
-use Rattle.io_scheduler.specs.Settling.{Ends, HaveSettled, IsAtOnce, IsNotAtOnce, IsServing, IsSettledIf, IsSettling, all_done, gets_at_once, gets_if, has_none, linked_gets, stays_first, with_settled}
+use Rattle.io_scheduler.specs.Settling.{Ends, HaveSettled, IsAtOnce, IsNotAtOnce, IsServing, IsSettledIf, IsSettling, all_done, gets_at_once, gets_if, has_none, stays_first, with_settled}
 use Rattle.io_scheduler.specs.Shown.{Shows}
 use Rattle.io_scheduler.specs.Streams.{IsPlain, IsStill, IsStreamingAs, ShowsStreams}
 use Rattle.io_scheduler.specs.Tallied.{IsTally}

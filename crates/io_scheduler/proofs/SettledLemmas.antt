@@ -1,10 +1,8 @@
 -- The first operation of a side is settled, and completes: its event may come, and what is kept then.
 use Rattle.std.proofs.Common.{arith, ap, refl, subst, sym, ◌∙◌}
-use Rattle.std.proofs.lemmas.Bool.{true≢false}
 use Rattle.std.proofs.lemmas.List.{append-nil, length-set}
 use Rattle.std.specs.Global.{Vec}
-use Rattle.std.specs.Prelude.{◌≡◌, ◌<◌, ℕ, ◌+◌, ◌-◌, ◌==◌, cond, not, Bool, true, false, List, [], ◌∷◌, ◌++◌, Option, Some, None, length, map, slice_get, sum_by, if◌then◌else◌}
-use Rattle.std.specs.List.{filter}
+use Rattle.std.specs.Prelude.{◌≡◌, ◌<◌, ℕ, ◌+◌, ◌==◌, cond, not, true, false, List, [], ◌∷◌, ◌++◌, Option, Some, None, map, slice_get, sum_by, if◌then◌else◌}
 use Rattle.std.specs.Option.{is_some}
 use Rattle.asio_types.specs.declared.code.Code.{Code}
 use Rattle.io_rules.specs.declared.event.Event.{Event}
@@ -24,11 +22,10 @@ use Rattle.io_rules.specs.declared.operation.Side.TheVariants as side
 use Rattle.io_rules.specs.declared.request.Marks.{Marks}
 use Rattle.io_rules.specs.Cancelling.{is_out_for}
 use Rattle.io_rules.specs.Completing.{MayCompleteAs, binding_of, kind_of, others_than, slots_left, streams_left}
-use Rattle.io_rules.specs.InOrder.{strand_in}
 use Rattle.io_rules.specs.Legal.{IsLegal, MayHappen, after, state_of}
 use Rattle.io_rules.specs.Names.{Names}
 use Rattle.io_rules.specs.Operations.{Target, at, behind_connect, target_of}
-use Rattle.io_rules.specs.Ops.{is_ready, lane_of, op_at, phase_changed, with_phase}
+use Rattle.io_rules.specs.Ops.{is_ready, lane_of, op_at, with_phase}
 use Rattle.io_rules.specs.Room.{places_in}
 use Rattle.io_rules.specs.Serving.{first_of, served}
 use Rattle.io_rules.specs.State.{ContextState, stream_at}
@@ -39,7 +36,7 @@ use Rattle.io_rules.proofs.RoomLemmas.{places_add_up}
 use Rattle.io_rules.proofs.StageLemmas.{Idle, Stage, stage_of, staged}
 use Rattle.io_rules.proofs.StrandStateLemmas.{strands_fit}
 use Rattle.io_rules.proofs.StrandLemmas.{by_test}
-use Rattle.io_rules.proofs.TotalLemmas.{apart, equal, same, sum_by-total, total, total-changed}
+use Rattle.io_rules.proofs.TotalLemmas.{equal, same, sum_by-total, total, total-changed}
 use Rattle.io_history.proofs.AtLemmas.{at-changed}
 use Rattle.io_strands.specs.declared.ready.ReadyOp.{ReadyOp}
 use Rattle.io_strands.specs.Cell.{Cell}
@@ -51,7 +48,7 @@ use Rattle.io_streams.specs.Kept.{IsWhole}
 use Rattle.io_streams.specs.Pending.{IsHead, StreamList, without_op}
 use Rattle.io_timers.specs.declared.pending.PendingWait.{PendingWait}
 use Rattle.io_timers.specs.Kept.{Each}
-use Rattle.io_timers.specs.Pending.{Entry, Timers, number_of, wait_of}
+use Rattle.io_timers.specs.Pending.{Entry, Timers, wait_of}
 use Rattle.io_timers.proofs.OrderLemmas.{filter-all}
 use Rattle.io_scheduler.specs.declared.counts.Counts.{Counts}
 use Rattle.io_scheduler.specs.declared.streaming.Streaming.{Streaming}
@@ -60,10 +57,9 @@ use Rattle.io_scheduler.specs.declared.waiting.Waiting.{Waiting}
 use Rattle.io_scheduler.specs.Completed.{MayBeReadyOn, completed_state, readied_cells, readied_jobs}
 use Rattle.io_scheduler.specs.Expired.{left_waits}
 use Rattle.io_scheduler.specs.Settling.{IsServing, IsSettling, ShowsPending, op_done, with_settled}
-use Rattle.io_scheduler.specs.Shown.{Shows}
 use Rattle.io_scheduler.specs.Streaming.{on_streams}
-use Rattle.io_scheduler.specs.Streams.{IsPlain, IsStreamingAs}
-use Rattle.io_scheduler.specs.Tallied.{IsTally, tally_completed}
+use Rattle.io_scheduler.specs.Streams.{IsStreamingAs}
+use Rattle.io_scheduler.specs.Tallied.{tally_completed}
 use Rattle.io_scheduler.specs.Waits.{ArePending, IsThere, IsWaitingAs, ShowsWaits}
 use Rattle.io_scheduler.proofs.CompletedLemmas.{IsUnready, ready_with}
 use Rattle.io_scheduler.proofs.ExpiredLemmas.{room_on, shows_on, there_tied}
@@ -95,7 +91,7 @@ phase-twice n p q (x ∷ ops) =
 
 -- ---- the state behind its completion
 
-abbrev done_by : ℕ → Code → ℕ → Option Target → Option Target → Option Target → Option Binding → Lane → List Op →
+abbrev pub done_by : ℕ → Code → ℕ → Option Target → Option Target → Option Target → Option Binding → Lane → List Op →
     List ℕ → List Wait → ContextState → ContextState
 done_by n given size target read write binding on ops settled waits v =
     served write
@@ -113,7 +109,7 @@ abbrev side_or : Option Target → Side
 side_or None = side.Connect
 side_or (Some target) = target.side
 
-no_connect : (on : Side) (kind : Operation) (stream : Name) (sd : Side) → target_of kind ≡ at stream sd →
+pub no_connect : (on : Side) (kind : Operation) (stream : Name) (sd : Side) → target_of kind ≡ at stream sd →
     (sd ≡ side.Connect → ⊥) → behind_connect on kind ≡ None
 no_connect on operation.Post stream sd is other = refl
 no_connect on operation.Defer stream sd is other = refl
@@ -130,7 +126,7 @@ no_connect on (operation.Connect name) stream sd is other = absurd (other (sym (
     side_is : at name side.Connect ≡ at stream sd → side.Connect ≡ sd
     side_is is = ap side_or is
 
-served_none : (s : ContextState) → served None s ≡ s
+pub served_none : (s : ContextState) → served None s ≡ s
 served_none s = ap (λ l. record s { settled = l }) (append-nil s.settled)
 
 module _ {H : Type 0} (marks : H → Marks) (v : ContextState) (it : PendingOp (Streaming H))

@@ -7,7 +7,6 @@ use Rattle.io_rules.specs.declared.name.Name.{Name}
 use Rattle.io_rules.specs.declared.op.Op.{Op}
 use Rattle.io_rules.specs.declared.op.Phase.{Phase}
 use Rattle.io_rules.specs.declared.place.Place.{Place}
-use Rattle.io_rules.specs.declared.spares.Spares.{Spares}
 use Rattle.io_rules.specs.Executions.{spares_in}
 use Rattle.io_rules.specs.Names.{no_place, place_at}
 use Rattle.io_rules.specs.Ops.{op_at, phase_changed, without}

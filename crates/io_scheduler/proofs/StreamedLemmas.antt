@@ -1,7 +1,7 @@
 -- What leaves the operations that are pending on streams: what is kept of them shows the state behind it.
 use Rattle.std.proofs.Common.{ap, refl, subst, sym, ◌∙◌}
 use Rattle.std.proofs.lemmas.List.{append-nil}
-use Rattle.std.specs.Prelude.{◌≡◌, ◌<◌, ◌≤◌, ◌^◌, ℕ, ◌==◌, nat_le, cond, not, Bool, true, false, List, [], ◌∷◌, ◌++◌, Option, Some, None, filter, length, map, slice_get, take, if◌then◌else◌}
+use Rattle.std.specs.Prelude.{◌≡◌, ◌<◌, ◌^◌, ℕ, ◌==◌, nat_le, not, Bool, true, false, List, [], ◌∷◌, ◌++◌, Option, Some, None, filter, length, map, slice_get, take, if◌then◌else◌}
 use Rattle.asio_types.specs.declared.code.Code.{Code}
 use Rattle.asio_types.specs.declared.code.Code.TheVariants as code
 use Rattle.io_rules.specs.declared.event.Event.{Event}
@@ -20,8 +20,8 @@ use Rattle.io_rules.specs.declared.operation.Side.TheVariants as side
 use Rattle.io_rules.specs.declared.request.Gone.TheVariants as gone
 use Rattle.io_rules.specs.declared.request.Marks.{Marks}
 use Rattle.io_rules.specs.Cancelling.{cancelled, cancelled_phase, is_among, is_out_for, is_settled_by_cancel, is_tried, ops_cancelled, waits_of}
-use Rattle.io_rules.specs.Changes.{is_there, reached}
-use Rattle.io_rules.specs.Completing.{MayBeDone, MayCompleteAs, MayCompleteIn, binding_of, kind_of, others_than, slots_left, streams_left}
+use Rattle.io_rules.specs.Changes.{reached}
+use Rattle.io_rules.specs.Completing.{MayCompleteAs, MayCompleteIn, binding_of, kind_of, others_than, slots_left, streams_left}
 use Rattle.io_rules.specs.Legal.{MayHappen, after, state_of}
 use Rattle.io_rules.specs.Names.{same_name}
 use Rattle.io_rules.specs.Operations.{Target, at, behind_connect, target_of}
@@ -43,10 +43,10 @@ use Rattle.io_timers.proofs.OrderLemmas.{each-filter, each-weaker}
 use Rattle.io_scheduler.specs.declared.streaming.Streaming.{Streaming}
 use Rattle.io_scheduler.specs.declared.waiting.Waiting.{Waiting}
 use Rattle.io_scheduler.specs.Accepted.{waiting_on}
-use Rattle.io_scheduler.specs.Come.{HaveCome, MayCome, behind, changes, completions, with_events}
+use Rattle.io_scheduler.specs.Come.{HaveCome, MayCome, behind, changes, completions}
 use Rattle.io_scheduler.specs.Expired.{HasPassed}
 use Rattle.io_scheduler.specs.Streaming.{on_streams}
-use Rattle.io_scheduler.specs.Streams.{AreStreaming, IsPlain, IsStreamingAs, ShowsStreams, StaysStreaming}
+use Rattle.io_scheduler.specs.Streams.{AreStreaming, IsPlain, ShowsStreams, StaysStreaming}
 use Rattle.io_scheduler.specs.Timing.{control_of}
 use Rattle.io_scheduler.specs.declared.timing.TimerChange.{TimerChange}
 use Rattle.io_scheduler.specs.declared.timing.TimerChange.TheVariants as change

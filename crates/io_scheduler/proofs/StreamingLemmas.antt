@@ -1,7 +1,7 @@
 -- Counts of what is pending on streams, and of sockets in system calls.
-use Rattle.std.proofs.Common.{arith, ap, refl, sym, ◌∙◌}
+use Rattle.std.proofs.Common.{arith, ap, refl, ◌∙◌}
 use Rattle.std.proofs.lemmas.List.Sums.{sum_by-cons}
-use Rattle.std.specs.Prelude.{◌≡◌, ℕ, zero, suc, ◌+◌, ◌==◌, ◌&&◌, not, Bool, false, List, [], ◌∷◌, Option, None, Some, replicate}
+use Rattle.std.specs.Prelude.{◌≡◌, ℕ, zero, suc, ◌+◌, ◌==◌, ◌&&◌, not, Bool, List, [], ◌∷◌, Option, None, Some, replicate}
 use Rattle.io_rules.specs.declared.operation.Side.{Side}
 use Rattle.io_rules.specs.Changes.{is_out}
 use Rattle.io_rules.specs.Room.{one_if}

@@ -1,7 +1,7 @@
 -- How many operations wait and execute, as events come.
 use Rattle.std.proofs.Common.{arith, ap, refl, subst, sym, ◌∙◌}
 use Rattle.std.proofs.lemmas.Bool.{ltb-true, true≢false}
-use Rattle.std.specs.Prelude.{◌≡◌, ◌<◌, ◌≤◌, ℕ, ◌+◌, ◌==◌, ◌&&◌, not, Bool, true, false, List, [], ◌∷◌, ◌++◌, replicate, suc, zero, Option, Some, None, length, map, nat_lt}
+use Rattle.std.specs.Prelude.{◌≡◌, ◌<◌, ◌≤◌, ℕ, ◌+◌, ◌==◌, ◌&&◌, not, Bool, true, false, List, [], ◌∷◌, ◌++◌, suc, zero, Option, Some, None, length, map, nat_lt}
 use Rattle.std.specs.List.{list_all, slice_index_or, slice_set}
 use Rattle.std.proofs.lemmas.List.Sums.{sum_by-set}
 use Rattle.asio_types.specs.declared.code.Code.{Code}

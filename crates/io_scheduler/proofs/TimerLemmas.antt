@@ -1,7 +1,7 @@
 -- In each legal history a wait that is pending is on a timer whose name is the latest of its place.
 use Rattle.std.proofs.Common.{ap, refl, subst, sym, ◌∙◌}
 use Rattle.std.proofs.lemmas.Bool.{true≢false}
-use Rattle.std.proofs.lemmas.List.{append-nil, get_or-set_other}
+use Rattle.std.proofs.lemmas.List.{get_or-set_other}
 use Rattle.std.specs.Prelude.{◌≡◌, ℕ, ◌==◌, ◌&&◌, ◌||◌, cond, not, Bool, true, false, List, [], ◌∷◌, ◌++◌, Option, Some, None, map}
 use Rattle.std.specs.List.{filter}
 use Rattle.io_rules.specs.declared.control.Control.{Control}
@@ -20,17 +20,17 @@ use Rattle.io_rules.specs.declared.request.Gone.TheVariants as gone
 use Rattle.io_rules.specs.declared.request.Request.{Request}
 use Rattle.io_rules.specs.Calls.{gone_by, gone_of, is_timer_gone, waits_called}
 use Rattle.io_rules.specs.Cancelling.{is_among}
-use Rattle.io_rules.specs.Changes.{is_there, names_changed, place_freed, reached}
+use Rattle.io_rules.specs.Changes.{names_changed, place_freed, reached}
 use Rattle.io_rules.specs.Legal.{IsLegal, state_of}
 use Rattle.io_rules.specs.Names.{freed, is_alive, is_current, is_living, no_place, place_at, same_name, with_freed}
 use Rattle.io_rules.specs.Operations.{timer_of}
 use Rattle.io_rules.specs.Spares.{with_life_of}
 use Rattle.io_rules.specs.State.{ContextState}
 use Rattle.io_rules.proofs.StrandLemmas.{both, by_test, generation-with_life}
-use Rattle.io_rules.proofs.TotalLemmas.{apart, equal, same}
+use Rattle.io_rules.proofs.TotalLemmas.{equal, same}
 use Rattle.io_timers.specs.declared.pending.PendingWait.{PendingWait}
 use Rattle.io_timers.specs.Kept.{Each}
-use Rattle.io_timers.specs.Pending.{Entry, IsOnly, is_of, number_of, wait_of, waits_on}
+use Rattle.io_timers.specs.Pending.{Entry, IsOnly, wait_of}
 use Rattle.io_timers.proofs.OrderLemmas.{each-weaker}
 
 abbrev pub AreCurrent : List Place → List Wait → Type 0

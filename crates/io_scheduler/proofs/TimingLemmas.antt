@@ -1,15 +1,13 @@
 -- A timer is changed, and what waits on it completes.
-use Rattle.std.proofs.Common.{arith, ap, refl, subst, sym, ◌∙◌}
-use Rattle.std.proofs.lemmas.List.{append-nil, length-set}
-use Rattle.std.specs.Prelude.{◌≡◌, ◌<◌, ℕ, ◌+◌, cond, not, Bool, true, false, List, [], ◌∷◌, ◌++◌, None, Option, Some, length, map, take}
+use Rattle.std.proofs.Common.{ap, refl, subst, sym, ◌∙◌}
+use Rattle.std.proofs.lemmas.List.{length-set}
+use Rattle.std.specs.Prelude.{◌≡◌, ◌<◌, ℕ, cond, not, Bool, true, false, List, [], ◌∷◌, ◌++◌, None, Option, Some, length, map, take}
 use Rattle.std.specs.List.{filter}
 use Rattle.asio_types.specs.declared.code.Code.TheVariants as code
 use Rattle.io_rules.specs.declared.control.Control.{Control}
-use Rattle.io_rules.specs.declared.control.Control.TheVariants as control
 use Rattle.io_rules.specs.declared.event.Event.{Event}
 use Rattle.io_rules.specs.declared.event.Event.TheVariants as event
 use Rattle.io_rules.specs.declared.limits.Limits.{Limits}
-use Rattle.io_rules.specs.declared.name.Kind.TheVariants as kind
 use Rattle.io_rules.specs.declared.name.Name.{Name}
 use Rattle.io_rules.specs.declared.name.Lane.{Lane}
 use Rattle.io_rules.specs.declared.op.Wait.{Wait}
@@ -17,14 +15,12 @@ use Rattle.io_rules.specs.declared.spares.Spares.{Spares}
 use Rattle.io_history.specs.declared.view.Held.{Held}
 use Rattle.io_history.specs.Steps.{held_still}
 use Rattle.io_history.proofs.StayLemmas.{cancelled_leaves}
-use Rattle.io_rules.specs.declared.place.Life.{Life}
-use Rattle.io_rules.specs.declared.place.Life.TheVariants as life
 use Rattle.io_rules.specs.declared.place.Place.{Place}
 use Rattle.io_rules.specs.declared.request.Marks.{Marks}
 use Rattle.io_rules.specs.Cancelling.{cancelled, is_among, waits_of}
 use Rattle.io_rules.specs.Changes.{place_freed, reached}
 use Rattle.io_rules.specs.Legal.{IsLegal, MayHappen, after, state_of}
-use Rattle.io_rules.specs.Names.{Names, is_alive, is_current, is_living, is_unused, place_at, same_name, with_freed, with_life}
+use Rattle.io_rules.specs.Names.{Names, is_alive, is_current, is_living, is_unused, place_at, same_name, with_freed}
 use Rattle.io_rules.specs.Ops.{is_at, is_running, op_at, passes}
 use Rattle.io_rules.specs.State.{ContextState, TimerState, new_timer, with_timer}
 use Rattle.io_rules.proofs.StrandLemmas.{both, by_test}
@@ -39,7 +35,7 @@ use Rattle.io_scheduler.specs.declared.timing.TimerChange.{TimerChange}
 use Rattle.io_scheduler.specs.declared.timing.TimerChange.TheVariants as change
 use Rattle.io_scheduler.specs.declared.waiting.Waiting.{Waiting}
 use Rattle.io_scheduler.specs.Aborting.{IsAbortedIf, IsCancelling, numbers_on, those_of, with_changed}
-use Rattle.io_scheduler.specs.Come.{HaveCome, IsChanged, MayCome, NotesAll, changes, completions, with_events}
+use Rattle.io_scheduler.specs.Come.{HaveCome, IsChanged, LeadTo, changes, completions}
 use Rattle.io_scheduler.specs.Outside.{IsOutside}
 use Rattle.io_scheduler.specs.Shown.{Shows}
 use Rattle.io_scheduler.specs.Streams.{StaysStreaming}
@@ -253,24 +249,32 @@ ops_behind s by timer change.Cancel = refl
 ops_behind s by timer change.CancelOne = refl
 ops_behind s by timer change.Free = refl
 
+-- it does where operations are cancelled, and nothing else becomes of them
+pub held_cancelled : (s : ContextState) (by : ℕ) (from : Lane) (own : Bool) (grant : ℕ) (spares : Spares)
+    (held still : Option Held) (made : Control) →
+    (after (event.Changed (Some by) made) s).ops ≡ (cancelled (reached s made) s).ops →
+    IsExecution by from own grant spares held → HeldOp s by from own grant spares held →
+    still ≡ held_still (after (event.Changed (Some by) made) s) held → StillHeld by from own grant spares held still
+held_cancelled s by from own grant spares held still made ops executes it is =
+    still_held (after (event.Changed (Some by) made) s) by from own own grant grant spares spares held still it.op executes
+    (ap (λ os. op_at os by) ops ∙ cancelled_leaves s (reached s made) s.ops by it.op (ap is_running it.runs) it.is)
+    it.at it.runs it.returns is
+
 pub held_changed : (s : ContextState) (by : ℕ) (from : Lane) (own : Bool) (grant : ℕ) (spares : Spares)
     (held still : Option Held) (timer : Name) (change : TimerChange) → IsExecution by from own grant spares held →
     HeldOp s by from own grant spares held →
     still ≡ held_still (after (event.Changed (Some by) (control_of timer change)) s) held →
     StillHeld by from own grant spares held still
 held_changed s by from own grant spares held still timer change executes it is =
-    still_held (after (event.Changed (Some by) (control_of timer change)) s) by from own own grant grant spares spares held still
-    it.op executes
-    (ap (λ ops. op_at ops by) (ops_behind s (Some by) timer change)
-    ∙ cancelled_leaves s (reached s (control_of timer change)) s.ops by it.op (ap is_running it.runs) it.is)
-    it.at it.runs it.returns is
+    held_cancelled s by from own grant spares held still (control_of timer change) (ops_behind s (Some by) timer change)
+    executes it is
 
 pub runs_held : (s : ContextState) (by : ℕ) (from : Lane) (own : Bool) (grant : ℕ) (spares : Spares)
     (held : Option Held) → HeldOp s by from own grant spares held → is_at is_running s.ops by ≡ true
 runs_held s by from own grant spares held it = ap (passes is_running) it.is ∙ ap is_running it.runs
 
 -- on a name that is gone it has no effect
-after_gone : (s : ContextState) (by : Option ℕ) (timer : Name) (change : TimerChange) →
+pub after_gone : (s : ContextState) (by : Option ℕ) (timer : Name) (change : TimerChange) →
     is_alive s.names.timers timer ≡ false →
     after (event.Changed by (control_of timer change)) s ≡ with_changed s.names s.timers (cancelled [] s)
 after_gone s by timer (change.ExpiresAt at) gone =
@@ -293,40 +297,38 @@ reached_gone s timer change.Free gone = ap (λ b. cond b (waits_of timer s) []) 
 
 module _ {H S : Type 0} (marks : H → Marks) (limits : Limits) (counts : Counts) (names : Names)
     (cells : List (Cell H S)) (jobs : JobList (ReadyOp H)) (timers : Timers (Waiting H)) (tally : Tally)
-    (s : ContextState) (by : Option ℕ) (timer : Name) (change : TimerChange)
-    (gone : is_alive s.names.timers timer ≡ false) where
-  pub gone_shown : Shows marks limits counts names cells jobs s →
-      Shows marks limits counts names cells jobs (after (event.Changed by (control_of timer change)) s)
+    (s new : ContextState) (is : new ≡ with_changed s.names s.timers (cancelled [] s)) where
+  pub gone_shown : Shows marks limits counts names cells jobs s → Shows marks limits counts names cells jobs new
   gone_shown shows =
-      subst (Shows marks limits counts names cells jobs) (sym (after_gone s by timer change gone))
+      subst (Shows marks limits counts names cells jobs) (sym is)
       (shows_counted marks limits counts names cells jobs s (λ c. c) s.holds s.stopped (s.settled ++ [])
       (filter (λ wait. not (is_among [] wait.op)) s.waits) refl (ap (λ xs. xs ++ []) shows.settled) shows)
 
-  pub gone_waits : ShowsWaits marks limits timers s →
-      ShowsWaits marks limits timers (after (event.Changed by (control_of timer change)) s)
+  pub gone_waits : ShowsWaits marks limits timers s → ShowsWaits marks limits timers new
   gone_waits shows =
-      subst (ShowsWaits marks limits timers) (sym (after_gone s by timer change gone))
+      subst (ShowsWaits marks limits timers) (sym is)
       (waits_stay marks limits timers s _ shows (stays_quiet s _ refl refl refl refl refl))
 
-  pub gone_tallied : IsTally tally s → IsTally tally (after (event.Changed by (control_of timer change)) s)
-  gone_tallied is =
-      subst (IsTally tally) (sym (after_gone s by timer change gone))
-      (tally_still tally s _ is refl refl refl)
+  pub gone_tallied : IsTally tally s → IsTally tally new
+  gone_tallied tallied = subst (IsTally tally) (sym is) (tally_still tally s _ tallied refl refl refl)
 
-pub still_gone : (s : ContextState) (by : Option ℕ) (timer : Name) (change : TimerChange) →
-    is_alive s.names.timers timer ≡ false → StaysStreaming s (after (event.Changed by (control_of timer change)) s)
-still_gone s by timer change gone =
-    subst (StaysStreaming s) (sym (after_gone s by timer change gone))
+pub still_gone : (s new : ContextState) → new ≡ with_changed s.names s.timers (cancelled [] s) → StaysStreaming s new
+still_gone s new is =
+    subst (StaysStreaming s) (sym is)
     (record { streams = refl; places = refl; ops = λ n it target is pending on. is })
 
 -- the change as a step of a handler
+pub lead_to : (limits : Limits) (events : List Event) (old new : List Event) → HaveCome limits events old new →
+    LeadTo events (state_of limits old) (state_of limits new)
+lead_to limits events old new come = record {
+  may = come.may;
+  is = ap (state_of limits) come.is ∙ state_with limits events old;
+}
+
 pub is_changed : (limits : Limits) (by : Option ℕ) (made : Control) (old new : List Event) →
     HaveCome limits (changes by made (state_of limits old)) old new →
     IsChanged by made (state_of limits old) (state_of limits new)
-is_changed limits by made old new come = record {
-  may = come.may;
-  is = ap (state_of limits) come.is ∙ state_with limits (changes by made (state_of limits old)) old;
-}
+is_changed limits by made old new come = lead_to limits (changes by made (state_of limits old)) old new come
 
 pub gone_come : (limits : Limits) (by : Option ℕ) (timer : Name) (change : TimerChange) (old new : List Event) →
     is_alive (state_of limits old).names.timers timer ≡ false →

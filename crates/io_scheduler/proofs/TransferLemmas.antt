@@ -1,8 +1,8 @@
 -- An operation on a stream is initiated, and is pending then: what its call makes of the state.
-use Rattle.std.proofs.Common.{arith, ap, refl, subst, sym, ◌∙◌}
+use Rattle.std.proofs.Common.{ap, refl, subst, sym, ◌∙◌}
 use Rattle.std.proofs.lemmas.Bool.{ltb-true, true≢false}
-use Rattle.std.proofs.lemmas.List.{append-nil, get_or-set_same}
-use Rattle.std.specs.Prelude.{◌≡◌, ◌<◌, ℕ, ◌+◌, ◌==◌, ◌&&◌, cond, nat_lt, not, Bool, true, false, List, [], ◌∷◌, ◌++◌, Option, Some, None, length, slice_get, if◌then◌else◌}
+use Rattle.std.proofs.lemmas.List.{get_or-set_same}
+use Rattle.std.specs.Prelude.{◌≡◌, ◌<◌, ℕ, ◌==◌, cond, nat_lt, not, Bool, true, false, List, [], ◌∷◌, ◌++◌, Option, Some, None, length, slice_get, if◌then◌else◌}
 use Rattle.asio_types.specs.declared.code.Code.{Code}
 use Rattle.asio_types.specs.declared.code.Code.TheVariants as code
 use Rattle.io_rules.specs.declared.event.Event.TheVariants as event
@@ -22,15 +22,15 @@ use Rattle.io_rules.specs.Legal.{MayHappen, after}
 use Rattle.io_rules.specs.Operations.{Target, target_of, timer_of}
 use Rattle.io_rules.specs.Ops.{op_at}
 use Rattle.io_rules.specs.Room.{numbers_left}
-use Rattle.io_rules.specs.Serving.{Served, first_of, is_none_of, served, served_on, served_op, served_phase, stays, with_queue}
-use Rattle.io_rules.specs.State.{ContextState, StreamState, new_stream, stream_at, with_stream}
+use Rattle.io_rules.specs.Serving.{Served, first_of, served, served_on, served_phase, stays, with_queue}
+use Rattle.io_rules.specs.State.{ContextState, StreamState, new_stream, stream_at}
 use Rattle.io_rules.proofs.StrandLemmas.{both, by_test}
 use Rattle.io_history.proofs.AtLemmas.{at-push}
 use Rattle.io_scheduler.specs.Counted.{may_post}
 use Rattle.io_scheduler.specs.Posted.{posting}
 use Rattle.io_scheduler.specs.Shown.{AreBelow}
 use Rattle.io_scheduler.specs.Streams.{IsPlain}
-use Rattle.io_scheduler.specs.Transferred.{is_transfer, may_transfer, settled_now, size_of}
+use Rattle.io_scheduler.specs.Transferred.{is_transfer, may_transfer, settled_now}
 use Rattle.io_scheduler.proofs.AcceptedLemmas.{accepted_with, pending_op}
 use Rattle.io_scheduler.proofs.ReadyLemmas.{at_new}
 use Rattle.io_scheduler.proofs.ServedLemmas.{IsUnserved, served_nothing}

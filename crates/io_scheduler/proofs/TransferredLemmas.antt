@@ -4,15 +4,12 @@ use Rattle.std.proofs.lemmas.List.{append-nil, get_or-set_other, get_or-set_same
 use Rattle.std.proofs.lemmas.List.Sums.{sum_by-set}
 use Rattle.std.specs.Bool.{OnFalse, OnTrue}
 use Rattle.std.specs.Global.{Vec}
-use Rattle.std.specs.List.{slice_index_or, slice_set}
-use Rattle.std.specs.Prelude.{◌≡◌, ◌^◌, ◌<◌, ◌⊎◌, ℕ, ◌+◌, ◌==◌, cond, Bool, true, false, List, [], ◌∷◌, ◌++◌, Option, Some, None, length, map, slice_get, sum_by}
-use Rattle.asio_types.specs.declared.code.Code.{Code}
+use Rattle.std.specs.List.{slice_index_or}
+use Rattle.std.specs.Prelude.{◌≡◌, ◌^◌, ◌<◌, ◌⊎◌, ℕ, ◌+◌, ◌==◌, cond, Bool, true, false, List, [], ◌∷◌, ◌++◌, Option, Some, None, length, slice_get}
 use Rattle.io_rules.specs.declared.limits.Limits.{Limits}
 use Rattle.io_rules.specs.declared.name.Lane.{Lane}
 use Rattle.io_rules.specs.declared.name.Name.{Name}
 use Rattle.io_rules.specs.declared.op.Op.{Op}
-use Rattle.io_rules.specs.declared.op.Phase.TheVariants as phase
-use Rattle.io_rules.specs.declared.op.Wait.{Wait}
 use Rattle.io_rules.specs.declared.operation.Operation.{Operation}
 use Rattle.io_rules.specs.declared.operation.Side.{Side}
 use Rattle.io_rules.specs.declared.operation.Side.TheVariants as side
@@ -21,7 +18,6 @@ use Rattle.io_rules.specs.declared.request.Marks.{Marks}
 use Rattle.io_rules.specs.Calls.{streams_called}
 use Rattle.io_rules.specs.Cancelling.{is_out_for, queue_of}
 use Rattle.io_rules.specs.Operations.{Target, target_of}
-use Rattle.io_rules.specs.Ops.{op_at}
 use Rattle.io_rules.specs.Room.{one_if}
 use Rattle.io_rules.specs.Serving.{first_of, is_none_of, served_on, stays, with_queue}
 use Rattle.io_rules.specs.State.{ContextState, StreamState, new_stream, stream_at}
@@ -40,10 +36,10 @@ use Rattle.io_scheduler.specs.Shown.{AreBelow}
 use Rattle.io_scheduler.specs.Streaming.{on_sides, on_streams}
 use Rattle.io_scheduler.specs.Streams.{AreStreaming, IsPlain, IsStill, IsStreamingAs, ShowsStreams}
 use Rattle.io_scheduler.specs.Transferred.{is_transfer, settled_at_once, settled_now, settled_on, stream_for}
-use Rattle.io_scheduler.specs.Waits.{ArePending, ShowsWaits, incomplete_in, is_incomplete}
+use Rattle.io_scheduler.specs.Waits.{ArePending, ShowsWaits, is_incomplete}
 use Rattle.io_scheduler.proofs.AcceptedLemmas.{accepted_with, pending_op}
 use Rattle.io_scheduler.proofs.ReadyLemmas.{at_below, at_new}
-use Rattle.io_scheduler.proofs.TransferLemmas.{Empty, FirstIs, HeadStill, Other, first_push, held_with, out_with, plain_with, queue_with, served_alike, stays_now, way_of}
+use Rattle.io_scheduler.proofs.TransferLemmas.{Empty, FirstIs, Other, first_push, held_with, out_with, plain_with, queue_with, served_alike, stays_now, way_of}
 
 some_is : {X : Type 0} (x y : X) → Some x ≡ Some y → x ≡ y
 some_is x y is = cc

@@ -2,13 +2,12 @@
 use Rattle.std.proofs.Common.{arith, ap, refl, subst, sym, ◌∙◌}
 use Rattle.std.proofs.lemmas.Bool.{true≢false}
 use Rattle.std.proofs.lemmas.List.{length-map, length-set}
-use Rattle.std.specs.Prelude.{◌≡◌, ◌<◌, ◌≢◌, ℕ, ◌+◌, ◌^◌, ◌==◌, ◌&&◌, cond, not, Bool, true, false, List, [], ◌∷◌, Option, Some, None, length, map, slice_get, sum_by, IfNone, IfSome}
+use Rattle.std.specs.Prelude.{◌≡◌, ◌<◌, ◌≢◌, ℕ, ◌^◌, ◌==◌, ◌&&◌, cond, not, Bool, true, false, List, [], ◌∷◌, Option, Some, None, length, map, slice_get, IfNone, IfSome}
 use Rattle.io_rules.specs.declared.event.Event.{Event}
 use Rattle.io_rules.specs.declared.event.Event.TheVariants as event
 use Rattle.io_rules.specs.declared.limits.Limits.{Limits}
 use Rattle.io_rules.specs.declared.name.Name.{Name}
 use Rattle.io_rules.specs.declared.op.Op.{Op}
-use Rattle.io_rules.specs.declared.op.Phase.{Phase}
 use Rattle.io_rules.specs.declared.op.Phase.TheVariants as phase
 use Rattle.io_rules.specs.declared.operation.Operation.{Operation}
 use Rattle.io_rules.specs.declared.operation.Operation.TheVariants as operation
@@ -24,13 +23,13 @@ use Rattle.io_rules.specs.Completing.{kind_of}
 use Rattle.io_rules.specs.Legal.{MayHappen, after, state_of}
 use Rattle.io_rules.specs.Names.{Names, is_alive}
 use Rattle.io_rules.specs.Operations.{is_accept, target_of}
-use Rattle.io_rules.specs.Ops.{is_untouched, op_at}
+use Rattle.io_rules.specs.Ops.{is_untouched}
 use Rattle.io_rules.specs.Room.{one_if}
 use Rattle.io_rules.specs.Serving.{first_of, op_of, served_on, stays}
 use Rattle.io_rules.specs.Spares.{with_life_of}
 use Rattle.io_rules.specs.State.{ContextState, StreamState, stream_at, with_stream}
-use Rattle.io_rules.specs.Tries.{MayReserve, MayTry, head_of, is_accept_of, is_linked_for, is_searched, may_be_tried, moved_by, place_kept}
-use Rattle.io_rules.proofs.StrandLemmas.{both, by_test}
+use Rattle.io_rules.specs.Tries.{MayReserve, head_of, is_accept_of, is_linked_for, is_searched, may_be_tried, moved_by, place_kept}
+use Rattle.io_rules.proofs.StrandLemmas.{by_test}
 use Rattle.io_rules.proofs.TotalLemmas.{apart, equal}
 use Rattle.io_queues.specs.Ordered.{AreApart, Each}
 use Rattle.io_queues.specs.Queued.{found_in}
@@ -46,7 +45,7 @@ use Rattle.io_scheduler.specs.declared.streaming.Streaming.{Streaming}
 use Rattle.io_scheduler.specs.declared.tally.Tally.{Tally}
 use Rattle.io_scheduler.specs.declared.waiting.Waiting.{Waiting}
 use Rattle.io_scheduler.specs.Shown.{Shows}
-use Rattle.io_scheduler.specs.Streaming.{on_sides, on_streams, out_in}
+use Rattle.io_scheduler.specs.Streaming.{on_sides, on_streams}
 use Rattle.io_scheduler.specs.Streams.{AreStreaming, IsPlain, IsStill, IsStreamingAs, ShowsStreams}
 use Rattle.io_scheduler.specs.Tallied.{IsTally, tally_out}
 use Rattle.io_scheduler.specs.Tried.{HasTried, IsTriable, IsUntriable, has_none, has_place, is_busy, is_ready_for, lent, lent_at, lent_if, may_try, moved_of, waits, with_kept}

@@ -46,7 +46,8 @@ use Rattle.io_rules.proofs.ShareLemmas.{weighed}
 use Rattle.io_rules.proofs.StrandLemmas.{both, by_test, same-name}
 use Rattle.io_rules.proofs.TotalLemmas.{apart, equal, found, same, share}
 use Rattle.io_scheduler.specs.Shown.{is_used, is_used_place}
-use Rattle.io_scheduler.proofs.ReservedLemmas.{keepers, spared, is_kept_life, is_stream_kind, living_of, reserved_set, unkept, unused_within}
+use Rattle.io_scheduler.proofs.KeptNamesLemmas.{is_kept_life, keepers, reserved_set, spared, unused_within}
+use Rattle.io_scheduler.proofs.ReservedLemmas.{is_stream_kind, living_of, unkept}
 
 -- where nothing is, the stream is as new
 abbrev IdleAt : ℕ → List Place → List StreamState → Type 0

@@ -2,11 +2,8 @@
 use Rattle.std.proofs.Common.{ap, refl, subst, sym, ◌∙◌, ⊎_elim}
 use Rattle.std.proofs.lemmas.Bool.{true≢false}
 use Rattle.std.proofs.lemmas.List.{length-set, set-get_or, set-set}
-use Rattle.std.specs.Prelude.{◌≡◌, ◌<◌, ◌^◌, ℕ, ◌+◌, Bool, true, false, List, [], ◌∷◌, Option, Some, None, length, slice_get}
-use Rattle.std.specs.Global.{Vec}
-use Rattle.std.specs.List.{slice_index_or, slice_set}
-use Rattle.asio_types.specs.declared.code.Code.{Code}
-use Rattle.io_rules.specs.declared.event.Event.TheVariants as event
+use Rattle.std.specs.Prelude.{◌≡◌, ◌<◌, ◌^◌, ℕ, ◌+◌, true, List, [], Some, None, length}
+use Rattle.std.specs.List.{slice_set}
 use Rattle.io_rules.specs.declared.limits.Limits.{Limits}
 use Rattle.io_rules.specs.declared.name.Name.{Name}
 use Rattle.io_rules.specs.declared.operation.Side.{Side}
@@ -16,19 +13,15 @@ use Rattle.io_rules.specs.declared.request.Marks.{Marks}
 use Rattle.io_rules.specs.Cancelling.{is_out_for, queue_of}
 use Rattle.io_rules.specs.Changes.{is_out}
 use Rattle.io_rules.specs.Completing.{side_left, streams_left}
-use Rattle.io_rules.specs.Legal.{MayHappen, after}
 use Rattle.io_rules.specs.Names.{Names, with_freed}
 use Rattle.io_rules.specs.Operations.{Target}
 use Rattle.io_rules.specs.Room.{one_if}
 use Rattle.io_rules.specs.Serving.{first_of, with_queue}
 use Rattle.io_rules.specs.State.{ContextState, StreamState, new_stream, stream_at, with_stream}
-use Rattle.io_queues.specs.Queued.{found_in}
 use Rattle.io_strands.specs.declared.ready.ReadyOp.{ReadyOp}
 use Rattle.io_strands.specs.Cell.{Cell}
 use Rattle.io_jobs.specs.Listed.{JobList}
-use Rattle.io_streams.specs.declared.pending.PendingOp.{PendingOp}
-use Rattle.io_streams.specs.Kept.{IsWhole}
-use Rattle.io_streams.specs.Pending.{IsHead, IsIdle, StreamList, forgotten, without_op}
+use Rattle.io_streams.specs.Pending.{IsIdle, StreamList, forgotten}
 use Rattle.io_timers.specs.Pending.{Timers}
 use Rattle.io_scheduler.specs.declared.counts.Counts.{Counts}
 use Rattle.io_scheduler.specs.declared.streaming.Streaming.{Streaming}
@@ -36,11 +29,11 @@ use Rattle.io_scheduler.specs.declared.tally.Tally.{Tally}
 use Rattle.io_scheduler.specs.declared.waiting.Waiting.{Waiting}
 use Rattle.io_scheduler.specs.Shown.{Shows}
 use Rattle.io_scheduler.specs.Streaming.{on_sides, on_streams, out_in}
-use Rattle.io_scheduler.specs.Streams.{IsPlain, IsStill, ShowsStreams}
+use Rattle.io_scheduler.specs.Streams.{IsStill, ShowsStreams}
 use Rattle.io_scheduler.specs.Tallied.{IsTally}
 use Rattle.io_scheduler.specs.Vacated.{IsAlone, without_name, without_stream}
 use Rattle.io_scheduler.specs.Waits.{ShowsWaits}
-use Rattle.io_scheduler.proofs.LeavingLemmas.{queue_other, same_or}
+use Rattle.io_scheduler.proofs.LeavingLemmas.{queue_other, queue_own, same_or}
 use Rattle.io_scheduler.proofs.LinkedLemmas.{none_new}
 use Rattle.io_scheduler.proofs.PlacedLemmas.{at_with, placed_shown, placed_tally, placed_waits, plain_with, sum_same}
 
@@ -55,11 +48,6 @@ idle_sides stream idle =
     ap (λ q. length q + length stream.writes + length stream.connects) idle.reads
     ∙ ap (λ q. 0 + length q + length stream.connects) idle.writes
     ∙ ap (λ q. 0 + 0 + length q) idle.connects
-
-queue_own : (sd : Side) (rest : List ℕ) (stream : StreamState) → queue_of sd (with_queue sd rest stream) ≡ rest
-queue_own side.Read rest stream = refl
-queue_own side.Write rest stream = refl
-queue_own side.Connect rest stream = refl
 
 -- once the only operation has left
 pub none_left : (sd : Side) (n : ℕ) (stream : StreamState) → IsAlone sd n stream → (on : Side) →

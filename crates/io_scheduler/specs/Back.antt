@@ -1,6 +1,6 @@
 -- A socket is back from a system call (Asio reference, Overview, "The Proactor Design Pattern"): its
 -- operation has its buffer again, and is as far as the call brought it.
-use Rattle.std.specs.Prelude.{◌≡◌, ◌<◌, ℕ, Bool, true, false, List, ◌∷◌, Option, Some, None, length}
+use Rattle.std.specs.Prelude.{◌≡◌, ◌<◌, ℕ, true, false, List, ◌∷◌, Option, Some, None, length}
 use Rattle.std.specs.Global.{Vec}
 use Rattle.io_rules.specs.declared.event.Event.{Event}
 use Rattle.io_rules.specs.declared.event.Event.TheVariants as event

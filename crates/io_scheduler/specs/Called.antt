@@ -1,6 +1,6 @@
 -- A handler that executes initiates an operation (Asio reference, Requirements on asynchronous operations), one that
 -- has no slot and is of no stream.
-use Rattle.std.specs.Prelude.{◌≡◌, Bool, true, false}
+use Rattle.std.specs.Prelude.{Bool, true, false}
 use Rattle.io_rules.specs.declared.name.Lane.{Lane}
 use Rattle.io_rules.specs.declared.name.Lane.TheVariants as lane
 use Rattle.io_rules.specs.declared.operation.Operation.{Operation}

@@ -40,10 +40,14 @@ completions given numbers = map (λ n. event.Done n given 0) numbers
 abbrev pub changes : Option ℕ → Control → ContextState → List Event
 changes by change s = event.Changed by change ∷ completions code.Aborted (reached s change)
 
+-- these come, one after another, and lead from one state to the other
+pub record LeadTo (events : List Event) (old new : ContextState) : Type 0 where
+  pub may : MayCome events old
+  pub is : new ≡ behind events old
+
 -- it is made, and what it cancels has completed
-pub record IsChanged (by : Option ℕ) (change : Control) (old new : ContextState) : Type 0 where
-  pub may : MayCome (changes by change old) old
-  pub is : new ≡ behind (changes by change old) old
+abbrev pub IsChanged : Option ℕ → Control → ContextState → ContextState → Type 0
+IsChanged by change old new = LeadTo (changes by change old) old new
 
 -- a critical section in which these events came, oldest first
 pub record NotesAll (limits : Limits) (events : List Event) (before after : List Event) (old new : ContextState) :

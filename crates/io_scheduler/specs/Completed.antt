@@ -1,5 +1,5 @@
 -- An operation completes: it is ready behind the others of its lane.
-use Rattle.std.specs.Prelude.{◌≡◌, ◌<◌, ℕ, List, length}
+use Rattle.std.specs.Prelude.{◌<◌, ℕ, List, length}
 use Rattle.std.specs.List.{slice_set}
 use Rattle.asio_types.specs.declared.code.Code.{Code}
 use Rattle.io_rules.specs.declared.name.Lane.{Lane}

@@ -3,6 +3,7 @@ pub mod Accepted
 pub mod Back
 pub mod Begun
 pub mod Called
+pub mod Closing
 pub mod Come
 pub mod Completed
 pub mod Counted

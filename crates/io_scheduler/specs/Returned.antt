@@ -1,10 +1,8 @@
 -- A system call has returned, and its socket is back (Asio reference, Overview, "The Proactor Design
 -- Pattern"): what it gave counts before a cancellation that came meanwhile.
-use Rattle.std.specs.Prelude.{◌≡◌, ◌<◌, ◌+◌, ◌==◌, ◌&&◌, ◌||◌, ◌∷◌, ℕ, nat_le, not, Bool, true, false, List, [], Option, Some, None, length, if◌then◌else◌}
-use Rattle.std.specs.Global.{Vec}
+use Rattle.std.specs.Prelude.{◌≡◌, ◌+◌, ◌&&◌, ◌||◌, ◌∷◌, ℕ, nat_le, Bool, true, false, List, Option, Some, None, if◌then◌else◌}
 use Rattle.asio_types.specs.declared.code.Code.{Code}
 use Rattle.asio_types.specs.declared.code.Code.TheVariants as code
-use Rattle.io_rules.specs.declared.event.Event.{Event}
 use Rattle.io_rules.specs.declared.event.Event.TheVariants as event
 use Rattle.io_rules.specs.declared.gave.Gave.{Gave}
 use Rattle.io_rules.specs.declared.gave.Gave.TheVariants as gave
@@ -26,7 +24,6 @@ use Rattle.io_scheduler.specs.Come.{MayCome, behind}
 use Rattle.io_scheduler.specs.Settling.{Ends, all_done}
 use Rattle.io_scheduler.specs.declared.returning.Came.{Came}
 use Rattle.io_scheduler.specs.declared.returning.Came.TheVariants as came
-use Rattle.io_scheduler.specs.declared.settling.Gets.{Gets}
 
 abbrev pub settles_with : Code → ℕ → Came
 settles_with given size = came.Settles (record { code = given; size = size })

@@ -1,6 +1,6 @@
 -- The first operation of a side is settled, and hasn't completed yet (Asio reference, Overview, "The
 -- Proactor Design Pattern"): what is kept shows a state in which it is still pending.
-use Rattle.std.specs.Prelude.{◌≡◌, ◌<◌, ◌^◌, ◌+◌, ◌-◌, ◌==◌, ℕ, nat_le, Bool, true, false, if◌then◌else◌, Option, None, List, [], ◌∷◌, ◌++◌, Some, length, map}
+use Rattle.std.specs.Prelude.{◌≡◌, ◌<◌, ◌^◌, ◌+◌, ◌==◌, ℕ, nat_le, Bool, true, false, if◌then◌else◌, Option, None, List, [], ◌∷◌, ◌++◌, Some, length, map}
 use Rattle.asio_types.specs.declared.code.Code.{Code}
 use Rattle.asio_types.specs.declared.code.Code.TheVariants as code
 use Rattle.io_rules.specs.declared.event.Event.{Event}

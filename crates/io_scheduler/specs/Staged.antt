@@ -1,8 +1,10 @@
 -- What a handler staged while it executed takes effect in the order of its calls, and then it has ended.
 use Rattle.std.specs.Prelude.{◌≡◌, ◌+◌, ℕ, List, [], ◌∷◌, Option, None, Some, min}
+use Rattle.io_rules.specs.declared.control.Control.{Control}
 use Rattle.io_rules.specs.declared.control.Control.TheVariants as control
 use Rattle.io_rules.specs.declared.event.Event.{Event}
 use Rattle.io_rules.specs.declared.event.Event.TheVariants as event
+use Rattle.io_rules.specs.declared.name.Kind.TheVariants as kind
 use Rattle.io_rules.specs.declared.request.Marks.{Marks}
 use Rattle.io_rules.specs.declared.request.Request.{Request}
 use Rattle.io_rules.specs.declared.spares.Spares.{Spares}
@@ -12,6 +14,7 @@ use Rattle.io_rules.specs.State.{ContextState}
 use Rattle.io_handlers.specs.declared.staged.Staged.{Staged}
 use Rattle.io_handlers.specs.declared.staged.Staged.TheVariants as staged
 use Rattle.io_handlers.specs.Initiated.{request_of}
+use Rattle.io_scheduler.specs.Closing.{frees}
 use Rattle.io_scheduler.specs.Come.{MayCome, behind, changes}
 use Rattle.io_scheduler.specs.Ended.{mark_of}
 use Rattle.io_scheduler.specs.Running.{Execution}
@@ -33,10 +36,16 @@ reading_or (Some now) s = now
 abbrev pub later_by : ℕ → ℕ → ℕ
 later_by now after = min (now + after) 18446744073709551615
 
+-- a change, and what it settles completes at once
+abbrev pub changed_by : ℕ → Control → ContextState → List Event
+changed_by by (control.Free kind.Stream name) s = frees (Some by) kind.Stream name s
+changed_by by (control.Free kind.Listener name) s = frees (Some by) kind.Listener name s
+changed_by by change s = changes (Some by) change s
+
 -- the events of a call by the handler of this operation, oldest first; it has returned at this time
 abbrev pub events_of : {H : Type 0} → (H → Marks) → ℕ → ℕ → Staged H → ContextState → List Event
 events_of marks by now (staged.Called call) s = called_by by (request_of marks call) s
-events_of marks by now (staged.Changed change) s = changes (Some by) change s
+events_of marks by now (staged.Changed change) s = changed_by by change s
 events_of marks by now (staged.ExpiresAfter timer after) s =
     changes (Some by) (control.Expires timer (later_by now after)) s
 

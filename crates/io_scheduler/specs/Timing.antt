@@ -1,12 +1,12 @@
 -- What a timer's owner may do with it, besides waiting (Asio reference, basic_waitable_timer::expires_at, ::cancel,
 -- ::cancel_one, ::~basic_waitable_timer).
-use Rattle.std.specs.Prelude.{ℕ, Bool, true, false, List}
+use Rattle.std.specs.Prelude.{Bool, true, false, List}
 use Rattle.io_rules.specs.declared.control.Control.{Control}
 use Rattle.io_rules.specs.declared.control.Control.TheVariants as control
 use Rattle.io_rules.specs.declared.name.Kind.TheVariants as kind
 use Rattle.io_rules.specs.declared.name.Name.{Name}
 use Rattle.io_rules.specs.Names.{Names, with_freed}
-use Rattle.io_rules.specs.State.{ContextState, TimerState, new_timer, with_timer}
+use Rattle.io_rules.specs.State.{TimerState, new_timer, with_timer}
 use Rattle.io_scheduler.specs.declared.timing.TimerChange.{TimerChange}
 use Rattle.io_scheduler.specs.declared.timing.TimerChange.TheVariants as change
 

@@ -1,6 +1,6 @@
 -- An operation on a stream or a listener is initiated (Asio reference, basic_stream_socket::async_read_some,
 -- ::async_write_some, async_write, basic_socket_acceptor::async_accept).
-use Rattle.std.specs.Prelude.{ℕ, ◌+◌, ◌==◌, ◌&&◌, cond, not, Bool, true, false, List, [], ◌∷◌, Option, None, Some}
+use Rattle.std.specs.Prelude.{ℕ, ◌==◌, ◌&&◌, cond, not, Bool, false, List, [], ◌∷◌, Option, None, Some}
 use Rattle.asio_types.specs.declared.code.Code.{Code}
 use Rattle.asio_types.specs.declared.code.Code.TheVariants as code
 use Rattle.io_rules.specs.declared.event.Event.{Event}

@@ -1,13 +1,11 @@
 -- A system call on a socket begins, for the first operation of a side (Asio reference,
 -- basic_stream_socket, basic_socket_acceptor; Overview, "The Proactor Design Pattern").
 use Rattle.std.specs.Prelude.{◌≡◌, ◌&&◌, ℕ, not, Bool, true, false, List, ◌∷◌, Option, Some, None}
-use Rattle.std.specs.Global.{Vec}
 use Rattle.io_rules.specs.declared.event.Event.{Event}
 use Rattle.io_rules.specs.declared.event.Event.TheVariants as event
 use Rattle.io_rules.specs.declared.limits.Limits.{Limits}
 use Rattle.io_rules.specs.declared.name.Name.{Name}
 use Rattle.io_rules.specs.declared.op.Op.{Op}
-use Rattle.io_rules.specs.declared.operation.Operation.{Operation}
 use Rattle.io_rules.specs.declared.operation.Side.{Side}
 use Rattle.io_rules.specs.declared.place.Life.TheVariants as life
 use Rattle.io_rules.specs.Changes.{is_out}

@@ -1,14 +1,15 @@
 ghost use Rattle.std.specs.Prelude.{◌≡◌, ◌<◌, ◌≤◌, true, [], Some};
-ghost use Rattle.io_handlers.specs.Initiated.{IsMade, IsMadeOf, IsOffered, is_offered_change, left_by, left_by_all, operations_in, operations_of, spares_made, with_none};
-ghost use Rattle.io_scheduler.specs.Come.{IsChanged};
-ghost use Rattle.io_scheduler.specs.Staged.{AreStaged, GoesOn, IsCommitted, later_by, staged_behind};
+ghost use Rattle.io_rules.specs.declared.control.Control.TheVariants as control;
+ghost use Rattle.io_handlers.specs.Initiated.{IsMade, IsMadeOf, IsOffered, is_freed, is_offered_change, left_by, left_by_all, operations_in, operations_of, spares_made, with_none};
+ghost use Rattle.io_scheduler.specs.Come.{LeadTo};
+ghost use Rattle.io_scheduler.specs.Staged.{AreStaged, GoesOn, IsCommitted, changed_by, later_by, staged_behind};
 
 use crate::running::Running;
 use crate::scheduler::Scheduler;
 use crate::timing::TimerChange;
 use io_handlers::{Handler, Staged, Staging};
 use io_history::{HistoryTable, Named};
-use io_rules::Control;
+use io_rules::{Control, Kind, Name};
 
 /// So much later, as far as there are such times.
 fn later_by(now: u64, after: u64) -> u64
@@ -28,7 +29,7 @@ impl<H: Handler, C: Named> Scheduler<H, C> {
         requires table { table.now ≡ C.table }
         requires offered { is_offered_change change ≡ true }
         requires made { IsMadeOf change running.spares }
-        ensures changed { IsChanged (Some running.op) change self.old self.new }
+        ensures changed { LeadTo (changed_by running.op change self.old) self.old self.new }
         ensures goes_on { GoesOn 0 (spares_made change running.spares) running result }
     {
         match change {
@@ -42,10 +43,28 @@ impl<H: Handler, C: Named> Scheduler<H, C> {
             Control::CancelOne { timer } => {
                 self.change_timer_by(table, running, timer, TimerChange::CancelOne)
             }
-            Control::Free { kind: _, name } => {
-                self.change_timer_by(table, running, name, TimerChange::Free)
-            }
+            Control::Free { kind, name } => self.free_by(table, running, kind, name),
             _ => self.stop_by(table, running),
+        }
+    }
+
+    /// A handler that executes frees a timer, or closes a stream or a listener.
+    fn free_by(
+        &mut self,
+        table: &HistoryTable,
+        running: Running<C>,
+        kind: Kind,
+        name: Name,
+    ) -> Running<C>
+        requires table { table.now ≡ C.table }
+        requires freed { is_freed kind ≡ true }
+        ensures changed { LeadTo (changed_by running.op (control.Free kind name) self.old) self.old self.new }
+        ensures goes_on { GoesOn 0 running.spares running result }
+    {
+        match kind {
+            Kind::Stream => self.close_by(table, running, name, false),
+            Kind::Listener => self.close_by(table, running, name, true),
+            _ => self.change_timer_by(table, running, name, TimerChange::Free),
         }
     }
 

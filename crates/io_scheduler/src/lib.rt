@@ -6,6 +6,7 @@
 mod aborting;
 mod accepting;
 mod asking;
+mod asking_streams;
 mod attempt;
 mod back;
 mod beginning;
@@ -13,6 +14,8 @@ mod brought;
 mod calling;
 mod changing;
 mod closed;
+mod closing;
+mod closing_by;
 mod committing;
 mod completing;
 mod counts;

@@ -60,7 +60,7 @@ fn is_ready<H>(streams: &Streams<Streaming<H>>, name: Name, item: &Streaming<H>)
 }
 
 /// Whether a socket is in a system call.
-fn is_busy<H>(streams: &Streams<Streaming<H>>, name: Name) -> bool
+pub(crate) fn is_busy<H>(streams: &Streams<Streaming<H>>, name: Name) -> bool
     requires { name.place < length streams.now.streams }
     ensures { result ≡ is_out (stream_at streams.now.streams name).out }
 {

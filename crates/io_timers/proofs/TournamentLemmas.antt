@@ -1,9 +1,10 @@
 -- What a tournament keeps as a node is played again, and that the first node has the first of all.
 use Rattle.std.proofs.Common.{◌≡◌, ◌≢◌, ℕ, zero, suc, ◌+◌, ◌-◌, ◌*◌, ◌/◌, ◌<◌, ◌≤◌, Bool, true, false, List, length, get_or, set, ap, sym, refl, subst, ◌∙◌, ⊎_elim, inl, inr, arith}
-use Rattle.std.specs.Prelude.{◌==◌, ◌⊎◌, Option, Some, None, nat_lt, if◌then◌else◌}
+use Rattle.std.specs.Prelude.{◌==◌, ◌^◌, ◌⊎◌, Option, Some, None, nat_lt, if◌then◌else◌, replicate}
+use Rattle.std.specs.List.{slice_index_or}
 use Rattle.std.proofs.lemmas.Bool.{cases_eq, cases_lt, le-ltb, lt-ltb, true≢false}
 use Rattle.std.proofs.lemmas.Bool.Decides.{nat_tests}
-use Rattle.std.proofs.lemmas.List.{get_or-set_other, get_or-set_same, get_or_past, length-set}
+use Rattle.std.proofs.lemmas.List.{get_or-replicate, get_or-set_other, get_or-set_same, get_or_past, length-replicate, length-set}
 use Rattle.io_timers.specs.declared.first.First.{First}
 use Rattle.io_timers.specs.Tournament.{IsFirst, IsNoLater, IsNode, IsTournament, is_before, node_at, winner}
 
@@ -170,3 +171,28 @@ module _ (inner leaves : List (Option First)) (is : IsTournament inner leaves) w
 pub some_many : (n : ℕ) (empty : Bool) → empty ≡ (n == 0) → empty ≡ false → 0 < n
 some_many zero empty is isnt = absurd (true≢false (sym is ∙ isnt))
 some_many (suc n) empty is isnt = omega arith
+
+same_if : (b : Bool) (x : Option First) → (if b then x else x) ≡ x
+same_if true x = refl
+same_if false x = refl
+
+same_at : (n k : ℕ) (x : Option First) → slice_index_or (replicate n x) k x ≡ x
+same_at n k x =
+    ⊎_elim (λ within. get_or-replicate n k x x within)
+    (λ past. get_or_past (replicate n x) k x (rw (length-replicate n x) past)) (cases_lt k n)
+
+abbrev nobody : Option First
+nobody = None
+
+none_node : (n k : ℕ) → node_at (replicate n nobody) (replicate n nobody) k ≡ nobody
+none_node n k =
+    rw (same_at n k nobody, same_at n (k - length (replicate n nobody)) nobody)
+    (same_if (nat_lt k (length (replicate n nobody))) nobody)
+
+-- where no wait is pending, nothing has been played
+pub none_yet : (n : ℕ) → n < 2 ^ 32 → IsTournament (replicate n nobody) (replicate n nobody)
+none_yet n small = record {
+  long = refl;
+  small = rw (length-replicate n nobody) small;
+  nodes = λ k positive within. rw (same_at n k nobody, none_node n (k * 2), none_node n (k * 2 + 1)) refl;
+}

@@ -1,5 +1,5 @@
-use Rattle.std.proofs.Common.{arith, ap, refl, subst, sym, ◌∙◌}
-use Rattle.std.specs.Prelude.{◌≡◌, ◌∷◌}
+use Rattle.std.proofs.Common.{arith, ap, refl, ◌∙◌}
+use Rattle.std.specs.Prelude.{◌∷◌}
 use Rattle.asio_types.specs.declared.code.Code.TheVariants as code
 use Rattle.io_rules.specs.declared.event.Event.TheVariants as event
 use Rattle.io_rules.specs.Legal.{state_of}

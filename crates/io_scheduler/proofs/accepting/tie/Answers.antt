@@ -1,8 +1,8 @@
-use Rattle.std.proofs.Common.{◌<◌, ap, length, subst, sym, ◌∙◌}
+use Rattle.std.proofs.Common.{ap, subst, ◌∙◌}
 use Rattle.std.proofs.lemmas.List.{get_or_read}
 use Rattle.io_strands.specs.Cell.{called, vacant}
 use Rattle.io_rules.specs.Strands.{Later}
-use Rattle.io_scheduler.specs.Accepted.{MayBeTiedTo, later_cells}
+use Rattle.io_scheduler.specs.Accepted.{MayBeTiedTo}
 use Rattle.io_scheduler.proofs.AcceptedLemmas.{tied_at}
 use Rattle.io_scheduler.proofs.accepting.tie.Goals as goal
 

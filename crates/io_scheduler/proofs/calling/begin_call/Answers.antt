@@ -1,8 +1,5 @@
-use Rattle.std.proofs.Common.{arith, ap, refl, ◌∙◌}
-use Rattle.std.specs.Prelude.{Some}
-use Rattle.io_rules.specs.declared.event.Event.TheVariants as event
+use Rattle.std.proofs.Common.{ap, refl, ◌∙◌}
 use Rattle.io_rules.specs.Legal.{state_of}
-use Rattle.io_scheduler.specs.Posted.{posting}
 use Rattle.io_scheduler.proofs.CalledLemmas.{called_number, held_calling, may_be_called}
 use Rattle.io_scheduler.proofs.EndedLemmas.{held_op_is}
 use Rattle.io_scheduler.proofs.GivenLemmas.{places_left}

@@ -1,5 +1,5 @@
-use Rattle.std.proofs.Common.{arith, ap, refl, sym, ◌∙◌}
-use Rattle.std.specs.Prelude.{◌∷◌, []}
+use Rattle.std.proofs.Common.{arith, ap, ◌∙◌}
+use Rattle.std.specs.Prelude.{◌∷◌}
 use Rattle.io_rules.specs.declared.event.Event.TheVariants as event
 use Rattle.io_rules.specs.Legal.{state_of}
 use Rattle.io_names.specs.Tables.{names_of}

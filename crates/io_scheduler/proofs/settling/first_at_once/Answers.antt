@@ -1,5 +1,4 @@
 use Rattle.std.proofs.Common.{ap, sym, ◌∙◌}
-use Rattle.std.specs.Prelude.{Some, None}
 use Rattle.io_scheduler.specs.Settling.{gets_at_once, stays_first}
 use Rattle.io_scheduler.proofs.settling.first_at_once.Goals as goal
 

@@ -1,6 +1,5 @@
-use Rattle.std.proofs.Common.{ap, refl, subst, sym, ◌∙◌}
-use Rattle.std.specs.Prelude.{◌≡◌, ◌∷◌, []}
-use Rattle.io_rules.specs.declared.event.Event.{Event}
+use Rattle.std.proofs.Common.{ap, subst, sym, ◌∙◌}
+use Rattle.std.specs.Prelude.{◌∷◌}
 use Rattle.io_rules.specs.Legal.{MayHappen, state_of}
 use Rattle.io_scheduler.specs.Outside.{IsOutside}
 use Rattle.io_scheduler.proofs.TimingLemmas.{change_outside, may_change}

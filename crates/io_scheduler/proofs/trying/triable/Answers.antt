@@ -1,5 +1,4 @@
-use Rattle.std.proofs.Common.{ap, sym, ◌∙◌}
-use Rattle.std.specs.Prelude.{Some}
+use Rattle.std.proofs.Common.{sym, ◌∙◌}
 use Rattle.io_rules.specs.State.{stream_at}
 use Rattle.io_scheduler.specs.Tried.{waits}
 use Rattle.io_scheduler.proofs.TriedLemmas.{none_out}

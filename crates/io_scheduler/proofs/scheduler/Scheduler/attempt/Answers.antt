@@ -1,5 +1,3 @@
-use Rattle.std.specs.Prelude.{IfNone}
-use Rattle.std.proofs.Common.{ap}
 use Rattle.io_rules.specs.Legal.{state_of}
 use Rattle.io_names.specs.Tables.{names_of}
 use Rattle.io_scheduler.proofs.TriedLemmas.{attempt_shown, attempt_waits, untriable}

@@ -1,4 +1,3 @@
-use Rattle.std.proofs.Common.{ap}
 use Rattle.io_rules.specs.Legal.{state_of}
 use Rattle.io_scheduler.proofs.ReturnedLemmas.{has_returned, stale}
 use Rattle.io_scheduler.proofs.scheduler.Scheduler.back.Goals as goal

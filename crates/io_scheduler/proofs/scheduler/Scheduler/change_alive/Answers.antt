@@ -1,10 +1,8 @@
-use Rattle.std.proofs.Common.{ap, refl, subst, sym, ◌∙◌}
-use Rattle.std.specs.Prelude.{None, ◌≡◌, ◌<◌, length}
-use Rattle.std.specs.Bool.{OnTrue}
+use Rattle.std.proofs.Common.{ap, refl, sym, ◌∙◌}
+use Rattle.std.specs.Prelude.{None}
 use Rattle.io_rules.specs.Legal.{state_of}
 use Rattle.io_names.specs.Tables.{names_of}
-use Rattle.io_scheduler.specs.Aborting.{numbers_on, those_of}
-use Rattle.io_scheduler.specs.Timing.{cancels_all, names_behind, timers_behind}
+use Rattle.io_scheduler.specs.Timing.{names_behind, timers_behind}
 use Rattle.io_scheduler.proofs.ComeLemmas.{notes_all}
 use Rattle.io_scheduler.proofs.StreamedLemmas.{still_changed, streams_still}
 use Rattle.io_scheduler.proofs.TimingLemmas.{change_cancelling, change_come, change_names, change_only, change_timers, change_used, change_within, over_shown, over_tallied, over_waits}

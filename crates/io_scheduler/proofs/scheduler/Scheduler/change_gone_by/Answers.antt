@@ -2,7 +2,7 @@ use Rattle.std.specs.Prelude.{Some}
 use Rattle.io_rules.specs.Legal.{state_of}
 use Rattle.io_names.specs.Tables.{names_of}
 use Rattle.io_scheduler.proofs.StreamedLemmas.{streams_still}
-use Rattle.io_scheduler.proofs.TimingLemmas.{gone_come, gone_shown, gone_tallied, gone_waits, still_gone, is_changed}
+use Rattle.io_scheduler.proofs.TimingLemmas.{after_gone, gone_come, gone_shown, gone_tallied, gone_waits, is_changed, still_gone}
 use Rattle.io_scheduler.proofs.scheduler.Scheduler.change_gone_by.Goals as goal
 
 pub begin_change-requires : goal.begin_change-requires
@@ -13,25 +13,19 @@ begin_change-requires g c = record {
 }
 
 pub invariant_of-self : goal.invariant_of-self
-invariant_of-self g c = (
-  c.begin_change.ensures.none,
-  rw c.begin_change.ensures.come.is (gone_shown g.H.Handler.marks g.C.Named.limits c.self.inside.counts (names_of c.self.inside.names)
-      c.self.inside.strands.items c.self.inside.jobs c.self.inside.timers c.self.inside.tally
-      (state_of g.C.Named.limits c.self.inside.keeper.past) (Some c.args.running.op) c.args.timer c.args.change
-      (rw (← c.self.view_is) at c.requires.gone) c.self.invariant.1),
-  rw c.begin_change.ensures.come.is (gone_tallied g.H.Handler.marks g.C.Named.limits c.self.inside.counts (names_of c.self.inside.names)
-      c.self.inside.strands.items c.self.inside.jobs c.self.inside.timers c.self.inside.tally
-      (state_of g.C.Named.limits c.self.inside.keeper.past) (Some c.args.running.op) c.args.timer c.args.change
-      (rw (← c.self.view_is) at c.requires.gone) c.self.invariant.2),
-  rw c.begin_change.ensures.come.is (gone_waits g.H.Handler.marks g.C.Named.limits c.self.inside.counts (names_of c.self.inside.names)
-      c.self.inside.strands.items c.self.inside.jobs c.self.inside.timers c.self.inside.tally
-      (state_of g.C.Named.limits c.self.inside.keeper.past) (Some c.args.running.op) c.args.timer c.args.change
-      (rw (← c.self.view_is) at c.requires.gone) c.self.invariant.3),
-  rw c.begin_change.ensures.come.is
-      (streams_still g.H.Handler.marks g.C.Named.limits c.self.inside.streams (state_of g.C.Named.limits c.self.inside.keeper.past) _ c.self.invariant.4
-      (still_gone (state_of g.C.Named.limits c.self.inside.keeper.past) (Some c.args.running.op) c.args.timer c.args.change
-      (rw (← c.self.view_is) at c.requires.gone))),
-)
+invariant_of-self g c =
+    let s = state_of g.C.Named.limits c.self.inside.keeper.past in
+    let is = after_gone s (Some c.args.running.op) c.args.timer c.args.change (rw (← c.self.view_is) at c.requires.gone) in (
+      c.begin_change.ensures.none,
+      rw c.begin_change.ensures.come.is (gone_shown g.H.Handler.marks g.C.Named.limits c.self.inside.counts (names_of c.self.inside.names)
+          c.self.inside.strands.items c.self.inside.jobs c.self.inside.timers c.self.inside.tally s _ is c.self.invariant.1),
+      rw c.begin_change.ensures.come.is (gone_tallied g.H.Handler.marks g.C.Named.limits c.self.inside.counts (names_of c.self.inside.names)
+          c.self.inside.strands.items c.self.inside.jobs c.self.inside.timers c.self.inside.tally s _ is c.self.invariant.2),
+      rw c.begin_change.ensures.come.is (gone_waits g.H.Handler.marks g.C.Named.limits c.self.inside.counts (names_of c.self.inside.names)
+          c.self.inside.strands.items c.self.inside.jobs c.self.inside.timers c.self.inside.tally s _ is c.self.invariant.3),
+      rw c.begin_change.ensures.come.is
+          (streams_still g.H.Handler.marks g.C.Named.limits c.self.inside.streams s _ c.self.invariant.4 (still_gone s _ is)),
+    )
 
 pub returns-clause-changed : goal.returns-clause-changed
 returns-clause-changed g c =

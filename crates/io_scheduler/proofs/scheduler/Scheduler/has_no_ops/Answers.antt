@@ -1,6 +1,6 @@
 use Rattle.std.proofs.Common.{sym}
 use Rattle.io_rules.specs.Legal.{state_of}
-use Rattle.io_scheduler.proofs.TallyLemmas.{none_left, one_left, some_left}
+use Rattle.io_scheduler.proofs.TallyLemmas.{none_left, some_left}
 use Rattle.io_scheduler.proofs.scheduler.Scheduler.has_no_ops.Goals as goal
 
 pub returns-in-None : goal.returns-in-None

@@ -1,4 +1,4 @@
-use Rattle.std.proofs.Common.{ap, subst}
+use Rattle.std.proofs.Common.{ap}
 use Rattle.io_rules.specs.Legal.{state_of}
 use Rattle.io_scheduler.proofs.ComeLemmas.{have_passed}
 use Rattle.io_scheduler.proofs.StreamedLemmas.{still_passed, streams_still}

@@ -1,9 +1,9 @@
-use Rattle.std.proofs.Common.{arith, ap, refl, subst, sym, ◌∙◌}
-use Rattle.std.specs.Prelude.{◌≡◌, ◌∷◌, [], None, Some}
+use Rattle.std.proofs.Common.{arith, ap, refl, sym, ◌∙◌}
+use Rattle.std.specs.Prelude.{◌∷◌, [], None}
 use Rattle.asio_types.specs.declared.code.Code.TheVariants as code
 use Rattle.io_rules.specs.declared.event.Event.TheVariants as event
 use Rattle.io_rules.specs.declared.request.Gone.TheVariants as gone
-use Rattle.io_rules.specs.Legal.{after, state_of}
+use Rattle.io_rules.specs.Legal.{state_of}
 use Rattle.io_names.specs.Tables.{names_of}
 use Rattle.io_scheduler.specs.Posted.{posting}
 use Rattle.io_rules.proofs.TotalLemmas.{same}

@@ -1,13 +1,9 @@
-use Rattle.std.proofs.Common.{ap, refl, subst, sym, ◌∙◌}
-use Rattle.std.specs.Prelude.{◌≡◌, ◌∷◌, [], None, Some}
+use Rattle.std.proofs.Common.{ap, refl, ◌∙◌}
+use Rattle.std.specs.Prelude.{◌∷◌, [], None}
 use Rattle.io_rules.specs.declared.event.Event.TheVariants as event
 use Rattle.io_rules.specs.declared.request.Gone.TheVariants as gone
-use Rattle.io_rules.specs.Calls.{is_target_gone}
 use Rattle.io_rules.specs.Legal.{state_of}
-use Rattle.io_rules.specs.Operations.{target_of}
-use Rattle.io_rules.proofs.StrandLemmas.{both}
 use Rattle.io_names.specs.Tables.{names_of}
-use Rattle.io_scheduler.specs.Counted.{may_post}
 use Rattle.io_scheduler.specs.Posted.{posting}
 use Rattle.io_rules.proofs.TotalLemmas.{same}
 use Rattle.io_scheduler.proofs.ToldLemmas.{call_still_told, call_told}

@@ -36,3 +36,26 @@ returns-clause-accepted g c =
     rw (← c.self.view_is, c.push_back-place.ensures.pushed)
     (wait_seen _ _ _ c.self.invariant c.args.timer.place _ _ (omega (arith, within, many))
     (rw (← c.self.view_is) at c.requires.last))
+
+pub push_back-place-requires-clause-queue : goal.push_back-place-requires-clause-queue
+push_back-place-requires-clause-queue g c =
+    let many = length-map c.self.inside.expiries.items timer_with in
+    let within = rw (← c.self.view_is) at c.requires.within in
+    let as_many = c.self.invariant.as_many in
+    omega (arith, within, many, as_many)
+
+pub push_back-place-requires-clause-room : goal.push_back-place-requires-clause-room
+push_back-place-requires-clause-room g c = rw (← c.self.view_is) at c.requires.room
+
+pub note_first-requires-clause-expiries : goal.note_first-requires-clause-expiries
+note_first-requires-clause-expiries g c =
+    let many = length-map c.self.inside.expiries.items timer_with in
+    let within = rw (← c.self.view_is) at c.requires.within in
+    omega (arith, within, many)
+
+pub note_first-requires-clause-leaves : goal.note_first-requires-clause-leaves
+note_first-requires-clause-leaves g c =
+    let many = length-map c.self.inside.expiries.items timer_with in
+    let within = rw (← c.self.view_is) at c.requires.within in
+    let as_many = c.self.invariant.leaves_many in
+    omega (arith, within, many, as_many)
