@@ -7,22 +7,12 @@ use Rattle.io_timers.proofs.FoundLemmas.{apart_test}
 use Rattle.io_context.specs.declared.sleepers.Sleepers.{Sleepers}
 use Rattle.io_context.specs.declared.sleepers.Watch.{Watch}
 use Rattle.io_context.specs.declared.sleepers.Watch.TheVariants as watch
-use Rattle.io_context.specs.Sleeping.{IsIdle, IsInTime, IsWatched, SleepWhileIdle, first_expiry, is_any, is_called, is_quiet, watches}
+use Rattle.io_context.specs.Sleeping.{IsIdle, IsInTime, SleepWhileIdle, first_expiry, is_any, is_called, is_quiet, watches}
 
 in_time_off : (w : Watch) (first : Option ℕ) → watches w ≡ false → IsInTime w first
 in_time_off watch.Nobody first off = tt
 in_time_off watch.Called first off = tt
 in_time_off (watch.Until expiry) first off = absurd (true≢false off)
-
-watched_on : (w : Watch) (first : Option ℕ) → watches w ≡ true → IsWatched w first
-watched_on watch.Nobody first on = absurd (true≢false (sym on))
-watched_on watch.Called first on = tt
-watched_on (watch.Until expiry) first on = tt
-
-watched_none : (w : Watch) → IsWatched w None
-watched_none watch.Nobody = tt
-watched_none watch.Called = tt
-watched_none (watch.Until expiry) = tt
 
 and_false : (b : Bool) → (b && false) ≡ false
 and_false true = refl
@@ -35,16 +25,16 @@ not_quiet : (called : ℕ) (w : Watch) → 0 < called → ((called == 0) && not 
 not_quiet called w some =
     ap (λ b. b && not (is_called w)) (apart_test called 0 (λ none. omega (arith, some, none)))
 
-pub nobody_sleeps : (sleepers : Sleepers) (s : ContextState) → sleepers.asleep ≡ 0 → watches sleepers.watch ≡ false →
-    SleepWhileIdle sleepers s
-nobody_sleeps sleepers s none off = record {
+pub nobody_sleeps : (sleepers : Sleepers) (s : ContextState) (listed : Bool) → sleepers.asleep ≡ 0 → watches sleepers.watch ≡ false →
+    SleepWhileIdle sleepers s listed
+nobody_sleeps sleepers s listed none off = record {
   idle = λ quiet any. absurd (true≢false (sym any ∙ none_any sleepers.asleep sleepers.watch none off));
   watched = λ quiet some. absurd (omega (arith, none, some));
   in_time = in_time_off sleepers.watch (first_expiry s) off;
 }
 
-pub watcher_called : (sleepers : Sleepers) (s : ContextState) → sleepers.watch ≡ watch.Called → SleepWhileIdle sleepers s
-watcher_called sleepers s called =
+pub watcher_called : (sleepers : Sleepers) (s : ContextState) (listed : Bool) → sleepers.watch ≡ watch.Called → SleepWhileIdle sleepers s listed
+watcher_called sleepers s listed called =
     let busy : is_quiet sleepers ≡ false =
     ap (λ w. (sleepers.called == 0) && not (is_called w)) called ∙ and_false (sleepers.called == 0) in
     record {
@@ -53,31 +43,23 @@ watcher_called sleepers s called =
       in_time = subst (λ w. IsInTime w (first_expiry s)) (sym called) tt;
     }
 
-pub busy_sleepers : (sleepers : Sleepers) (s : ContextState) → is_quiet sleepers ≡ false →
-    IsInTime sleepers.watch (first_expiry s) → SleepWhileIdle sleepers s
-busy_sleepers sleepers s busy in_time = record {
+pub busy_sleepers : (sleepers : Sleepers) (s : ContextState) (listed : Bool) → is_quiet sleepers ≡ false →
+    IsInTime sleepers.watch (first_expiry s) → SleepWhileIdle sleepers s listed
+busy_sleepers sleepers s listed busy in_time = record {
   idle = λ quiet any. absurd (true≢false (sym quiet ∙ busy));
   watched = λ quiet some. absurd (true≢false (sym quiet ∙ busy));
   in_time = in_time;
 }
 
-pub one_called : (sleepers : Sleepers) (s : ContextState) → 0 < sleepers.called →
-    IsInTime sleepers.watch (first_expiry s) → SleepWhileIdle sleepers s
-one_called sleepers s some in_time =
-    busy_sleepers sleepers s (not_quiet sleepers.called sleepers.watch some) in_time
+pub one_called : (sleepers : Sleepers) (s : ContextState) (listed : Bool) → 0 < sleepers.called →
+    IsInTime sleepers.watch (first_expiry s) → SleepWhileIdle sleepers s listed
+one_called sleepers s listed some in_time =
+    busy_sleepers sleepers s listed (not_quiet sleepers.called sleepers.watch some) in_time
 
-pub idle_watched : (sleepers : Sleepers) (s : ContextState) → IsIdle s → watches sleepers.watch ≡ true →
-    IsInTime sleepers.watch (first_expiry s) → SleepWhileIdle sleepers s
-idle_watched sleepers s idle on in_time = record {
+pub idle_watched : (sleepers : Sleepers) (s : ContextState) (listed : Bool) → IsIdle s listed → watches sleepers.watch ≡ true →
+    IsInTime sleepers.watch (first_expiry s) → SleepWhileIdle sleepers s listed
+idle_watched sleepers s listed idle on in_time = record {
   idle = λ quiet any. idle;
-  watched = λ quiet some. watched_on sleepers.watch (first_expiry s) on;
-  in_time = in_time;
-}
-
-pub idle_unwatched : (sleepers : Sleepers) (s : ContextState) → IsIdle s → None ≡ first_expiry s →
-    IsInTime sleepers.watch (first_expiry s) → SleepWhileIdle sleepers s
-idle_unwatched sleepers s idle none in_time = record {
-  idle = λ quiet any. idle;
-  watched = λ quiet some. subst (IsWatched sleepers.watch) none (watched_none sleepers.watch);
+  watched = λ quiet some. on;
   in_time = in_time;
 }

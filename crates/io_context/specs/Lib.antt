@@ -5,3 +5,4 @@ pub mod Naming
 pub mod Refused
 pub mod Sleeping
 pub mod Timed
+pub mod Transferred

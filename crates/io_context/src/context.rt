@@ -9,6 +9,7 @@ use crate::new_context::NewContext;
 use crate::poller::Poller;
 use crate::shared::Shared;
 use crate::sleepers::Wake;
+use crate::sockets::SocketSet;
 use crate::worker::Worker;
 use asio_types::NoMemory;
 use io_handlers::Handler;
@@ -16,6 +17,7 @@ use io_history::{HistoryTable, Keeper, Named};
 use io_reactor::{Edges, Reactor};
 use io_rules::Limits;
 use io_scheduler::{Scheduler, Section};
+use io_sockets::Sockets;
 use std::alloc::Global;
 use std::sync::atomic::{AtomicBool, Ordering};
 use std::sync::ledger::Share;
@@ -25,7 +27,7 @@ use std::sync::{Condvar, Mutex, Wait};
 pub struct Context<H: Handler, C: Named, W: Reactor> {
     pub(crate) table: HistoryTable,
     pub(crate) limits: Limits,
-    pub(crate) shared: Mutex<Shared<H, C>>,
+    pub(crate) shared: Mutex<Shared<H, C, W::Socket>>,
     pub(crate) reactor: W,
     // with the one that waits for the reactor
     pub(crate) poller: Mutex<Poller<W>>,
@@ -65,13 +67,22 @@ impl<H: Handler, C: Named, W: Reactor> Context<H, C, W> {
             return Err(NoMemory);
         };
         let poller = Poller { poll, edges };
+        let Ok(sockets) = Sockets::make(alloc, limits.streams) else {
+            poller.finish(reactor);
+            return Err(NoMemory);
+        };
+        let set = SocketSet {
+            sockets,
+            places: limits.streams,
+            starved: false,
+        };
         let (ended, share) = ledger.open::<C>();
         match Scheduler::make(alloc, limits, Keeper::of(seat, ended)) {
             Ok(scheduler) => Ok((
                 Context {
                     table,
                     limits,
-                    shared: Mutex::new(Shared::new(scheduler)),
+                    shared: Mutex::new(Shared::new(scheduler, set)),
                     reactor,
                     poller: Mutex::new(poller),
                     failed: AtomicBool::new(false),
@@ -80,6 +91,7 @@ impl<H: Handler, C: Named, W: Reactor> Context<H, C, W> {
                 share,
             )),
             Err(_) => {
+                set.close_all(&reactor);
                 poller.finish(reactor);
                 Err(NoMemory)
             }

@@ -1,9 +1,10 @@
 ghost use Rattle.std.specs.Prelude.{◌≡◌, ◌+◌};
 
 use crate::context::Context;
-use crate::invocation::{Invocation, Next, Pause, invoke};
+use crate::invocation::{Invocation, Looks, Next, Pause, invoke};
 use crate::shared::Shared;
-use crate::sleepers::Rest;
+use crate::sockets::close_those;
+use crate::system_call::make;
 use crate::worker::Worker;
 use io_handlers::Handler;
 use io_history::Named;
@@ -11,12 +12,39 @@ use io_reactor::Reactor;
 use std::sync::atomic::Ordering;
 use std::sync::{MutexGuard, Wait};
 
+/// What a worker does besides when a handler has returned.
+#[derive(Clone, Copy)]
+pub(crate) struct Rhythm {
+    /// It reads the clock.
+    pub(crate) reads: bool,
+    /// It looks at the outside.
+    pub(crate) glances: bool,
+    /// It waits where there is nothing.
+    pub(crate) waits: bool,
+}
+
+/// With the lock of what a context keeps, what a worker does next.
+type Locked<'a, H, C, S> = (MutexGuard<'a, Shared<H, C, S>>, Next<H, C, S>);
+
 impl<H: Handler, C: Named, W: Reactor> Context<H, C, W> {
-    /// The first handler that a worker invokes.
+    /// How a worker looks for what is next that has read the clock.
+    fn looks(&self, waits: bool) -> Looks {
+        Looks {
+            now: Some(self.reactor.now()),
+            waits,
+            glances: false,
+        }
+    }
+
+    /// The first handler that a worker invokes. One that doesn't wait looks at the outside before.
     pub(crate) fn first<R: Wait>(&self, rt: &R, waits: bool) -> Option<Invocation<H, C>> {
-        let now = Some(self.reactor.now());
+        let looks = Looks {
+            now: Some(self.reactor.now()),
+            waits,
+            glances: !waits,
+        };
         let mut shared = self.shared.lock(rt);
-        let next = shared.begin(&self.table, now, waits);
+        let next = shared.begin(&self.table, looks);
         self.go_on(rt, shared, next, waits)
     }
 
@@ -27,8 +55,7 @@ impl<H: Handler, C: Named, W: Reactor> Context<H, C, W> {
         rt: &R,
         invocation: Invocation<H, C>,
         worker: &mut Worker<H, C>,
-        looks: bool,
-        waits: bool,
+        rhythm: Rhythm,
     ) -> Option<Invocation<H, C>>
         ensures { worker.new.executed ≡ worker.old.executed + 1 }
     {
@@ -45,29 +72,24 @@ impl<H: Handler, C: Named, W: Reactor> Context<H, C, W> {
         let mut io = staging.begin(running.places(), running.spares());
         let (mark, state) = invoke(handler, done, state, &mut io);
         staging = io.returned();
-        let now = self.read_if(looks || staging.delays());
+        let looks = Looks {
+            now: self.read_if(rhythm.reads || staging.delays()),
+            waits: rhythm.waits,
+            glances: rhythm.glances,
+        };
         let mut shared = self.shared.lock(rt);
         let by = &mut worker.share;
-        let next = shared.end(
-            &self.table,
-            running,
-            state,
-            mark,
-            &mut staging,
-            by,
-            now,
-            waits,
-        );
+        let next = shared.end(&self.table, running, state, mark, &mut staging, by, looks);
         match worker.staging.replace(staging) {
             None => {}
             Some(_) => unreachable!(),
         }
-        self.go_on(rt, shared, next, waits)
+        self.go_on(rt, shared, next, rhythm.waits)
     }
 
     /// What the clock shows, if it is to be read.
-    fn read_if(&self, looks: bool) -> Option<u64> {
-        if looks {
+    fn read_if(&self, reads: bool) -> Option<u64> {
+        if reads {
             Some(self.reactor.now())
         } else {
             None
@@ -78,8 +100,8 @@ impl<H: Handler, C: Named, W: Reactor> Context<H, C, W> {
     fn go_on<'a, R: Wait>(
         &'a self,
         rt: &R,
-        shared: MutexGuard<'a, Shared<H, C>>,
-        next: Next<H, C>,
+        shared: MutexGuard<'a, Shared<H, C, W::Socket>>,
+        next: Next<H, C, W::Socket>,
         waits: bool,
     ) -> Option<Invocation<H, C>> {
         match next {
@@ -92,30 +114,79 @@ impl<H: Handler, C: Named, W: Reactor> Context<H, C, W> {
         }
     }
 
-    /// Waits for the reactor until this time, or until it is woken. Where that fails the context stops.
-    fn watch<R: Wait>(&self, rt: &R, until: u64) {
+    /// Waits for the outside until this time, or until it is woken. Where that fails the context stops.
+    fn watch<'a, R: Wait>(
+        &'a self,
+        rt: &R,
+        until: u64,
+        waits: bool,
+    ) -> Locked<'a, H, C, W::Socket> {
         let mut poller = self.poller.lock(rt);
         let waited = poller.wait(rt, &self.reactor, until);
-        drop(poller);
+        let looks = self.looks(waits);
         if waited.is_err() {
             self.failed.store(true, Ordering::SeqCst);
             let _section = self.stop(rt);
         }
+        let mut shared = self.shared.lock(rt);
+        let next = shared.begin_watched(&self.table, poller.edges.as_slice(), looks);
+        drop(poller);
+        (shared, next)
     }
 
-    /// Sleeps until it is called, or until this time.
-    fn sleep<'a, R: Wait>(
+    /// What is done where no handler begins, and what is next then; `None` where a call of `run` is to return.
+    fn pause_once<'a, R: Wait>(
         &'a self,
         rt: &R,
-        shared: MutexGuard<'a, Shared<H, C>>,
-        rest: Rest,
-    ) -> MutexGuard<'a, Shared<H, C>> {
-        match rest {
-            Rest::Sleep => self.more.wait(rt, shared),
-            Rest::Watch(expiry) => {
+        shared: MutexGuard<'a, Shared<H, C, W::Socket>>,
+        pause: Pause<H::State, W::Socket>,
+        waits: bool,
+    ) -> Option<Locked<'a, H, C, W::Socket>> {
+        match pause {
+            Pause::Over(wake) | Pause::Nothing(wake) => {
                 drop(shared);
-                self.watch(rt, expiry);
-                self.shared.lock(rt)
+                self.wake(wake);
+                None
+            }
+            Pause::Retire(state, wake) => {
+                drop(shared);
+                self.wake(wake);
+                H::retire(state);
+                let mut shared = self.shared.lock(rt);
+                let next = shared.begin(&self.table, self.looks(waits));
+                Some((shared, next))
+            }
+            Pause::Call(call, wake) => {
+                drop(shared);
+                self.wake(wake);
+                let returned = make(&self.reactor, call);
+                let looks = Looks {
+                    now: None,
+                    waits,
+                    glances: false,
+                };
+                let mut shared = self.shared.lock(rt);
+                let next = shared.put_back(&self.table, returned, looks);
+                Some((shared, next))
+            }
+            Pause::Close(leaving, wake) => {
+                drop(shared);
+                self.wake(wake);
+                close_those(&self.reactor, Some(leaving));
+                let mut shared = self.shared.lock(rt);
+                let next = shared.begin(&self.table, self.looks(waits));
+                Some((shared, next))
+            }
+            Pause::Rest(wake) => {
+                self.wake(wake);
+                let mut shared = self.more.wait(rt, shared);
+                let next = shared.begin_awake(&self.table, self.looks(waits));
+                Some((shared, next))
+            }
+            Pause::Watch(until, wake) => {
+                drop(shared);
+                self.wake(wake);
+                Some(self.watch(rt, until, waits))
             }
         }
     }
@@ -124,40 +195,27 @@ impl<H: Handler, C: Named, W: Reactor> Context<H, C, W> {
     fn pause<'a, R: Wait>(
         &'a self,
         rt: &R,
-        shared: MutexGuard<'a, Shared<H, C>>,
-        pause: Pause<H::State>,
+        shared: MutexGuard<'a, Shared<H, C, W::Socket>>,
+        pause: Pause<H::State, W::Socket>,
         waits: bool,
     ) -> Option<Invocation<H, C>> {
         let mut shared = shared;
         let mut pause = pause;
         for _ in rt.forever() {
-            let next = match pause {
-                Pause::Over(wake) | Pause::Nothing(wake) => {
-                    drop(shared);
-                    self.wake(wake);
-                    return None;
-                }
-                Pause::Retire(state, wake) => {
-                    drop(shared);
-                    self.wake(wake);
-                    H::retire(state);
-                    let now = Some(self.reactor.now());
-                    shared = self.shared.lock(rt);
-                    shared.begin(&self.table, now, waits)
-                }
-                Pause::Rest(rest, wake) => {
-                    self.wake(wake);
-                    shared = self.sleep(rt, shared, rest);
-                    shared.begin_awake(&self.table, Some(self.reactor.now()), rest)
-                }
+            let Some(locked) = self.pause_once(rt, shared, pause, waits) else {
+                return None;
             };
+            let (guard, next) = locked;
             match next {
                 Next::Invoke(invocation, wake) => {
-                    drop(shared);
+                    drop(guard);
                     self.wake(wake);
                     return Some(invocation);
                 }
-                Next::Pause(rest) => pause = rest,
+                Next::Pause(next) => {
+                    shared = guard;
+                    pause = next;
+                }
             }
         }
         unreachable!()

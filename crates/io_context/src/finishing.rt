@@ -98,11 +98,13 @@ impl<H: Handler, C: Named, W: Reactor> Context<H, C, W> {
             failed: _,
             more: _,
         } = self;
-        poller.into_inner().finish(reactor);
         let Shared {
             scheduler,
             sleepers: _,
+            set,
         } = shared.into_inner();
+        set.close_all(&reactor);
+        poller.into_inner().finish(reactor);
         let mut left = at_rest(rt, scheduler, &table);
         discard_all(&mut left, &table);
         let (keeper, states) = left.into_parts();

@@ -1,10 +1,12 @@
 ghost use Rattle.std.specs.Prelude.{◌≡◌};
 ghost use Rattle.std.specs.Option.{is_some};
 ghost use Rattle.io_context.specs.Invoked.{IsHandlerOf, IsInvoked};
-ghost use Rattle.io_context.specs.Sleeping.{SleepWhileIdle};
+ghost use Rattle.io_context.specs.Sleeping.{SleepWhileIdle, is_any_listed};
 ghost use Rattle.io_scheduler.specs.Told.{IsOnLane};
 
 use crate::sleepers::{Rest, Sleepers, Wake};
+use crate::sockets::{Leaving, Look, SocketSet};
+use crate::system_call::SystemCall;
 use io_handlers::{Completion, Handler, Initiator};
 use io_history::{HistoryTable, Named};
 use io_scheduler::{Begun, Running, Scheduler};
@@ -30,23 +32,40 @@ impl<H: Handler, C: Named> Model for Invocation<H, C> {
 }
 
 /// What a worker does next, with the lock free.
-pub(crate) enum Next<H: Handler, C: Named> {
+pub(crate) enum Next<H: Handler, C: Named, S> {
     /// It invokes a handler.
     Invoke(Invocation<H, C>, Wake),
     /// No handler begins.
-    Pause(Pause<H::State>),
+    Pause(Pause<H::State, S>),
 }
 
 /// What a worker does where no handler begins.
-pub(crate) enum Pause<S> {
+pub(crate) enum Pause<T, S> {
+    /// It makes a system call on a socket.
+    Call(SystemCall<S>, Wake),
+    /// It closes sockets.
+    Close(Leaving<S>, Wake),
     /// It retires the state of a strand that is gone.
-    Retire(S, Wake),
+    Retire(T, Wake),
     /// It sleeps.
-    Rest(Rest, Wake),
+    Rest(Wake),
+    /// It waits for the outside until this time.
+    Watch(u64, Wake),
     /// Nothing for now, and it doesn't wait.
     Nothing(Wake),
     /// Nothing more: its call of `run` returns.
     Over(Wake),
+}
+
+/// How a worker looks for what is to be done next.
+#[derive(Clone, Copy)]
+pub(crate) struct Looks {
+    /// What the clock shows, if it was read.
+    pub(crate) now: Option<u64>,
+    /// Whether the worker waits where there is nothing.
+    pub(crate) waits: bool,
+    /// Whether it looks at the outside first.
+    pub(crate) glances: bool,
 }
 
 /// The handler that has begun.
@@ -81,32 +100,74 @@ fn look<H: Handler, C: Named>(
     }
 }
 
-/// All waits that are due complete, if the clock was read. Then the next handler begins,
-/// if one may; else a worker that waits is to sleep, unless it is to return.
-pub(crate) fn take_next<H: Handler, C: Named>(
+/// What no handler that may begin leaves to be done: a worker that waits is to sleep, unless it is to return.
+fn take_rest<H: Handler, C: Named, S>(
     scheduler: &mut Scheduler<H, C>,
     sleepers: &mut Sleepers,
     table: &HistoryTable,
-    now: Option<u64>,
     waits: bool,
-) -> Next<H, C>
+    listed: bool,
+) -> Pause<H::State, S>
     requires table { table.now ≡ C.table }
-    ensures sleepers { SleepWhileIdle sleepers.new scheduler.new }
+    ensures sleepers { SleepWhileIdle sleepers.new scheduler.new listed }
 {
-    look(scheduler, table, now);
-    match scheduler.begin(table) {
-        Some(begun) => Next::Invoke(to_invoke(begun), sleepers.call(scheduler)),
-        None => {
-            if scheduler.is_over() {
-                scheduler.returned(table);
-                return Next::Pause(Pause::Over(sleepers.call(scheduler)));
-            }
-            if !waits {
-                return Next::Pause(Pause::Nothing(sleepers.call(scheduler)));
-            }
-            let rest = sleepers.rest(scheduler.next_expiry());
-            Next::Pause(Pause::Rest(rest, sleepers.call(scheduler)))
+    if scheduler.is_over() {
+        scheduler.returned(table);
+        return Pause::Over(sleepers.call(scheduler, listed));
+    }
+    if !waits {
+        return Pause::Nothing(sleepers.call(scheduler, listed));
+    }
+    match sleepers.rest(scheduler.next_expiry()) {
+        Rest::Sleep => Pause::Rest(sleepers.call(scheduler, listed)),
+        Rest::Watch(until) => Pause::Watch(until, sleepers.call(scheduler, listed)),
+    }
+}
+
+/// All waits that are due complete, if the clock was read. Then a system call on a socket is made if one may
+/// be, or the next handler begins, if one may; else a worker that waits is to sleep, unless it is to return.
+pub(crate) fn take_next<H: Handler, C: Named, S>(
+    scheduler: &mut Scheduler<H, C>,
+    sleepers: &mut Sleepers,
+    set: &mut SocketSet<S>,
+    table: &HistoryTable,
+    looks: Looks,
+) -> Next<H, C, S>
+    requires table { table.now ≡ C.table }
+    ensures sleepers { SleepWhileIdle sleepers.new scheduler.new (is_any_listed set.new) }
+{
+    look(scheduler, table, looks.now);
+    if looks.glances && sleepers.glance() {
+        return Next::Pause(Pause::Watch(0, sleepers.call(scheduler, set.is_any_listed())));
+    }
+    match set.look(scheduler, table) {
+        Look::Call(call) => {
+            return Next::Pause(Pause::Call(call, sleepers.call(scheduler, set.is_any_listed())));
         }
+        Look::Close(socket) => {
+            let leaving = Leaving {
+                socket: Some(socket),
+                made: None,
+            };
+            return Next::Pause(Pause::Close(
+                leaving,
+                sleepers.call(scheduler, set.is_any_listed()),
+            ));
+        }
+        Look::Nothing => {}
+    }
+    match scheduler.begin(table) {
+        Some(begun) => Next::Invoke(
+            to_invoke(begun),
+            sleepers.call(scheduler, set.is_any_listed()),
+        ),
+        None => Next::Pause(take_rest(
+            scheduler,
+            sleepers,
+            table,
+            looks.waits,
+            set.is_any_listed(),
+        )),
     }
 }
 

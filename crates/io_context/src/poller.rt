@@ -9,10 +9,14 @@ pub(crate) struct Poller<W: Reactor> {
 }
 
 impl<W: Reactor> Poller<W> {
-    /// Waits until the clock comes to this time, or until it is woken; it may end early.
+    /// Waits until something becomes ready, the clock comes to this time, or it is woken; it may end early.
     pub(crate) fn wait<R: Wait>(&mut self, rt: &R, reactor: &W, until: u64) -> Result<(), Failed> {
-        let left = until.saturating_sub(reactor.now());
-        reactor.poll(rt, &mut self.poll, Some(left), &mut self.edges)
+        let timeout = match until {
+            0 => Some(0),
+            u64::MAX => None,
+            _ => Some(until.saturating_sub(reactor.now())),
+        };
+        reactor.poll(rt, &mut self.poll, timeout, &mut self.edges)
     }
 
     /// Ends its reactor.

@@ -1,21 +1,22 @@
-ghost use Rattle.std.specs.Prelude.{◌≡◌, false};
-ghost use Rattle.io_context.specs.Refused.{NoStrandWasFree, WaitWasRefused, WasRefused};
+ghost use Rattle.std.specs.Prelude.{◌≡◌, false, true};
+ghost use Rattle.io_context.specs.Refused.{NoStrandWasFree, TransferWasRefused, WaitWasRefused, WasRefused};
 ghost use Rattle.io_rules.specs.Names.{any_free};
 ghost use Rattle.io_scheduler.specs.Accepted.{may_wait};
 ghost use Rattle.io_scheduler.specs.Counted.{may_post};
 ghost use Rattle.io_scheduler.specs.Sections.{NotesNothing};
+ghost use Rattle.io_scheduler.specs.Transferred.{is_transfer, may_transfer};
 
 use io_handlers::Handler;
 use io_history::{HistoryTable, Named};
 use io_rules::{Lane, Name};
-use io_scheduler::{Scheduler, Section};
+use io_scheduler::{Scheduler, Section, Transfer};
 
 /// Why a call from outside of all handlers is refused.
 #[derive(Clone, Copy, Debug, PartialEq, Eq)]
 pub enum Refusal {
     /// No place for one more is free.
     Full,
-    /// Its strand is gone, or its timer.
+    /// Its strand is gone, or its timer, its stream or its listener.
     Gone,
 }
 
@@ -71,6 +72,30 @@ pub(crate) fn refuse_wait<H: Handler, C: Named>(
 {
     let section = scheduler.look(table);
     if scheduler.has_lane(lane) && scheduler.has_timer(timer) {
+        let why = Refusal::Full;
+        Refused { back, why, section }
+    } else {
+        let why = Refusal::Gone;
+        Refused { back, why, section }
+    }
+}
+
+/// An operation on a stream or a listener that isn't accepted.
+pub(crate) fn refuse_transfer<H: Handler, C: Named>(
+    scheduler: &mut Scheduler<H, C>,
+    table: &HistoryTable,
+    back: Transfer<H>,
+) -> Refused<Transfer<H>, C>
+    requires table { table.now ≡ C.table }
+    requires kind { is_transfer back.kind ≡ true }
+    requires may { may_transfer scheduler.old back.lane back.kind ≡ false }
+    ensures same { scheduler.new ≡ scheduler.old }
+    ensures refused { TransferWasRefused C.limits back.lane back.kind result.why result.section.after }
+    ensures nothing { NotesNothing C.limits result.section.before result.section.after scheduler.old }
+    ensures back { result.back ≡ back }
+{
+    let section = scheduler.look(table);
+    if scheduler.has_lane(back.lane) && scheduler.has_target(back.kind) {
         let why = Refusal::Full;
         Refused { back, why, section }
     } else {

@@ -1,6 +1,7 @@
 ghost use Rattle.std.specs.Prelude.{◌≡◌, ◌<◌, ◌≤◌, ◌+◌, IfOk, OnErr, vec_len};
 
 use crate::context::Context;
+use crate::executing::Rhythm;
 use crate::worker::Worker;
 use asio_types::NoMemory;
 use io_handlers::Handler;
@@ -14,6 +15,9 @@ use std::thread::Threads;
 
 /// A worker that never pauses looks at the clock once in so many handlers.
 const LOOKS_EACH: u64 = 16;
+
+/// And at the outside once in so many.
+const GLANCES_EACH: u64 = 64;
 
 impl<H: Handler, C: Named, W: Reactor> Context<H, C, W> {
     /// Executes handlers until the context is stopped or out of work (`io_context::run`), and answers how
@@ -40,8 +44,12 @@ impl<H: Handler, C: Named, W: Reactor> Context<H, C, W> {
             match next {
                 None => return executed,
                 Some(invocation) => {
-                    let looks = executed % LOOKS_EACH == 0;
-                    next = self.execute(rt, invocation, worker, looks, waits);
+                    let rhythm = Rhythm {
+                        reads: executed % LOOKS_EACH == 0,
+                        glances: executed % GLANCES_EACH == GLANCES_EACH - 1,
+                        waits,
+                    };
+                    next = self.execute(rt, invocation, worker, rhythm);
                 }
             }
         }
@@ -104,6 +112,7 @@ pub fn run_on_threads<
 ) -> Result<(), NoMemory>
 where
     H::State: Send,
+    W::Socket: Send,
     W::Poll: Send,
     requires { threads < share.old.parts }
     ensures parts { share.new.parts ≡ share.old.parts }

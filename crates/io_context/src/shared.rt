@@ -1,4 +1,4 @@
-ghost use Rattle.std.specs.Prelude.{◌≡◌, ◌<◌, ◌+◌, nat_lt, [], false, true, IfErr, IfOk, None, OnErr, Some};
+ghost use Rattle.std.specs.Prelude.{◌≡◌, ◌<◌, ◌+◌, nat_lt, [], false, true, IfErr, IfOk, IfSome, None, OnErr, Some};
 ghost use Rattle.std.specs.Option.{is_some};
 ghost use Rattle.io_rules.specs.declared.control.Control.TheVariants as control;
 ghost use Rattle.io_rules.specs.declared.event.Event.TheVariants as event;
@@ -7,53 +7,61 @@ ghost use Rattle.io_rules.specs.declared.request.Gone.TheVariants as gone;
 ghost use Rattle.io_rules.specs.Legal.{state_of};
 ghost use Rattle.io_rules.specs.Names.{any_free, is_alive};
 ghost use Rattle.io_rules.specs.Operations.{is_posting};
-ghost use Rattle.io_context.specs.Refused.{NoStrandWasFree, WaitWasRefused, WasRefused};
+ghost use Rattle.io_context.specs.Refused.{NoStrandWasFree, TransferWasRefused, WaitWasRefused, WasRefused};
 ghost use Rattle.io_handlers.specs.Initiated.{with_none};
 ghost use Rattle.io_scheduler.specs.Accepted.{waiting_on};
 ghost use Rattle.io_scheduler.specs.Begun.{is_strand};
-ghost use Rattle.io_scheduler.specs.Come.{NotesAllIf, changes};
+ghost use Rattle.io_scheduler.specs.Closing.{closings};
+ghost use Rattle.io_scheduler.specs.Come.{NotesAll, NotesAllIf, changes};
 ghost use Rattle.io_scheduler.specs.Ended.{mark_of};
 ghost use Rattle.io_scheduler.specs.Holding.{may_hold};
 ghost use Rattle.io_scheduler.specs.Posted.{posting};
 ghost use Rattle.io_scheduler.specs.Sections.{Notes, NotesIf, NotesNothing};
 ghost use Rattle.io_scheduler.specs.Tallied.{is_at_rest};
 ghost use Rattle.io_scheduler.specs.Timing.{control_of};
+ghost use Rattle.io_scheduler.specs.Transferred.{is_transfer, settled_at_once, transfers};
 
-use crate::invocation::{Next, Pause, take_next};
-use crate::refused::{Refused, refuse, refuse_strand, refuse_wait};
-use crate::sleepers::{Rest, Sleepers, Wake};
+use crate::invocation::{Looks, Next, Pause, take_next};
+use crate::refused::{Refused, refuse, refuse_strand, refuse_transfer, refuse_wait};
+use crate::sleepers::{Sleepers, Wake};
+use crate::sockets::{Leaving, SocketSet};
+use crate::system_call::Returned;
 use io_handlers::{Handler, Staging};
 use io_history::{HistoryTable, Named};
+use io_reactor::Edge;
 use io_rules::{Lane, Name, Operation};
-use io_scheduler::{Receipt, Running, Scheduler, Section, TimerChange};
+use io_scheduler::{Receipt, Running, Scheduler, Section, TimerChange, Transfer};
+use io_sockets::WaitType;
 use std::marker::Model;
 use std::sync::ledger::Share;
 
 /// What lies under the lock of a context. Contracts see the state of its history so far.
-pub(crate) struct Shared<H: Handler, C: Named> {
+pub(crate) struct Shared<H: Handler, C: Named, S> {
     pub(crate) scheduler: Scheduler<H, C>,
     pub(crate) sleepers: Sleepers,
+    pub(crate) set: SocketSet<S>,
 }
 
-impl<H: Handler, C: Named> Model for Shared<H, C> {
+impl<H: Handler, C: Named, S> Model for Shared<H, C, S> {
     ghost use Rattle.io_rules.specs.State.{ContextState};
-    ghost use Rattle.io_context.specs.Sleeping.{SleepWhileIdle};
+    ghost use Rattle.io_context.specs.Sleeping.{SleepWhileIdle, is_any_listed};
 
     ghost Value = { ContextState };
 
     ghost view = { λ s. s.scheduler };
 
-    ghost invariant = { λ s. SleepWhileIdle s.sleepers s.scheduler };
+    ghost invariant = { λ s. SleepWhileIdle s.sleepers s.scheduler (is_any_listed s.set) };
 }
 
-impl<H: Handler, C: Named> Shared<H, C> {
+impl<H: Handler, C: Named, S> Shared<H, C, S> {
     /// Of a new context.
-    pub(crate) fn new(scheduler: Scheduler<H, C>) -> Shared<H, C>
+    pub(crate) fn new(scheduler: Scheduler<H, C>, set: SocketSet<S>) -> Shared<H, C, S>
         ensures { result ≡ scheduler }
     {
         Shared {
             scheduler,
             sleepers: Sleepers::none(),
+            set,
         }
     }
 
@@ -77,40 +85,89 @@ impl<H: Handler, C: Named> Shared<H, C> {
         ensures back { IfErr result.0 (λ refused. refused.back ≡ handler) }
     {
         match self.scheduler.initiate(table, lane, kind, handler) {
-            Ok(receipt) => (Ok(receipt), self.sleepers.call(&self.scheduler)),
+            Ok(receipt) => (
+                Ok(receipt),
+                self.sleepers
+                    .call(&self.scheduler, self.set.is_any_listed()),
+            ),
             Err(back) => (
                 Err(refuse(&mut self.scheduler, table, lane, back)),
-                self.sleepers.call(&self.scheduler),
+                self.sleepers
+                    .call(&self.scheduler, self.set.is_any_listed()),
             ),
         }
     }
 
-    /// The next handler begins, if one may; else a worker that waits is to sleep.
-    pub(crate) fn begin(
-        &mut self,
-        table: &HistoryTable,
-        now: Option<u64>,
-        waits: bool,
-    ) -> Next<H, C>
+    /// The next handler begins, if one may, or the next system call; else a worker that waits is to sleep.
+    pub(crate) fn begin(&mut self, table: &HistoryTable, looks: Looks) -> Next<H, C, S>
         requires { table.now ≡ C.table }
     {
-        take_next(&mut self.scheduler, &mut self.sleepers, table, now, waits)
+        take_next(
+            &mut self.scheduler,
+            &mut self.sleepers,
+            &mut self.set,
+            table,
+            looks,
+        )
     }
 
     /// Likewise, by a worker that slept.
-    pub(crate) fn begin_awake(
-        &mut self,
-        table: &HistoryTable,
-        now: Option<u64>,
-        rest: Rest,
-    ) -> Next<H, C>
+    pub(crate) fn begin_awake(&mut self, table: &HistoryTable, looks: Looks) -> Next<H, C, S>
         requires { table.now ≡ C.table }
     {
-        match rest {
-            Rest::Sleep => self.sleepers.awake(),
-            Rest::Watch(_) => self.sleepers.watched(),
+        self.sleepers.awake();
+        take_next(
+            &mut self.scheduler,
+            &mut self.sleepers,
+            &mut self.set,
+            table,
+            looks,
+        )
+    }
+
+    /// Likewise, by a worker that has waited for the outside, and found these edges.
+    pub(crate) fn begin_watched(
+        &mut self,
+        table: &HistoryTable,
+        edges: &[Edge],
+        looks: Looks,
+    ) -> Next<H, C, S>
+        requires { table.now ≡ C.table }
+    {
+        self.sleepers.watched();
+        self.set.note_edges(edges);
+        take_next(
+            &mut self.scheduler,
+            &mut self.sleepers,
+            &mut self.set,
+            table,
+            looks,
+        )
+    }
+
+    /// A system call has returned. Then the next handler begins, if one may; sockets that are to be closed are,
+    /// before.
+    pub(crate) fn put_back(
+        &mut self,
+        table: &HistoryTable,
+        returned: Returned<S>,
+        looks: Looks,
+    ) -> Next<H, C, S>
+        requires { table.now ≡ C.table }
+    {
+        match self.set.put_back(&mut self.scheduler, table, returned) {
+            None => take_next(
+                &mut self.scheduler,
+                &mut self.sleepers,
+                &mut self.set,
+                table,
+                looks,
+            ),
+            Some(leaving) => {
+                let listed = self.set.is_any_listed();
+                Next::Pause(Pause::Close(leaving, self.sleepers.call(&self.scheduler, listed)))
+            }
         }
-        take_next(&mut self.scheduler, &mut self.sleepers, table, now, true)
     }
 
     /// A handler has returned this mark, which counts in the share of its worker, and the clock was read or
@@ -123,9 +180,8 @@ impl<H: Handler, C: Named> Shared<H, C> {
         mark: u64,
         staging: &mut Staging<H>,
         by: &mut Share<C>,
-        now: Option<u64>,
-        waits: bool,
-    ) -> Next<H, C>
+        looks: Looks,
+    ) -> Next<H, C, S>
         requires table { table.now ≡ C.table }
         requires mark { mark_of running.held ≡ Some mark }
         requires state { is_some state ≡ is_strand running.lane }
@@ -136,12 +192,25 @@ impl<H: Handler, C: Named> Shared<H, C> {
         ensures parts { by.new.parts ≡ by.old.parts }
         ensures taken { staging.new ≡ with_none staging.old }
     {
-        match self
+        let closed = self.set.touch(staging);
+        let retired = self
             .scheduler
-            .end(table, running, state, mark, staging, by, now)
-        {
-            Some(state) => Next::Pause(Pause::Retire(state, self.sleepers.call(&self.scheduler))),
-            None => take_next(&mut self.scheduler, &mut self.sleepers, table, now, waits),
+            .end(table, running, state, mark, staging, by, looks.now);
+        if closed {
+            self.set.list_listeners(&self.scheduler);
+        }
+        match retired {
+            Some(state) => {
+                let listed = self.set.is_any_listed();
+                Next::Pause(Pause::Retire(state, self.sleepers.call(&self.scheduler, listed)))
+            }
+            None => take_next(
+                &mut self.scheduler,
+                &mut self.sleepers,
+                &mut self.set,
+                table,
+                looks,
+            ),
         }
     }
 
@@ -152,7 +221,11 @@ impl<H: Handler, C: Named> Shared<H, C> {
             result.0.before result.0.after self.old self.new }
     {
         let section = self.scheduler.stop(table);
-        (section, self.sleepers.call(&self.scheduler))
+        (
+            section,
+            self.sleepers
+                .call(&self.scheduler, self.set.is_any_listed()),
+        )
     }
 
     /// Handlers may begin again.
@@ -163,7 +236,11 @@ impl<H: Handler, C: Named> Shared<H, C> {
             result.0.1.before result.0.1.after self.old self.new }
     {
         let restarted = self.scheduler.restart(table);
-        (restarted, self.sleepers.call(&self.scheduler))
+        (
+            restarted,
+            self.sleepers
+                .call(&self.scheduler, self.set.is_any_listed()),
+        )
     }
 
     /// One more work guard.
@@ -174,7 +251,11 @@ impl<H: Handler, C: Named> Shared<H, C> {
             result.0.1.before result.0.1.after self.old self.new }
     {
         let held = self.scheduler.hold(table);
-        (held, self.sleepers.call(&self.scheduler))
+        (
+            held,
+            self.sleepers
+                .call(&self.scheduler, self.set.is_any_listed()),
+        )
     }
 
     /// A work guard is reset.
@@ -184,7 +265,11 @@ impl<H: Handler, C: Named> Shared<H, C> {
             result.0.before result.0.after self.old self.new }
     {
         let section = release_one(&mut self.scheduler, table);
-        (section, self.sleepers.call(&self.scheduler))
+        (
+            section,
+            self.sleepers
+                .call(&self.scheduler, self.set.is_any_listed()),
+        )
     }
 
     /// Makes a strand with this state.
@@ -203,10 +288,15 @@ impl<H: Handler, C: Named> Shared<H, C> {
         ensures back { IfErr result.0 (λ refused. refused.back ≡ state) }
     {
         match self.scheduler.make_strand(table, state) {
-            Ok(made) => (Ok(made), self.sleepers.call(&self.scheduler)),
+            Ok(made) => (
+                Ok(made),
+                self.sleepers
+                    .call(&self.scheduler, self.set.is_any_listed()),
+            ),
             Err(back) => (
                 Err(refuse_strand(&mut self.scheduler, table, back)),
-                self.sleepers.call(&self.scheduler),
+                self.sleepers
+                    .call(&self.scheduler, self.set.is_any_listed()),
             ),
         }
     }
@@ -222,7 +312,11 @@ impl<H: Handler, C: Named> Shared<H, C> {
             (event.Changed None (control.Free kind.Strand name)) result.0.1.before result.0.1.after self.old self.new }
     {
         let freed = self.scheduler.free_strand(table, name);
-        (freed, self.sleepers.call(&self.scheduler))
+        (
+            freed,
+            self.sleepers
+                .call(&self.scheduler, self.set.is_any_listed()),
+        )
     }
 
     /// Makes a timer.
@@ -237,10 +331,15 @@ impl<H: Handler, C: Named> Shared<H, C> {
         ensures nothing { IfErr result.0 (λ section. NotesNothing C.limits section.before section.after self.old) }
     {
         match self.scheduler.make_timer(table) {
-            Some(made) => (Ok(made), self.sleepers.call(&self.scheduler)),
+            Some(made) => (
+                Ok(made),
+                self.sleepers
+                    .call(&self.scheduler, self.set.is_any_listed()),
+            ),
             None => (
                 Err(self.scheduler.look(table)),
-                self.sleepers.call(&self.scheduler),
+                self.sleepers
+                    .call(&self.scheduler, self.set.is_any_listed()),
             ),
         }
     }
@@ -257,7 +356,11 @@ impl<H: Handler, C: Named> Shared<H, C> {
             (changes None (control_of timer change) self.old) result.0.before result.0.after self.old self.new }
     {
         let section = self.scheduler.change_timer(table, timer, change);
-        (section, self.sleepers.call(&self.scheduler))
+        (
+            section,
+            self.sleepers
+                .call(&self.scheduler, self.set.is_any_listed()),
+        )
     }
 
     /// Waits for a timer.
@@ -279,12 +382,97 @@ impl<H: Handler, C: Named> Shared<H, C> {
         ensures back { IfErr result.0 (λ refused. refused.back ≡ handler) }
     {
         match self.scheduler.wait(table, lane, timer, handler) {
-            Ok(receipt) => (Ok(receipt), self.sleepers.call(&self.scheduler)),
+            Ok(receipt) => (
+                Ok(receipt),
+                self.sleepers
+                    .call(&self.scheduler, self.set.is_any_listed()),
+            ),
             Err(back) => (
                 Err(refuse_wait(&mut self.scheduler, table, lane, timer, back)),
-                self.sleepers.call(&self.scheduler),
+                self.sleepers
+                    .call(&self.scheduler, self.set.is_any_listed()),
             ),
         }
+    }
+
+    /// Makes a listener.
+    pub(crate) fn make_listener(
+        &mut self,
+        table: &HistoryTable,
+    ) -> (Option<(Name, Section<C>)>, Wake)
+        requires table { table.now ≡ C.table }
+        ensures made { IfSome result.0 (λ made. Notes C.limits
+            (event.Changed None (control.Make kind.Listener made.0)) made.1.before made.1.after self.old self.new) }
+    {
+        let made = self.scheduler.make_listener(table);
+        (
+            made,
+            self.sleepers
+                .call(&self.scheduler, self.set.is_any_listed()),
+        )
+    }
+
+    /// The socket of a listener is here; what is to be closed comes out.
+    pub(crate) fn add_socket(&mut self, name: Name, socket: S) -> (Option<Leaving<S>>, Wake)
+        ensures { self.new ≡ self.old }
+    {
+        let left = self.set.add(name, socket);
+        (
+            left,
+            self.sleepers
+                .call(&self.scheduler, self.set.is_any_listed()),
+        )
+    }
+
+    /// Initiates an operation on a stream or a listener, whose socket is to be looked at.
+    pub(crate) fn transfer(
+        &mut self,
+        table: &HistoryTable,
+        transfer: Transfer<H>,
+        place: u32,
+        wait: WaitType,
+    ) -> (Result<Receipt<C>, Refused<Transfer<H>, C>>, Wake)
+        requires table { table.now ≡ C.table }
+        requires kind { is_transfer transfer.kind ≡ true }
+        ensures called { IfOk result.0 (λ receipt. NotesAll C.limits
+            (transfers receipt.op None (posting transfer.lane transfer.kind (H.marks transfer.handler))
+            (settled_at_once self.old transfer.kind))
+            receipt.section.before receipt.section.after self.old self.new) }
+        ensures refused { IfErr result.0 (λ refused.
+            TransferWasRefused C.limits transfer.lane transfer.kind refused.why refused.section.after) }
+        ensures nothing { IfErr result.0 (λ refused.
+            NotesNothing C.limits refused.section.before refused.section.after self.old) }
+        ensures back { IfErr result.0 (λ refused. refused.back ≡ transfer) }
+    {
+        self.set.list(place, wait);
+        match self.scheduler.transfer(table, transfer) {
+            Ok(receipt) => (
+                Ok(receipt),
+                self.sleepers
+                    .call(&self.scheduler, self.set.is_any_listed()),
+            ),
+            Err(back) => (
+                Err(refuse_transfer(&mut self.scheduler, table, back)),
+                self.sleepers
+                    .call(&self.scheduler, self.set.is_any_listed()),
+            ),
+        }
+    }
+
+    /// Closes a stream or a listener.
+    pub(crate) fn close(&mut self, table: &HistoryTable, name: Name) -> (Section<C>, Wake)
+        requires { table.now ≡ C.table }
+        ensures { NotesAllIf (is_alive self.old.names.streams name) C.limits
+            (closings name self.old) result.0.before result.0.after self.old self.new }
+    {
+        let section = self.scheduler.close(table, name);
+        self.set.list(name.place, WaitType::Read);
+        self.set.list_listeners(&self.scheduler);
+        (
+            section,
+            self.sleepers
+                .call(&self.scheduler, self.set.is_any_listed()),
+        )
     }
 }
 

@@ -7,12 +7,12 @@ use io_handlers::Handler;
 use io_history::Named;
 use io_scheduler::Scheduler;
 
-/// Who watches the clock, until the first wait that is pending is due.
+/// Who watches the outside, until the first wait that is pending is due.
 #[derive(Clone, Copy)]
 pub(crate) enum Watch {
     /// Nobody.
     Nobody,
-    /// A worker, which sleeps no longer than until this time.
+    /// A worker, which waits no longer than until this time.
     Until { expiry: u64 },
     /// A worker that is called and not back yet.
     Called,
@@ -88,10 +88,11 @@ impl Sleepers {
         }
     }
 
-    /// One more sleeps: until the first wait is due, if nobody else watches the clock.
+    /// One more sleeps: it watches the outside until the first wait is due, if nobody else does.
     pub(crate) fn rest(&mut self, first: Option<u64>) -> Rest {
-        match (self.watch, first) {
-            (Watch::Nobody, Some(expiry)) => {
+        match self.watch {
+            Watch::Nobody => {
+                let expiry = first.unwrap_or(u64::MAX);
                 self.watch = Watch::Until { expiry };
                 Rest::Watch(expiry)
             }
@@ -99,6 +100,17 @@ impl Sleepers {
                 self.asleep = self.asleep.saturating_add(1);
                 Rest::Sleep
             }
+        }
+    }
+
+    /// One is to look at the outside with no wait, if nobody watches it; answers whether it is.
+    pub(crate) fn glance(&mut self) -> bool {
+        match self.watch {
+            Watch::Nobody => {
+                self.watch = Watch::Called;
+                true
+            }
+            _ => false,
         }
     }
 
@@ -154,11 +166,15 @@ impl Sleepers {
         Wake::Watcher
     }
 
-    /// Calls all where a call of `run` is to return; the one that watches the clock where a wait is due before
-    /// it looks again; and where none is called yet, one if a handler may begin, or if a wait is pending and
-    /// nobody watches the clock.
-    pub(crate) fn call<H: Handler, C: Named>(&mut self, scheduler: &Scheduler<H, C>) -> Wake
-        ensures { SleepWhileIdle self.new scheduler.now }
+    /// Calls all where a call of `run` is to return; the one that watches the outside where a wait is due
+    /// before it looks again; and where none is called yet, one if a handler may begin or a socket is to be
+    /// looked at, or if nobody watches the outside.
+    pub(crate) fn call<H: Handler, C: Named>(
+        &mut self,
+        scheduler: &Scheduler<H, C>,
+        listed: bool,
+    ) -> Wake
+        ensures { SleepWhileIdle self.new scheduler.now listed }
     {
         let first = scheduler.next_expiry();
         if scheduler.is_over() {
@@ -171,43 +187,49 @@ impl Sleepers {
             return Wake::Nobody;
         }
         if self.asleep > 0 {
-            return self.call_sleeper(scheduler, first);
+            return self.call_sleeper(scheduler, listed);
         }
-        self.call_watching(scheduler)
+        self.call_watching(scheduler, listed)
     }
 
-    /// Likewise, where some sleep beside the one that watches the clock, if one does, and none is called.
+    /// Likewise, where some sleep beside the one that watches the outside, if one does, and none is called.
     fn call_sleeper<H: Handler, C: Named>(
         &mut self,
         scheduler: &Scheduler<H, C>,
-        first: Option<u64>,
+        listed: bool,
     ) -> Wake
         requires going { is_over scheduler.now ≡ false }
-        requires first { first ≡ first_expiry scheduler.now }
         requires in_time { IsInTime self.old.watch (first_expiry scheduler.now) }
-        ensures { SleepWhileIdle self.new scheduler.now }
+        ensures { SleepWhileIdle self.new scheduler.now listed }
     {
+        if listed {
+            return self.call_one();
+        }
         if scheduler.may_begin() {
             return self.call_one();
         }
         if self.watch.is_on() {
             return Wake::Nobody;
         }
-        match first {
-            Some(_) => self.call_one(),
-            None => Wake::Nobody,
-        }
+        self.call_one()
     }
 
     /// Likewise, where no other sleeps.
-    fn call_watching<H: Handler, C: Named>(&mut self, scheduler: &Scheduler<H, C>) -> Wake
+    fn call_watching<H: Handler, C: Named>(
+        &mut self,
+        scheduler: &Scheduler<H, C>,
+        listed: bool,
+    ) -> Wake
         requires going { is_over scheduler.now ≡ false }
         requires alone { self.old.asleep ≡ 0 }
         requires in_time { IsInTime self.old.watch (first_expiry scheduler.now) }
-        ensures { SleepWhileIdle self.new scheduler.now }
+        ensures { SleepWhileIdle self.new scheduler.now listed }
     {
         if !self.watch.is_on() {
             return Wake::Nobody;
+        }
+        if listed {
+            return self.call_watcher();
         }
         if scheduler.may_begin() {
             return self.call_watcher();

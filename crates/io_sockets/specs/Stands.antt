@@ -123,6 +123,10 @@ held_closed (held.Out side closed) = held.Out side true
 abbrev pub closed : {S : Type 0} → Stand S → Stand S
 closed stand = record stand { held = held_closed stand.held }
 
+-- nothing is there any more
+abbrev pub removed : {S : Type 0} → Stand S → Stand S
+removed stand = record stand { held = held.Gone }
+
 -- an edge came for one way of it
 abbrev pub edge_at : {S : Type 0} → WaitType → Bool → Stand S → Stand S
 edge_at way ended stand = with_readiness way (edged ended (readiness_of way stand)) stand

@@ -1,6 +1,7 @@
-ghost use Rattle.std.specs.Prelude.{◌≡◌, ◌<◌, ◌&&◌, ℕ, false, true, length, slice_get, IfNone, IfOk, IfSome, Some};
+ghost use Rattle.std.specs.Prelude.{◌≡◌, ◌<◌, ◌&&◌, ℕ, false, nat_lt, true, length, slice_get, IfNone, IfOk, IfSome, Some};
+ghost use Rattle.std.specs.Option.{is_some};
 ghost use Rattle.io_sockets.specs.declared.turn.WaitType.{WaitType};
-ghost use Rattle.io_sockets.specs.Stands.{all_closed, closed_out, edge_noted, is_awaited, is_current, is_gone, is_in, is_out, is_ready, left_back, listed, listed_both, may_be_taken, no_sockets, noted, opened, returned, socket_in, stand_at, taken, with_stand};
+ghost use Rattle.io_sockets.specs.Stands.{all_closed, closed_out, edge_noted, is_awaited, is_current, is_gone, is_in, is_out, is_ready, left_back, listed, listed_both, may_be_taken, no_sockets, noted, opened, removed, returned, socket_in, stand_at, taken, with_stand};
 ghost use Rattle.io_sockets.specs.Turns.{flag, is_listed, listed_at, without_first};
 
 use crate::readiness::Outcome;
@@ -56,6 +57,71 @@ impl<S> Sockets<S> {
             stand.destroy();
         }
         stands.destroy_empty();
+    }
+
+    /// Ends its use, and answers the stands by place, with the sockets that are here.
+    pub fn into_stands(self) -> Vec<Stand<S>>
+        ensures { result.items ≡ self.stands }
+    {
+        let Sockets { stands, turns: _ } = self;
+        stands
+    }
+
+    /// Whether there is such a place.
+    pub fn has_place(&self, place: u32) -> bool
+        ensures { result ≡ nat_lt place (length self.now.stands) }
+    {
+        (place as usize) < self.stands.len()
+    }
+
+    /// Whether a worker has the socket of this place.
+    pub fn is_out(&self, place: u32) -> bool
+        ensures { result ≡ is_out (stand_at self.now place).held }
+    {
+        match self.stands.get(place as usize) {
+            Some(stand) => stand.is_out(),
+            None => false,
+        }
+    }
+
+    /// Whether a socket is here at this place.
+    pub fn has_socket(&self, place: u32) -> bool
+        ensures { result ≡ is_some (socket_in (stand_at self.now place).held) }
+    {
+        match self.stands.get(place as usize) {
+            Some(stand) => stand.has_socket(),
+            None => false,
+        }
+    }
+
+    /// Whether the socket of this name comes later.
+    pub fn is_awaited(&self, name: Name) -> bool
+        ensures { result ≡ (is_current self.now name && is_awaited (stand_at self.now name.place).held) }
+    {
+        match self.stands.get(name.place as usize) {
+            Some(stand) => stand.generation == name.generation && stand.is_awaited(),
+            None => false,
+        }
+    }
+
+    /// Nothing is at this place any more; a socket that was here comes out, to be closed by the caller.
+    pub fn remove(&mut self, place: u32) -> Option<S>
+        ensures socket { result ≡ socket_in (stand_at self.old place).held }
+        ensures removed { self.new ≡ with_stand place (removed (stand_at self.old place)) self.old }
+    {
+        self.stands.get_mut(place as usize)?.remove()
+    }
+
+    /// This place gets a name for a socket that comes later, as `open` gives it; what was there comes out, to be
+    /// closed by the caller. No effect where there is no such place.
+    pub fn renew(&mut self, name: Name) -> Option<S>
+        ensures socket { result ≡ socket_in (stand_at self.old name.place).held }
+        ensures renewed { self.new ≡ with_stand name.place (opened name.generation) self.old }
+    {
+        let stand = self.stands.get_mut(name.place as usize)?;
+        let left = stand.remove();
+        stand.open(name.generation);
+        left
     }
 
     /// A name for a socket that comes later, as by an accept or a connect. Edges that come for it
@@ -175,6 +241,13 @@ impl<S> Sockets<S> {
             place,
             wait: WaitType::Write,
         });
+    }
+
+    /// How many are to be looked at.
+    pub fn turns(&self) -> usize
+        ensures { result ≡ length self.now.turns.ring }
+    {
+        self.turns.len()
     }
 
     /// Takes the first that is to be looked at; `None` exactly where none is.

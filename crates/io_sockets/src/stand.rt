@@ -1,7 +1,8 @@
 ghost use Rattle.std.specs.Prelude.{◌≡◌, ◌==◌, ◌&&◌, not, true};
+ghost use Rattle.std.specs.Option.{is_some};
 ghost use Rattle.io_sockets.specs.declared.stand.Held.TheVariants as held;
 ghost use Rattle.io_sockets.specs.Ready.{wait_of};
-ghost use Rattle.io_sockets.specs.Stands.{closed, edge_at, held_back, is_awaited, is_gone, is_in, is_out, left_back, no_stand, noted, opened, out_for, readiness_of, returned, socket_in, taken, with_readiness};
+ghost use Rattle.io_sockets.specs.Stands.{closed, edge_at, held_back, is_awaited, is_gone, is_in, is_out, left_back, no_stand, noted, opened, out_for, readiness_of, removed, returned, socket_in, taken, with_readiness};
 
 use crate::readiness::{Outcome, Readiness};
 use crate::turn::WaitType;
@@ -104,6 +105,48 @@ impl<S> Stand<S> {
         match &self.held {
             Held::Here(_) => true,
             _ => false,
+        }
+    }
+
+    /// Whether its socket comes later.
+    pub(crate) fn is_awaited(&self) -> bool
+        ensures { result ≡ is_awaited self.now.held }
+    {
+        match &self.held {
+            Held::Here(None) => true,
+            _ => false,
+        }
+    }
+
+    /// Whether a worker has the socket.
+    pub(crate) fn is_out(&self) -> bool
+        ensures { result ≡ is_out self.now.held }
+    {
+        match &self.held {
+            Held::Out { side: _, closed: _ } => true,
+            _ => false,
+        }
+    }
+
+    /// Whether a socket is here.
+    pub(crate) fn has_socket(&self) -> bool
+        ensures { result ≡ is_some (socket_in self.now.held) }
+    {
+        match &self.held {
+            Held::Here(Some(_)) => true,
+            _ => false,
+        }
+    }
+
+    /// Nothing is there any more; a socket that was here comes out.
+    pub(crate) fn remove(&mut self) -> Option<S>
+        ensures socket { result ≡ socket_in self.old.held }
+        ensures removed { self.new ≡ removed self.old }
+    {
+        match self.swap(Held::Gone) {
+            Held::Here(socket) => socket,
+            Held::Gone => None,
+            Held::Out { side: _, closed: _ } => None,
         }
     }
 

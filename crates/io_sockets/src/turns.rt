@@ -69,6 +69,13 @@ impl Turns {
         Ok(Turns { ring, listed })
     }
 
+    /// How many are in the list.
+    pub fn len(&self) -> usize
+        ensures { result ≡ length self.now.ring }
+    {
+        self.ring.len()
+    }
+
     /// It is to be looked at: it comes last, unless it is in the list.
     pub fn list(&mut self, turn: Turn)
         requires { turn.place < length self.old.listed }

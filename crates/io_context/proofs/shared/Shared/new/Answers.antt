@@ -6,5 +6,5 @@ use Rattle.io_context.proofs.shared.Shared.new.Goals as goal
 
 pub invariant_of-result : goal.invariant_of-result
 invariant_of-result g c =
-    nobody_sleeps c.none.result c.args.scheduler (ap (λ (s : Sleepers). s.asleep) c.none.ensures)
+    nobody_sleeps c.none.result c.args.scheduler _ (ap (λ (s : Sleepers). s.asleep) c.none.ensures)
     (ap (λ (s : Sleepers). watches s.watch) c.none.ensures)
