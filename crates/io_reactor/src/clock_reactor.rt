@@ -130,6 +130,8 @@ impl<R: Wait + Clock + Copy> Reactor for ClockReactor<R> {
         if !*woken {
             woken = match timeout {
                 None => self.wakes.wait(&self.rt, woken),
+                // (a wait of no length would give the processor away)
+                Some(0) => woken,
                 Some(left) => {
                     let left = Duration::from_nanos(left);
                     self.wakes.wait_timeout(&self.rt, woken, left).0

@@ -15,6 +15,7 @@ pub(crate) fn chain<
     W: Reactor + Sync,
 >(rt: &R, alloc: Global, case: Case<'a, C, W>, length: u64)
 where
+    W::Socket: Send,
     W::Poll: Send,
 {
     let mut case = case;

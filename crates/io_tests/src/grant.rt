@@ -16,6 +16,7 @@ pub(crate) fn grant<
     W: Reactor + Sync,
 >(rt: &R, alloc: Global, case: Case<'a, C, W>)
 where
+    W::Socket: Send,
     W::Poll: Send,
 {
     let Case {

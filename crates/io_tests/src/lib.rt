@@ -17,4 +17,6 @@ mod order;
 #[cfg(test)]
 mod running;
 #[cfg(test)]
+mod serving;
+#[cfg(test)]
 mod timing;

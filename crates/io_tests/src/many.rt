@@ -57,6 +57,7 @@ pub(crate) fn initiate_and_run<
     W: Reactor + Sync,
 >(rt: &R, alloc: Global, case: Case<'a, C, W>)
 where
+    W::Socket: Send,
     W::Poll: Send,
 {
     let lanes = [
@@ -113,6 +114,7 @@ pub(crate) fn stop_and_finish<
     W: Reactor + Sync,
 >(rt: &R, alloc: Global, case: Case<'a, C, W>)
 where
+    W::Socket: Send,
     W::Poll: Send,
 {
     let mut case = case;

@@ -14,6 +14,7 @@ pub(crate) fn meet<'a, R: Abort + Threads + Wait + Sync, C: Named + Send + Sync,
     case: Case<'a, C, W>,
 )
 where
+    W::Socket: Send,
     W::Poll: Send,
 {
     let mut case = case;

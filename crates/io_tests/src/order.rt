@@ -15,6 +15,7 @@ pub(crate) fn dispatch<
     W: Reactor + Sync,
 >(rt: &R, alloc: Global, case: Case<'a, C, W>)
 where
+    W::Socket: Send,
     W::Poll: Send,
 {
     let mut case = case;

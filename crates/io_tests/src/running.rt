@@ -81,6 +81,7 @@ impl<C: Named> Part<C> {
     )
     where
         C: Send + Sync,
+        W::Socket: Send,
         W::Poll: Send,
         requires { threads ≤ 64 }
     {
@@ -128,6 +129,7 @@ impl<'a, C: Named, W: Reactor> Case<'a, C, W> {
     where
         C: Send + Sync,
         W: Sync,
+        W::Socket: Send,
         W::Poll: Send,
         requires { threads ≤ 64 }
     {

@@ -58,6 +58,7 @@ pub(crate) fn expire<
     W: Reactor + Sync,
 >(rt: &R, alloc: Global, case: Case<'a, C, W>)
 where
+    W::Socket: Send,
     W::Poll: Send,
 {
     let mut case = case;
@@ -79,6 +80,7 @@ pub(crate) fn cancel<
     W: Reactor + Sync,
 >(rt: &R, alloc: Global, case: Case<'a, C, W>)
 where
+    W::Socket: Send,
     W::Poll: Send,
 {
     let mut case = case;
@@ -106,6 +108,7 @@ pub(crate) fn wait_earlier<
     W: Reactor + Sync,
 >(rt: &R, alloc: Global, case: Case<'a, C, W>)
 where
+    W::Socket: Send,
     W::Poll: Send,
 {
     let Case {
@@ -139,6 +142,7 @@ pub(crate) fn watch<
     W: Reactor + Sync,
 >(rt: &R, alloc: Global, case: Case<'a, C, W>)
 where
+    W::Socket: Send,
     W::Poll: Send,
 {
     let mut case = case;
@@ -158,6 +162,7 @@ pub(crate) fn make_own<
     W: Reactor + Sync,
 >(rt: &R, alloc: Global, case: Case<'a, C, W>)
 where
+    W::Socket: Send,
     W::Poll: Send,
 {
     let mut case = case;

@@ -1,0 +1,9 @@
+use Rattle.echo_handlers.proofs.echo.take_turn.Goals as goal
+
+pub returns-clause-accepts : goal.returns-clause-accepts
+returns-clause-accepts c = record {
+  behind = c.accept.new.io;
+  next = c.accept.ensures.next;
+  none = c.accept.ensures.none;
+  begins = c.begin_if.ensures.begins;
+}

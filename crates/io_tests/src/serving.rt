@@ -1,0 +1,251 @@
+//! An echo server over a reactor in memory.
+
+use crate::running::MEMORY;
+use asio_types::{Failed, NoMemory};
+use echo_handlers::Echo;
+use io_context::{Context, Lane, Limits, Named, NewContext};
+use io_reactor_memory::{
+    MemoryPoll, MemoryReactor, PeerScript, PollTurn, ReadEnd, Script, Visit, WriteEnd,
+};
+use std::alloc::Global;
+use std::marker::Brand;
+use std::net::{Ipv4Addr, SocketAddr};
+use std::process::Abort;
+use std::sync::Wait;
+use std::time::Duration;
+
+/// So often the server looks at what has come.
+const LOOKS: usize = 24;
+
+/// A listener and one connection at a time.
+const LIMITS: Limits = Limits {
+    operations: 8,
+    strands: 0,
+    timers: 2,
+    slots: 0,
+    streams: 2,
+    grant: 2,
+    staged: 8,
+    held: 0,
+};
+
+/// For so many seconds a client may send nothing.
+const IDLE: u64 = 60;
+
+/// What a client does, and what it has got back then.
+#[derive(Clone, Copy)]
+struct Client {
+    sends: &'static [&'static [u8]],
+    sends_end: ReadEnd,
+    takes: &'static [usize],
+    takes_end: WriteEnd,
+    back: &'static [u8],
+}
+
+fn playing(
+    sends: &'static [&'static [u8]],
+    sends_end: ReadEnd,
+    takes: &'static [usize],
+    takes_end: WriteEnd,
+    back: &'static [u8],
+) -> Client {
+    Client {
+        sends,
+        sends_end,
+        takes,
+        takes_end,
+        back,
+    }
+}
+
+fn clients() -> [Client; 10] {
+    [
+        // in one piece, cut in two, and cut by a pause
+        playing(&[b"hello"], ReadEnd::Eof, &[9], WriteEnd::Full, b"hello"),
+        playing(
+            &[b"hel", b"lo"],
+            ReadEnd::Eof,
+            &[9],
+            WriteEnd::Full,
+            b"hello",
+        ),
+        playing(
+            &[b"hel", b"", b"lo"],
+            ReadEnd::Eof,
+            &[9],
+            WriteEnd::Full,
+            b"hello",
+        ),
+        // back in pieces, and by a pause
+        playing(
+            &[b"hello"],
+            ReadEnd::Eof,
+            &[1, 3, 9],
+            WriteEnd::Full,
+            b"hello",
+        ),
+        playing(
+            &[b"hello"],
+            ReadEnd::Eof,
+            &[2, 0, 9],
+            WriteEnd::Full,
+            b"hello",
+        ),
+        // it is reset, or takes no more
+        playing(&[b"hel"], ReadEnd::Reset, &[9], WriteEnd::Full, b"hel"),
+        playing(&[b"hello"], ReadEnd::Open, &[2], WriteEnd::Broken, b"he"),
+        playing(&[b"hello"], ReadEnd::Open, &[2], WriteEnd::Reset, b"he"),
+        // it is silent, or never reads
+        playing(&[], ReadEnd::Open, &[9], WriteEnd::Full, b""),
+        playing(&[b"hello"], ReadEnd::Open, &[], WriteEnd::Full, b""),
+    ]
+}
+
+fn bytes_of<T: Copy>(alloc: Global, items: &[T]) -> Result<Vec<T>, NoMemory> {
+    let mut all = Vec::new(alloc);
+    all.extend_from_slice(items)?;
+    Ok(all)
+}
+
+fn peer_of(alloc: Global, client: &Client) -> Result<PeerScript, NoMemory> {
+    let mut sends = Vec::new(alloc);
+    for piece in client.sends {
+        sends.push(bytes_of(alloc, piece)?)?;
+    }
+    let takes = bytes_of(alloc, client.takes)?;
+    Ok(PeerScript::of(sends, client.sends_end, takes, client.takes_end))
+}
+
+/// A listener with these visits.
+fn script_of(alloc: Global, visits: Vec<Visit>) -> Result<Script, NoMemory> {
+    let mut listeners = Vec::new(alloc);
+    listeners.push(Some(visits))?;
+    Ok(Script {
+        listeners,
+        connects: Vec::new(alloc),
+        clock: Vec::new(alloc),
+        polls: Vec::new(alloc),
+    })
+}
+
+/// Serves, and answers whether a wait has failed.
+fn serve_as<'s, R: Abort + Wait, C: Named>(
+    rt: &R,
+    alloc: Global,
+    new: NewContext,
+    reactor: MemoryReactor<'s>,
+    poll: MemoryPoll<'s>,
+) -> Result<bool, Failed>
+    requires table { new.table ≡ C.table }
+    requires limits { new.limits ≡ C.limits }
+    requires name { new.name ≡ C.name }
+    requires parts { new.parts ≡ C.parts }
+{
+    let made = Context::<Echo, C, MemoryReactor<'s>>::make(alloc, new, reactor, poll);
+    let (context, mut share) = made.expect(rt, MEMORY);
+    let mut worker = context.worker(alloc, &mut share).expect(rt, MEMORY);
+    let listened = context.listen(rt, SocketAddr::from((Ipv4Addr::LOCALHOST, 1)));
+    if let Ok(listening) = &listened {
+        let listener = listening.listener;
+        let first = Echo::Accepted {
+            alloc,
+            listener,
+            idle: Duration::from_secs(IDLE),
+        };
+        let _accepted = context.accept(rt, Lane::Own, listener, first);
+    }
+    for _ in 0..LOOKS {
+        context.poll(rt, &mut worker);
+    }
+    let failed = context.has_failed();
+    worker.destroy(&mut share);
+    let _history = context.finish(rt, share);
+    listened.map(|_| failed)
+}
+
+/// Likewise of this script.
+fn serve<R: Abort + Wait>(rt: &R, alloc: Global, script: &Script) -> Result<bool, Failed> {
+    let (reactor, poll) = MemoryReactor::make(alloc, script, LIMITS.streams).expect(rt, MEMORY);
+    let new = NewContext::with_limits(alloc, LIMITS).expect(rt, MEMORY);
+    serve_as::<R, Brand>(rt, alloc, new, reactor, poll)
+}
+
+/// What the client of a visit got back.
+fn took(visit: &Visit) -> Option<&[u8]> {
+    match visit {
+        Visit::Comes(peer) => peer.took(),
+        _ => None,
+    }
+}
+
+#[test]
+fn what_comes_from_a_client_goes_back(rt: HostRuntime) -> Result<(), NoMemory> {
+    let alloc = rt.alloc();
+    for client in &clients() {
+        let mut visits = Vec::new(alloc);
+        visits.push(Visit::Comes(peer_of(alloc, client)?))?;
+        let script = script_of(alloc, visits)?;
+        assert_eq!(rt; serve(&rt, alloc, &script), Ok(false));
+        let visits = script.listeners[0].as_ref();
+        assert_eq!(rt; visits.and_then(|all| took(&all[0])), Some(client.back));
+    }
+    Ok(())
+}
+
+#[test]
+fn an_accept_that_fails_or_has_no_place_lets_others_be_served(
+    rt: HostRuntime,
+) -> Result<(), NoMemory> {
+    let alloc = rt.alloc();
+    let clients = clients();
+    let mut visits = Vec::new(alloc);
+    visits.push(Visit::Fails)?;
+    visits.push(Visit::Comes(peer_of(alloc, &clients[0])?))?;
+    visits.push(Visit::Later)?;
+    visits.push(Visit::Comes(peer_of(alloc, &clients[3])?))?;
+    let script = script_of(alloc, visits)?;
+    assert_eq!(rt; serve(&rt, alloc, &script), Ok(false));
+    let visits = script.listeners[0].as_ref();
+    for served in [1, 3] {
+        assert_eq!(rt;
+            visits.and_then(|all| took(&all[served])),
+            Some(b"hello".as_slice())
+        );
+    }
+    Ok(())
+}
+
+#[test]
+fn a_client_that_is_silent_makes_room_for_the_next(rt: HostRuntime) -> Result<(), NoMemory> {
+    let alloc = rt.alloc();
+    let clients = clients();
+    let mut visits = Vec::new(alloc);
+    visits.push(Visit::Comes(peer_of(alloc, &clients[8])?))?;
+    visits.push(Visit::Comes(peer_of(alloc, &clients[0])?))?;
+    let mut script = script_of(alloc, visits)?;
+    // (it is looked at every 20 seconds)
+    for at in 0..100u64 {
+        script.clock.push(at * 20_000_000_000)?;
+    }
+    assert_eq!(rt; serve(&rt, alloc, &script), Ok(false));
+    let visits = script.listeners[0].as_ref();
+    assert_eq!(rt; visits.and_then(|all| took(&all[0])), Some(b"".as_slice()));
+    assert_eq!(rt;
+        visits.and_then(|all| took(&all[1])),
+        Some(b"hello".as_slice())
+    );
+    Ok(())
+}
+
+#[test]
+fn a_listener_that_fails_is_told_and_a_wait_that_fails_stops(
+    rt: HostRuntime,
+) -> Result<(), NoMemory> {
+    let alloc = rt.alloc();
+    let mut script = script_of(alloc, Vec::new(alloc))?;
+    script.polls.push(PollTurn::Fails)?;
+    assert_eq!(rt; serve(&rt, alloc, &script), Ok(true));
+    script.listeners[0] = None;
+    assert_eq!(rt; serve(&rt, alloc, &script), Err(Failed));
+    Ok(())
+}
