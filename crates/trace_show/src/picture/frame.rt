@@ -16,12 +16,21 @@ const ROWS: &str = " of a session, a column each; its acts: @, its strands: @. R
     top to bottom: open, each strand, handlers without a strand, the reactor. \
     Bars are executions, from begin to end. ";
 
+/// What is said where handlers share a row.
+const CROWDED: &str = "More than 16 handlers without a strand run at once: some share a row. ";
+
 /// What lies under all.
 const GROUND: &str = "<rect class=\"other\" width=\"@\" height=\"@\"/>\n";
 
-/// How things look; nothing is told by colour alone.
+/// How far the names of the rows are apart where the picture is wide.
+const NAMES_APART: u64 = 1_600;
+
+/// The room for a name.
+const NAME_WIDTH: u64 = 130;
+
+/// How things look, on light pages and on dark ones; nothing is told by colour alone.
 const STYLE: &str = "<style>text{font:11px sans-serif;fill:#222}\
-    .name{font-weight:bold}.scale,.time{font-size:10px;fill:#444}\
+    .name{font-weight:bold}.scale,.time,.again{font-size:10px;fill:#444}\
     .row{fill:#f4f5f7}.other{fill:#fff}.grid{stroke:#d8dade}\
     .bar{fill:#bcd4f0;stroke:#23527c}.error{fill:#f6d9b0;stroke:#7a4a00}\
     .op{fill:#111}.dropped,.cancelled{fill:none;stroke:#a11;stroke-width:2}\
@@ -29,7 +38,13 @@ const STYLE: &str = "<style>text{font:11px sans-serif;fill:#222}\
     .call{stroke:#222;stroke-width:2}.take{fill:#fff;stroke:#222}.done{fill:#2c7a3f}\
     .failed{fill:#c77700}.tick{fill:none;stroke:#555}\
     .stop{fill:#a11}.round{stroke:#222;stroke-dasharray:2 3}\
-    .broken{fill:none;stroke:#a11;stroke-width:3}</style>\n";
+    .broken{fill:none;stroke:#a11;stroke-width:3}\
+    @media(prefers-color-scheme:dark){text{fill:#ddd}.scale,.time,.again{fill:#aaa}\
+    .row{fill:#23262b}.other{fill:#17191c}.grid{stroke:#3a3f46}\
+    .bar{fill:#24405f;stroke:#8db8e8}.error{fill:#5a3f12;stroke:#e0a850}.op{fill:#eee}\
+    .dropped,.cancelled,.broken{stroke:#f47}.join{stroke:#9aa5b1}.call,.round{stroke:#ddd}\
+    .take{fill:#17191c;stroke:#ddd}.done{fill:#5fc07a}.failed{fill:#f0a040}.tick{stroke:#aaa}\
+    .stop{fill:#f47}}</style>\n";
 
 /// What each shape means, from two heights.
 const LEGEND: &str = "<g transform=\"translate(16 @)\">\
@@ -66,7 +81,8 @@ pub(super) fn draw_frame(
     drawn.fill(GROUND, &[width, height])?;
     draw_heading(drawn, layout, verdict)?;
     draw_rows(drawn, layout)?;
-    draw_scale(drawn, layout)
+    draw_scale(drawn, layout)?;
+    draw_names_again(drawn, layout)
 }
 
 /// How many events are drawn.
@@ -109,6 +125,7 @@ fn describe(
     drawn.words("<desc id=\"desc\">")?;
     name_events(drawn, layout)?;
     drawn.fill(ROWS, &[script.acts() as u64, layout.strands() as u64])?;
+    drawn.words(if layout.is_crowded() { CROWDED } else { "" })?;
     match verdict {
         Verdict::Legal => drawn.words("The history is legal."),
         Verdict::Illegal(number) => drawn.fill(
@@ -120,46 +137,57 @@ fn describe(
     drawn.words("</desc>\n")
 }
 
+/// The rows with their names at the left; every other one is shaded.
 fn draw_rows(drawn: &mut Detail, layout: &PictureLayout) -> Result<(), NoMemory> {
-    draw_row(drawn, layout, 0, "open", None)?;
-    for strand in 0..layout.strands() {
-        draw_row(
-            drawn,
-            layout,
-            strand.saturating_add(1),
-            "strand ",
-            Some(strand),
+    for row in 0..layout.reactor_row().saturating_add(1) {
+        draw_shade(drawn, layout, row)?;
+        drawn.fill(
+            "<text class=\"name\" x=\"16\" y=\"@\">",
+            &[layout.middle(row).saturating_add(4)],
         )?;
+        name_row(drawn, layout, row)?;
+        drawn.words("</text>\n")?;
     }
-    for row in layout.own_row()..layout.reactor_row() {
-        let name = if row == layout.own_row() {
-            "without a strand"
-        } else {
-            ""
-        };
-        draw_row(drawn, layout, row, name, None)?;
-    }
-    draw_row(drawn, layout, layout.reactor_row(), "reactor", None)
+    Ok(())
 }
 
-/// A row with its name at the left; every other one is shaded.
-fn draw_row(
-    drawn: &mut Detail,
-    layout: &PictureLayout,
-    row: u32,
-    name: &str,
-    number: Option<u32>,
-) -> Result<(), NoMemory> {
-    draw_shade(drawn, layout, row)?;
-    drawn.fill(
-        "<text class=\"name\" x=\"16\" y=\"@\">",
-        &[layout.middle(row).saturating_add(4)],
-    )?;
-    match number {
-        Some(number) => drawn.field(name, number as u64)?,
-        None => drawn.words(name)?,
+/// The name of a row; of the rows of handlers without a strand, the first has one, and the last if
+/// handlers share it.
+fn name_row(drawn: &mut Detail, layout: &PictureLayout, row: u32) -> Result<(), NoMemory> {
+    if row == 0 {
+        drawn.words("open")
+    } else if row < layout.own_row() {
+        drawn.field("strand ", row.saturating_sub(1) as u64)
+    } else if row == layout.own_row() {
+        drawn.words("without a strand")
+    } else if row == layout.reactor_row() {
+        drawn.words("reactor")
+    } else if layout.is_shared(row) {
+        drawn.words("and all others")
+    } else {
+        Ok(())
     }
-    drawn.words("</text>\n")
+}
+
+/// The names of the rows once more, small, over the executions.
+fn draw_names_at(drawn: &mut Detail, layout: &PictureLayout, x: u64) -> Result<(), NoMemory> {
+    for row in 0..layout.reactor_row().saturating_add(1) {
+        let y = layout.y(row).saturating_add(9);
+        drawn.fill("<text class=\"again\" x=\"@\" y=\"@\">", &[x, y])?;
+        name_row(drawn, layout, row)?;
+        drawn.words("</text>\n")?;
+    }
+    Ok(())
+}
+
+/// The names of the rows again and again, where the picture is wide.
+fn draw_names_again(drawn: &mut Detail, layout: &PictureLayout) -> Result<(), NoMemory> {
+    let mut x = NAMES_APART;
+    for _ in 0..layout.right().saturating_sub(NAME_WIDTH) / NAMES_APART {
+        draw_names_at(drawn, layout, x)?;
+        x = x.saturating_add(NAMES_APART);
+    }
+    Ok(())
 }
 
 /// The ground of a row.

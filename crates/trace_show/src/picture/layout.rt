@@ -69,6 +69,8 @@ pub(super) struct PictureLayout {
     tracks: u32,
     /// Which of these rows have a running handler, while the events are gone through.
     busy: Vec<bool>,
+    /// Whether handlers share the last of these rows.
+    crowded: bool,
     /// How many executions one stands inside of at most.
     deepest: u32,
     /// How many lines are drawn.
@@ -91,6 +93,7 @@ impl PictureLayout {
             strands: script.strands() as u32,
             tracks: 1,
             busy,
+            crowded: false,
             deepest: 0,
             lines: 0,
             step: 0,
@@ -190,7 +193,8 @@ impl PictureLayout {
         self.strands.saturating_add(1).saturating_add(track)
     }
 
-    /// The first row in which nothing runs, and from now on something does.
+    /// The first row in which nothing runs, and from now on something does; the last one if there is
+    /// none.
     fn free_track(&mut self) -> u32 {
         let mut track = 0u32;
         for busy in self.busy.as_mut_slice() {
@@ -200,6 +204,7 @@ impl PictureLayout {
             }
             track = track.saturating_add(1);
         }
+        self.crowded = true;
         track.saturating_sub(1)
     }
 
@@ -250,6 +255,16 @@ impl PictureLayout {
     /// The row of the reactor, which is the last one.
     pub(super) fn reactor_row(&self) -> u32 {
         self.strands.saturating_add(1).saturating_add(self.tracks)
+    }
+
+    /// Whether more handlers without a strand run at once than there are rows for them.
+    pub(super) fn is_crowded(&self) -> bool {
+        self.crowded
+    }
+
+    /// Whether these handlers share a row.
+    pub(super) fn is_shared(&self, row: u32) -> bool {
+        self.crowded && row.saturating_add(1) == self.reactor_row()
     }
 
     /// The row of the first handler without a strand.
