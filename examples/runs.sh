@@ -81,7 +81,7 @@ while IFS='|' read -r lines status wanted; do
   overlaps=$((overlaps + 1))
 done << 'END'
 0 call 0 post 0 4 - / 0 call 1 post 0 4 - / 1 begin 0 ok 0 / 1 claim 1 / 1 release 1 / 1 end 0 / 2 begin 1 ok 0 / 2 claim 1|0|never: thing 1: 2 claims, on strand 4
-0 call 0 post 0 4 - / 0 call 1 post 0 5 - / 1 begin 0 ok 0 / 1 claim 1 / 1 release 1 / 1 end 0 / 2 begin 1 ok 0 / 2 claim 1|9|unknown: thing 1: 2 claims
+0 call 0 post 0 4 - / 0 call 1 post 0 5 - / 1 begin 0 ok 0 / 1 claim 1 / 1 release 1 / 1 end 0 / 2 begin 1 ok 0 / 2 claim 1|10|may: thing 1: 2 claims
 0 call 0 post 0 4 - / 0 call 1 post 0 5 - / 1 begin 0 ok 0 / 1 claim 1 / 1 release 1 / 1 end 0 / 1 begin 1 ok 0 / 1 claim 1|0|never: thing 1: 2 claims, on thread 1
 0 call 0 post 0 4 - / 2 work 0 / 1 claim 1 / 1 release 1 / 1 begin 0 ok 0 / 1 claim 1|9|unknown: thing 1: 2 claims
 1 lock 3 / 1 claim 1 / 1 release 1 / 1 unlock 3 / 2 lock 3 / 2 claim 1|0|never: thing 1: 2 claims, under lock 3
@@ -90,6 +90,21 @@ done << 'END'
 END
 [ "$overlaps" = 7 ]
 count $? "$overlaps runs were asked for overlaps"
+
+# An order that overlaps two claims is a run that is illegal at its last line alone.
+"$room/run_judge" order crates/run_judge/data/room.run 1 > "$room/order"
+count $? "no order of room.run overlaps claims of thing 1"
+said=$("$room/run_judge" check "$room/order")
+[[ $said == "illegal at line $(wc -l < "$room/order"): $(tail -n 1 "$room/order")"$'\n'"rule: Untouched"* ]]
+count $? "an order of room.run: $said"
+sed -i '$d' "$room/order"
+said=$("$room/run_judge" check "$room/order")
+[[ $said == 'legal so far'* ]]
+count $? "an order of room.run, without its last line: $said"
+write_run '0 call 0 post 0 4 - / 0 call 1 post 0 4 - / 1 begin 0 ok 0 / 1 claim 1 / 1 release 1 / 1 end 0 / 2 begin 1 ok 0 / 2 claim 1'
+said=$("$room/run_judge" order "$room/run" 1)
+[ "$?$said" = 9 ]
+count $? "an order of a run whose claims are on one strand: $said"
 
 # The picture of docs/RUNS.md, one of a window, and one of what is no run.
 "$room/run_judge" picture crates/run_judge/data/room.run | cmp -s - examples/room.svg

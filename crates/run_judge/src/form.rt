@@ -12,6 +12,8 @@ pub enum Question {
     Picture { window: Window },
     /// What keeps claims apart in each order of it.
     Overlaps,
+    /// An order of it that overlaps two claims of this thing.
+    Order { thing: u64 },
 }
 
 /// A command: what is asked, at which level, of which file. The file `-` is standard input, of which
@@ -36,6 +38,8 @@ pub fn form_of(words: &[String]) -> Option<Form<'_>> {
     };
     if first.as_bytes() == b"picture".as_slice() {
         picture_of(words)
+    } else if first.as_bytes() == b"order".as_slice() {
+        order_of(words)
     } else {
         verdict_of(words)
     }
@@ -99,6 +103,21 @@ fn question_of(word: &str) -> Option<Question> {
     } else {
         None
     }
+}
+
+/// A command for an order.
+fn order_of(words: &[String]) -> Option<Form<'_>> {
+    let [_, file, number] = words else {
+        return None;
+    };
+    let Ok(thing) = number.as_str().parse::<u64>() else {
+        return None;
+    };
+    Some(Form {
+        question: Question::Order { thing },
+        level: PLAIN,
+        file: file.as_str(),
+    })
 }
 
 /// The ends of a window as they are asked for.

@@ -3,11 +3,13 @@
 
 mod form;
 mod listing;
+mod orders;
 mod overlaps;
 mod session;
 mod status;
 
 use crate::form::{Form, Question, form_of};
+use crate::orders::order;
 use crate::overlaps::overlaps;
 use crate::session::{Sources, check, picture, why};
 use crate::status::Status;
@@ -47,6 +49,7 @@ fn answer<S: Source, K: Sink + Drop, N: Sink>(
     match form.question {
         Question::Check => check(rt.alloc(), form, source, &mut out),
         Question::Why | Question::Overlaps => explain(rt, form, &mut out),
+        Question::Order { thing } => order(rt.alloc(), source, thing, &mut out),
         Question::Picture { window } => picture(rt.alloc(), window, source, out, notes),
     }
 }

@@ -8,14 +8,25 @@ use run_names::{Names, NotNamed, read_names};
 use run_orders::Guard;
 use run_overlaps::{Guards, NotFound, claims_of, find_guards};
 use run_reader::{LineReader, ReadFault};
+use run_witness::find_witness;
 use std::alloc::Global;
 
 /// Why a run isn't told of.
 #[derive(Clone, Copy, Debug, PartialEq, Eq)]
-enum Unread {
+pub(crate) enum Unread {
     Bad,
     ReadFault,
     NoMemory,
+}
+
+impl Unread {
+    pub(crate) fn status(self) -> Status {
+        match self {
+            Unread::Bad => Status::Bad,
+            Unread::ReadFault => Status::ReadFault,
+            Unread::NoMemory => Status::NoMemory,
+        }
+    }
 }
 
 /// Keeps the line that stands here, if one does.
@@ -40,7 +51,7 @@ fn advance<S: Source>(reader: &mut LineReader, source: &mut S) -> Result<bool, U
 }
 
 /// The lines of a run.
-fn read_lines<S: Source>(alloc: Global, source: &mut S) -> Result<Vec<Line>, Unread> {
+pub(crate) fn read_lines<S: Source>(alloc: Global, source: &mut S) -> Result<Vec<Line>, Unread> {
     let Ok(mut reader) = LineReader::make(alloc) else {
         return Err(Unread::NoMemory);
     };
@@ -130,8 +141,18 @@ fn write_never<K: Sink>(
 }
 
 /// What is said of a thing for which no guard was found.
-fn write_unknown<K: Sink>(out: &mut K, names: &Names, listing: &Listing) -> Result<(), Failed> {
-    write_item(out, names, "unknown: thing ", Kind::Thing, listing.thing)?;
+fn write_unguarded<K: Sink>(
+    out: &mut K,
+    names: &Names,
+    listing: &Listing,
+    may: bool,
+) -> Result<(), Failed> {
+    let words = if may {
+        "may: thing "
+    } else {
+        "unknown: thing "
+    };
+    write_item(out, names, words, Kind::Thing, listing.thing)?;
     write_count(out, ": ", listing.count, " claims\n")?;
     for group in &listing.groups {
         write_group(out, names, group)?;
@@ -139,34 +160,84 @@ fn write_unknown<K: Sink>(out: &mut K, names: &Names, listing: &Listing) -> Resu
     Ok(())
 }
 
-/// Tells of each thing, those without a guard first; answers how many these are.
-fn write_things<K: Sink>(
+/// How many things are told of by each answer.
+#[derive(Clone, Copy)]
+struct Counts {
+    may: u64,
+    unknown: u64,
+    never: u64,
+}
+
+/// Tells of a thing for which no guard was found; whether an order overlaps its claims.
+fn tell_unguarded<K: Sink>(
+    alloc: Global,
+    lines: &[Line],
+    names: &Names,
+    listing: &Listing,
+    out: &mut K,
+) -> Result<bool, Status> {
+    let Ok(found) = find_witness(alloc, lines, listing.thing) else {
+        return Err(Status::NoMemory);
+    };
+    let may = found.is_some();
+    match write_unguarded(out, names, listing, may) {
+        Ok(()) => Ok(may),
+        Err(_) => Err(Status::WriteFault),
+    }
+}
+
+/// Tells of the things for which no guard was found.
+fn tell_open<K: Sink>(
+    alloc: Global,
+    lines: &[Line],
+    names: &Names,
+    guards: &Guards,
+    all: &[Listing],
+    out: &mut K,
+) -> Result<Counts, Status> {
+    let mut counts = Counts {
+        may: 0,
+        unknown: 0,
+        never: 0,
+    };
+    for listing in all {
+        if guards.of(listing.thing).is_some() {
+            counts.never = counts.never.saturating_add(1);
+        } else if tell_unguarded(alloc, lines, names, listing, out)? {
+            counts.may = counts.may.saturating_add(1);
+        } else {
+            counts.unknown = counts.unknown.saturating_add(1);
+        }
+    }
+    Ok(counts)
+}
+
+/// Tells of the things that a guard keeps apart, and of how many things each answer was given.
+fn write_rest<K: Sink>(
     out: &mut K,
     names: &Names,
     guards: &Guards,
     all: &[Listing],
-) -> Result<u64, Failed> {
-    let mut unknown: u64 = 0;
-    for listing in all {
-        if guards.of(listing.thing).is_none() {
-            unknown = unknown.saturating_add(1);
-            write_unknown(out, names, listing)?;
-        }
-    }
+    counts: Counts,
+) -> Result<(), Failed> {
     for listing in all {
         if let Some(guard) = guards.of(listing.thing) {
             write_never(out, names, listing, guard)?;
         }
     }
-    Ok(unknown)
+    write_count(out, "things: ", counts.may, " may overlap, ")?;
+    write_count(out, "", counts.unknown, " unknown, ")?;
+    write_count(out, "", counts.never, " never\n")
 }
 
-/// Writes the report, and answers the status.
-fn report<K: Sink>(out: &mut K, names: &Names, guards: &Guards, all: &[Listing]) -> Status {
-    match write_things(out, names, guards, all) {
-        Ok(0) => Status::Legal,
-        Ok(_) => Status::Unknown,
-        Err(_) => Status::WriteFault,
+/// The status of a report with these counts.
+fn status_of(counts: Counts) -> Status {
+    if 0 < counts.may {
+        Status::May
+    } else if 0 < counts.unknown {
+        Status::Unknown
+    } else {
+        Status::Legal
     }
 }
 
@@ -181,9 +252,16 @@ fn tell<K: Sink>(
     let Ok(claims) = claims_of(alloc, lines) else {
         return Status::NoMemory;
     };
-    match list_things(alloc, names, &claims) {
-        Ok(things) => report(out, names, guards, &things.all),
-        Err(_) => Status::NoMemory,
+    let Ok(things) = list_things(alloc, names, &claims) else {
+        return Status::NoMemory;
+    };
+    let counts = match tell_open(alloc, lines, names, guards, &things.all, out) {
+        Ok(counts) => counts,
+        Err(status) => return status,
+    };
+    match write_rest(out, names, guards, &things.all, counts) {
+        Ok(()) => status_of(counts),
+        Err(_) => Status::WriteFault,
     }
 }
 
@@ -196,9 +274,7 @@ pub fn overlaps<S: Source, K: Sink>(
 ) -> Status {
     let lines = match read_lines(alloc, &mut sources.first) {
         Ok(lines) => lines,
-        Err(Unread::Bad) => return Status::Bad,
-        Err(Unread::ReadFault) => return Status::ReadFault,
-        Err(Unread::NoMemory) => return Status::NoMemory,
+        Err(unread) => return unread.status(),
     };
     let names = match read_names(alloc, &mut sources.second) {
         Ok(names) => names,

@@ -19,6 +19,8 @@ pub enum Status {
     NotLegal,
     /// Of some claims of the run it isn't known that they never overlap.
     Unknown,
+    /// Some claims of the run overlap in another order of it.
+    May,
 }
 
 impl Status {
@@ -46,15 +48,16 @@ impl Status {
             Status::Bad => 7,
             Status::NotLegal => 8,
             Status::Unknown => 9,
+            Status::May => 10,
         }
     }
 
     /// The line that is written to standard error: none with a verdict.
     pub fn note(self) -> &'static [u8] {
         match self {
-            Status::Legal | Status::Bad | Status::NotLegal | Status::Unknown => b"",
+            Status::Legal | Status::Bad | Status::NotLegal | Status::Unknown | Status::May => b"",
             Status::Usage => b"run_judge: usage: run_judge check|why [--streams] [--strict] FILE, \
-                run_judge overlaps FILE, or run_judge picture FILE [--from LINE] [--to LINE]\n",
+                run_judge overlaps FILE, run_judge order FILE THING, or run_judge picture FILE [--from LINE] [--to LINE]\n",
             Status::ReadFault => b"run_judge: read fault\n",
             Status::WriteFault => b"run_judge: write fault\n",
             Status::NoMemory => b"run_judge: no memory\n",

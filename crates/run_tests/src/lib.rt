@@ -1,5 +1,7 @@
-//! Tests of verdicts on runs, by public calls. Nothing stands on it.
+//! Tests of verdicts on runs and of other orders, by public calls. Nothing stands on it.
 #![tactic(auto)]
 
+#[cfg(test)]
+mod orders;
 #[cfg(test)]
 mod verdicts;

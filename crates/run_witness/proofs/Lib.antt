@@ -1,0 +1,4 @@
+pub mod PlacingLemmas
+pub mod FactsLemmas
+pub mod CausesLemmas
+pub mod JudgingLemmas

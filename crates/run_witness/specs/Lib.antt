@@ -1,0 +1,6 @@
+pub mod Facts
+pub mod Placing
+pub mod Reached
+pub mod Causes
+pub mod Witness
+pub mod Judging

@@ -1,0 +1,273 @@
+ghost use Rattle.std.specs.Prelude.{◌≡◌, ◌<◌, ◌∷◌, [], ℕ, List, Option, Some, None, IfOk, IfSome, IsTrue, reverse};
+ghost use Rattle.run_check.specs.After.{IsAfter, loose};
+ghost use Rattle.run_lines.specs.declared.line.Line.{Line};
+ghost use Rattle.run_orders.specs.declared.order.Step.{Step};
+ghost use Rattle.run_orders.specs.Holding.{HoldsBoth, IsHeld};
+ghost use Rattle.run_orders.specs.Orders.{plain};
+ghost use Rattle.run_rules.specs.Legal.{IsLegalSoFar};
+ghost use Rattle.run_rules.specs.MayCome.{MayCome, MayDo};
+ghost use Rattle.run_witness.specs.Facts.{AreFacts, fact_at};
+ghost use Rattle.run_witness.specs.Placing.{EachIsPutWell, IsPlacing, IsPutWell, position_of, thread_of};
+ghost use Rattle.run_witness.specs.Judging.{IsClaimAt, IsFirstIn, IsPutWhole, IsReplay, Keeps};
+ghost use Rattle.run_witness.specs.Witness.{AreBehind, IsWitness};
+
+use crate::causes::are_behind;
+use crate::facts::{Fact, Facts, facts_of};
+use crate::fault::Fault;
+use crate::placing::Placing;
+use run_check::Checker;
+use run_lines::{Doing, Line};
+use run_orders::Step;
+use run_rules::Frame;
+use std::alloc::Global;
+
+/// Whether what a line begins is the first of its strand.
+fn is_first(checker: &Checker, does: &Doing) -> bool
+    ensures { (past : List Line) (thread : ℕ) → IsAfter past checker.now → MayDo loose past thread does.now → IsTrue result →
+        IsFirstIn past does.now }
+{
+    match *does {
+        Doing::Begin { op, .. } => checker.is_first(op),
+        _ => true,
+    }
+}
+
+/// Whether a line of an order may come.
+fn may_come(checker: &Checker, line: &Line) -> bool
+    ensures { (past : List Line) → IsAfter past checker.now → IsTrue result →
+        MayDo loose past line.now.thread line.now.does × IsFirstIn past line.now.does }
+{
+    match checker.may_come(line) {
+        Ok(()) => is_first(checker, &line.does),
+        Err(_) => false,
+    }
+}
+
+/// Follows a line of an order, if it may come.
+#[tactic(auto, using(crate::proofs::JudgingLemmas::came))]
+fn follow(checker: &mut Checker, line: &Line) -> Result<bool, Fault>
+    ensures { IfOk result (λ good. (past : List Line) → IsAfter past checker.old → IsTrue good →
+        IsAfter (line.now ∷ past) checker.new × MayCome plain past line.now) }
+{
+    if may_come(checker, line) {
+        checker.follow(line)?;
+        Ok(true)
+    } else {
+        Ok(false)
+    }
+}
+
+/// An order of a run, as far as its lines were put and followed.
+#[derive(Drop)]
+pub(crate) struct Replay {
+    placing: Placing,
+    checker: Checker,
+}
+
+impl Replay {
+    pub(crate) fn new(alloc: Global) -> Self
+        ensures { (run : List Line) → IsReplay run [] result }
+    {
+        Replay {
+            placing: Placing::new(alloc),
+            checker: Checker::new(alloc),
+        }
+    }
+
+    /// Whether a line may come next, as far as the rules of runs have a say.
+    pub(crate) fn may_put(&self, step: &Step) -> bool {
+        may_come(&self.checker, &step.line)
+    }
+
+    /// Where a line of the run stands.
+    pub(crate) fn position(&self, place: u64) -> Option<u64> {
+        self.placing.position(place)
+    }
+
+    /// On which thread a tree is.
+    pub(crate) fn thread(&self, tree: Frame) -> Option<u64> {
+        self.placing.thread(tree)
+    }
+
+    /// The number of an operation of the run.
+    pub(crate) fn number(&self, op: u64) -> Option<u64> {
+        self.placing.number(op)
+    }
+
+    /// Puts a line of the run behind these, if it may stand there and come.
+    pub(crate) fn put(&mut self, facts: &Facts, step: &Step) -> Result<bool, Fault>
+        ensures { IfOk result (λ good. (thing : ℕ) (run : List Line) (before : List Step) → AreFacts thing run facts.now →
+            IsReplay run before self.old → IsTrue good → IsReplay run (step.now ∷ before) self.new) }
+    {
+        let who = self.checker.frame(step.line.thread);
+        if self.placing.put(facts, step, who)? {
+            follow(&mut self.checker, &step.line)
+        } else {
+            Ok(false)
+        }
+    }
+
+    /// Puts all these lines.
+    fn put_all(&mut self, facts: &Facts, steps: &[Step]) -> Result<bool, Fault>
+        ensures { IfOk result (λ good. (thing : ℕ) (run : List Line) → AreFacts thing run facts.now →
+            IsReplay run [] self.old → IsTrue good → IsReplay run (reverse steps.now) self.new) }
+    {
+        for step in steps {
+            if !self.put(facts, step)? {
+                return Ok(false);
+            }
+        }
+        Ok(true)
+    }
+
+    /// Puts the last line of an order, of which only its own rules aren't asked.
+    fn put_last(&mut self, facts: &Facts, last: &Step) -> Result<bool, Fault>
+        ensures { IfOk result (λ good. (thing : ℕ) (run : List Line) (before : List Step) → AreFacts thing run facts.now →
+            IsReplay run before self.old → IsTrue good →
+            IsPlacing run (last.now ∷ before) self.new.placing × IsPutWell run before last.now) }
+    {
+        let who = self.checker.frame(last.line.thread);
+        self.placing.put(facts, last, who)
+    }
+
+    /// Puts all lines of an order.
+    fn put_order(&mut self, facts: &Facts, steps: &[Step], last: &Step) -> Result<bool, Fault>
+        ensures { IfOk result (λ good. (thing : ℕ) (run : List Line) → AreFacts thing run facts.now →
+            IsReplay run [] self.old → IsTrue good → IsPutWhole run (reverse steps.now) last.now self.new.placing) }
+    {
+        if self.put_all(facts, steps)? {
+            self.put_last(facts, last)
+        } else {
+            Ok(false)
+        }
+    }
+}
+
+/// The line of the run by which a thing is claimed.
+fn claim_at(facts: &Facts, place: u64, thing: u64) -> Option<Fact>
+    ensures { IfSome result (λ claim. IsClaimAt facts.now place thing claim) }
+{
+    let fact = facts.at(place)?;
+    match fact.line.does {
+        Doing::Claim { thing: other } => { if other == thing { Some(fact) } else { None } }
+        _ => None,
+    }
+}
+
+/// Whether a line that stands doesn't give back what this one claims.
+fn keeps(facts: &Facts, placing: &Placing, place: u64, claim: &Fact, at: u64) -> bool
+    ensures { IsTrue result → Keeps facts.now placing.now place claim.now at }
+{
+    match facts.at(at) {
+        Some(fact) => {
+            at <= place || fact.writer != claim.writer || fact.has || placing.position(at).is_none()
+        }
+        None => false,
+    }
+}
+
+/// Whether no line stands by which a claim is given back.
+#[tactic(auto, using(crate::proofs::JudgingLemmas::kept_more))]
+fn is_kept(facts: &Facts, placing: &Placing, place: u64, claim: &Fact) -> bool
+    ensures { IsTrue result → (at : ℕ) → at < facts.now.lines → Keeps facts.now placing.now place claim.now at }
+{
+    for at in 0..facts.lines {
+        if !keeps(facts, placing, place, claim, at) {
+            return false;
+        }
+    }
+    true
+}
+
+/// The thread that holds a thing by this claim, which stands, at the end of an order.
+fn keeper(facts: &Facts, placing: &Placing, place: u64, claim: &Fact) -> Option<u64>
+    ensures { IfSome result (λ thread. (thread_of placing.now claim.now.tree ≡ Some thread)
+        × ((at : ℕ) → at < facts.now.lines → Keeps facts.now placing.now place claim.now at)) }
+{
+    if is_kept(facts, placing, place, claim) {
+        placing.thread(claim.tree)
+    } else {
+        None
+    }
+}
+
+/// The thread that holds a thing by the claim at this place at the end of an order.
+fn holder(facts: &Facts, placing: &Placing, place: u64, thing: u64) -> Option<u64>
+    ensures { IfSome result (λ held. (run : List Line) (steps : List Step) → AreFacts thing run facts.now →
+        IsPlacing run steps placing.now → IsHeld run steps place held thing) }
+{
+    match (claim_at(facts, place, thing), placing.position(place)) {
+        (Some(claim), Some(_)) => keeper(facts, placing, place, &claim),
+        _ => None,
+    }
+}
+
+/// Whether two threads hold a thing by these claims at the end of an order.
+fn hold_both(facts: &Facts, placing: &Placing, thing: u64, one: u64, other: u64) -> bool
+    ensures { IsTrue result → (run : List Line) (steps : List Step) → AreFacts thing run facts.now →
+        IsPlacing run steps placing.now → HoldsBoth run steps thing one other }
+{
+    match (
+        holder(facts, placing, one, thing),
+        holder(facts, placing, other, thing),
+    ) {
+        (Some(first), Some(second)) => first != second,
+        _ => false,
+    }
+}
+
+/// Whether each line that was put stands behind its causes, and two threads hold a thing at the end.
+fn is_shown(
+    alloc: Global,
+    facts: &Facts,
+    placing: &Placing,
+    thing: u64,
+    one: u64,
+    other: u64,
+) -> Result<bool, Fault>
+    ensures { IfOk result (λ good. (run : List Line) (steps : List Step) → AreFacts thing run facts.now →
+        IsPlacing run steps placing.now → IsTrue good →
+        AreBehind run (position_of placing.now) × HoldsBoth run steps thing one other) }
+{
+    if are_behind(alloc, facts, placing)? {
+        Ok(hold_both(facts, placing, thing, one, other))
+    } else {
+        Ok(false)
+    }
+}
+
+/// The same, of a run of which this is known.
+pub(crate) fn judge_by(
+    alloc: Global,
+    facts: &Facts,
+    steps: &[Step],
+    last: &Step,
+    thing: u64,
+    claim: u64,
+) -> Result<bool, Fault>
+    ensures { IfOk result (λ good. (run : List Line) → AreFacts thing run facts.now → IsTrue good →
+        IsWitness run (reverse steps.now) last.now thing claim) }
+{
+    let mut replay = Replay::new(alloc);
+    if replay.put_order(facts, steps, last)? {
+        is_shown(alloc, facts, &replay.placing, thing, claim, last.place)
+    } else {
+        Ok(false)
+    }
+}
+
+/// Whether these lines are an order of a run: `steps`, in their order, and behind them `last`, by
+/// which `thing` is claimed while another thread holds it by the claim at place `claim`.
+pub fn judge(
+    alloc: Global,
+    run: &[Line],
+    steps: &[Step],
+    last: &Step,
+    thing: u64,
+    claim: u64,
+) -> Result<bool, Fault>
+    ensures { IfOk result (λ good. IsTrue good → IsWitness (reverse run.now) (reverse steps.now) last.now thing claim) }
+{
+    let facts = facts_of(alloc, run, thing)?;
+    judge_by(alloc, &facts, steps, last, thing, claim)
+}
