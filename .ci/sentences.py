@@ -9,7 +9,7 @@ import os, re, sys
 
 MOST = 35
 PLAIN = ["README.md", "CONTRIBUTING.md", "examples/README.md", "recorder/README.md"] + [
-    f"docs/{it}.md" for it in "README QUESTIONS LIBRARY TRACE SCRIPT DIFFERENCES LEGALITY REACTOR RUNS SPEED ARCHITECTURE DECISIONS CONVENTIONS BELIEVE".split()
+    f"docs/{it}.md" for it in "README QUESTIONS LIBRARY TRACE SCRIPT DIFFERENCES LEGALITY REACTOR RUNS SERVER SPEED ARCHITECTURE DECISIONS CONVENTIONS BELIEVE".split()
 ]
 # Words that make a reader solve a sentence: name the thing again, put the thing that acts first, or say 'if and only if'.
 SOLVED = re.compile(

@@ -1,16 +1,17 @@
 #!/usr/bin/env bash
-# Runs what the documents show, in a copy of the tree: each command of README.md and of QUESTIONS, LIBRARY, SCRIPT and TRACE in
+# Runs what the documents show, in a copy of the tree: each command of README.md and of QUESTIONS, LIBRARY, SCRIPT, SERVER and TRACE in
 # docs/, by the programs that were built, the first one also by `rt try` as it stands; each script in a block `session`, each
 # script with its trace below it in one block, and each example of a refusal in docs/SCRIPT.md and of a broken rule in
-# docs/RUNS.md. What stands in the block under one has to come out. And each piece of code in docs/LIBRARY.md, and in the
+# docs/RUNS.md. What stands in the block under one has to come out. And each piece of code in LIBRARY and SERVER, and in the
 # comments on what a program calls, has to stand in the file that the line above it names. Ends with 'commands: N passed, M
 # failed'.
 set -u
 cd "$(dirname "$0")/.." || exit 1
-. examples/common.sh commands asio_run asio_check asio_show asio_orders prime_count run_judge
+. examples/common.sh commands asio asio_run asio_check asio_show asio_orders prime_count run_judge tcp_echo
 mkdir "$room/tree" "$room/blocks"
 git ls-files | tar -c -T - | tar -x -C "$room/tree" || exit 1
-export BUILT_IN=$room
+# (documents run `asio` by its name)
+export BUILT_IN=$room PATH=$room:$PATH
 
 # The command rt in what the documents show: `rt run` and `rt try` run the program that was built.
 rt() {
@@ -89,7 +90,7 @@ cut_blocks() {
 }
 
 first=yes
-for document in README.md docs/{QUESTIONS,LIBRARY,SCRIPT,TRACE}.md; do
+for document in README.md docs/{QUESTIONS,LIBRARY,SCRIPT,SERVER,TRACE}.md; do
   rm -f "$room"/blocks/*
   cut_blocks "$document"
   for block in "$room"/blocks/???; do

@@ -63,10 +63,29 @@ for picture in examples/*.svg; do
   count $? "$picture"
 done
 
+# Each shape that a picture may have.
+"$room/asio_show" picture < examples/shapes.input > "$room/drawn" && cmp -s "$room/drawn" examples/shapes.svg && is_picture "$room/drawn"
+count $? "examples/shapes.svg"
+
 # A trace of 25,601 lines, and the same with a line that is illegal behind it.
 awk -f examples/long_check.awk > "$room/long"
 "$room/asio_show" picture < "$room/long" > "$room/drawn" 2> "$room/notes" && is_picture "$room/drawn" && [ ! -s "$room/notes" ]
 count $? "the picture of a long trace"
+grep -q '<text class="again" x="3200" y="[0-9]*">open</text>' "$room/drawn"
+count $? "that a wide picture has the names of its rows again"
+
+# 17 handlers at once, and rows for 16.
+{
+  echo "session 1 open { $(printf 'post - { } %.0s' {0..16})} run 16"
+  echo "--"
+  for act in {0..16}; do printf 'call %d\nback %d\n' "$act" "$act"; done
+  printf 'begin %d ok 0\n' {0..16}
+  for act in {0..16}; do printf 'end %d %d\n' "$act" "$((1000 + act))"; done
+  echo "ended"
+} > "$room/crowd"
+"$room/asio_show" picture < "$room/crowd" > "$room/drawn" && is_picture "$room/drawn" && grep -q '>and all others</text>' "$room/drawn" \
+  && grep -q 'More than 16 handlers without a strand run at once' "$room/drawn"
+count $? "that more handlers at once than rows are said"
 echo "ended" >> "$room/long"
 "$room/asio_show" picture < "$room/long" > "$room/drawn" 2> "$room/notes"
 [ "$?" = 8 ] && is_picture "$room/drawn" && grep -q "illegal at line 25602" "$room/drawn" && [ ! -s "$room/notes" ]
