@@ -199,9 +199,14 @@ alike() {
     run | upgrade) timeout 2 "$asio" "$1" "$room/case.session" ;;
     orders) "$asio" orders "$room/case.session" --most 20 ;;
   esac > "$room/said" 2> "$room/notes"
-  [ "$?" = "$judged" ] && cmp -s "$room/said" "$room/judged" && return
+  [ "$?" = "$judged" ] && { cmp -s "$room/said" "$room/judged" || { [ "$1" = run ] && is_legal said && is_legal judged; } } && return
   # (a file without a line `--` is a script alone, which may be refused)
-  ! grep -qx -- -- "$input"
+  ! { echo; cat "$input"; } | tr '\n' '\1' | grep -q $'\1--\1'
+}
+
+# Whether a trace is one of the script. (With one worker, too, a script may have several: its code in `open` runs beside it.)
+is_legal() {
+  { printf '%s\n--\n' "$(cat "$room/case.session")"; cat "$room/$1"; } | "$room/asio_check" | grep -qx legal
 }
 
 # Each command on each of the inputs. Comments at a script's head are read by asio alone.
