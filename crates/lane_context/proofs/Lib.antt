@@ -7,3 +7,4 @@ pub mod RunLemmas
 pub mod SettingOutLemmas
 pub mod SideBySideLemmas
 pub mod StartLemmas
+pub mod StopLemmas

@@ -21,6 +21,7 @@ use Rattle.lane_context.specs.declared.round_end.RoundEnd.{RoundEnd}
 use Rattle.lane_context.specs.declared.round_end.RoundEnd.TheVariants as round
 use Rattle.lane_turns.specs.declared.run_end.RunEnd.{RunEnd}
 use Rattle.lane_turns.specs.declared.run_end.RunEnd.TheVariants as end
+use Rattle.lane_turns.specs.AllMeeting.{HaveMetAfterFault}
 use Rattle.lane_turns.specs.AllWorkers.{KnowTheRound, NoneFaulted, clock_seat, last_of, log_of}
 use Rattle.lane_turns.specs.Attempts.{WorkerState}
 use Rattle.lane_turns.specs.Attending.{HasGoneOn, KnowsAllOf}
@@ -186,6 +187,7 @@ module _ {H X : Type 0} (t : Tries H X) (lanes : ℕ) where
         ended = ends_behind now a b c vain.on it.ended;
         knows = it.knows;
         came = it.came;
+        met = it.met;
         none = it.none;
         ran =
             λ works.
@@ -226,6 +228,7 @@ module _ {H X : Type 0} (t : Tries H X) (lanes : ℕ) where
         ended = it.ended;
         knows = it.knows;
         came = λ fault. came_still ys zs same t.terms (it.came fault);
+        met = it.met;
         none = λ works. none_faulted_still ys zs same (it.none works);
         ran = λ works. ran_still ys zs same t lanes (run_end_of now) xs (it.ran works);
         others = others_still ys zs same xs it.others;
@@ -244,6 +247,7 @@ module _ {H X : Type 0} (t : Tries H X) (lanes : ℕ) where
         ended = it.ended;
         knows = it.knows;
         came = it.came;
+        met = it.met;
         none = it.none;
         ran =
             λ works.
@@ -274,10 +278,11 @@ module _ {H X : Type 0} (t : Tries H X) (lanes : ℕ) where
 
   -- a worker had met a fault before
   pub ended_faulted : (a b : OpenerView) (xs ys : List (WorkerState H X)) → HasGoneOn a b → KnowsAllOf clock_seat b xs →
-      OneFaulted xs → OneKnowsFault t.terms.names.script xs → rests_of besides_of ys ≡ rests_of besides_of xs →
+      OneFaulted xs → OneKnowsFault t.terms.names.script xs →
+      HaveMetAfterFault t.terms.names.script (lists_of b.pen.seat) → rests_of besides_of ys ≡ rests_of besides_of xs →
       AllRemember clock_seat xs ys → KnowTheRound t.terms.names.script b.stand ys →
       HasEndedRound t lanes round.Fault a b xs ys
-  ended_faulted a b xs ys on known one knows rests remember rounds =
+  ended_faulted a b xs ys on known one knows met rests remember rounds =
       let same = lasts_of_rests xs ys rests in
       record {
         ended = on;
@@ -286,6 +291,7 @@ module _ {H X : Type 0} (t : Tries H X) (lanes : ℕ) where
             fault_remembered t.terms.names.script (clock_seat knows.worker) b.pen.seat
             (known knows.index knows.worker knows.at) knows.knows;
         came = λ fault. inl (one_faulted_still xs ys same one);
+        met = λ fault. met;
         none = λ works. absurd (works refl);
         ran = λ works. absurd (works refl);
         others =
@@ -375,15 +381,17 @@ module _ {H X : Type 0} (t : Tries H X) (lanes : ℕ) where
 
     -- it met a fault itself
     pub run_faulted : (a b : OpenerView) (zs : List (WorkerState H X)) → HasGoneOn a b → KnowsAllOf clock_seat b ys →
-        OneFaulted ys → OneKnowsFault t.terms.names.script ys → rests_of besides_of zs ≡ rests_of besides_of ys →
+        OneFaulted ys → OneKnowsFault t.terms.names.script ys →
+        HaveMetAfterFault t.terms.names.script (lists_of b.pen.seat) → rests_of besides_of zs ≡ rests_of besides_of ys →
         AllRemember clock_seat ys zs → KnowTheRound t.terms.names.script b.stand zs →
         HasEndedRound t lanes round.Fault a b xs zs
-    run_faulted a b zs on known one knows rests remember rounds =
-        let it = ended_faulted a b ys zs on known one knows rests remember rounds in
+    run_faulted a b zs on known one knows met rests remember rounds =
+        let it = ended_faulted a b ys zs on known one knows met rests remember rounds in
         record {
           ended = it.ended;
           knows = it.knows;
           came = it.came;
+          met = it.met;
           none = it.none;
           ran = λ works. absurd (works refl);
           others = others_still ys zs (lasts_of_rests ys zs rests) xs run_others;
@@ -400,13 +408,15 @@ module _ {H X : Type 0} (t : Tries H X) (lanes : ℕ) where
       same = lasts_of_rests ys zs rests
 
       pub tried_ended : (tries : ClosingTry) → TriedToClose t.terms how tries a b →
+          (tries ≡ tried.Failed → HaveMetAfterFault t.terms.names.script (lists_of b.pen.seat)) →
           (tries ≢ tried.Refuted → KnowTheRound t.terms.names.script b.stand zs) →
           IfSome (end_after tries how) (λ ends. HasEndedRound t lanes ends a b xs zs)
-      tried_ended tried.Closed it rounds =
+      tried_ended tried.Closed it met rounds =
           record {
             ended = ends_by how a b it;
             knows = λ fault. absurd (no_fault_by how fault);
             came = λ fault. absurd (no_fault_by how fault);
+            met = λ fault. absurd (no_fault_by how fault);
             none = λ works. none_faulted_still ys zs same none;
             ran =
                 λ works.
@@ -417,12 +427,13 @@ module _ {H X : Type 0} (t : Tries H X) (lanes : ℕ) where
             remember = remember_on clock_seat xs ys zs run_remember remember;
             rounds = rounds (λ refuted. absurd (cc refuted));
           }
-      tried_ended tried.Refuted it rounds = tt
-      tried_ended tried.Failed it rounds =
+      tried_ended tried.Refuted it met rounds = tt
+      tried_ended tried.Failed it met rounds =
           record {
             ended = it.on;
             knows = λ fault. it.knows;
             came = λ fault. inr it.had;
+            met = λ fault. met refl;
             none = λ works. absurd (works refl);
             ran = λ works. absurd (works refl);
             others = others_still ys zs same xs run_others;

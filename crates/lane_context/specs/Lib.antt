@@ -4,3 +4,4 @@ pub mod RoundEnds
 pub mod SessionRooms
 pub mod Setup
 pub mod SideBySide
+pub mod StopCauses

@@ -1,14 +1,17 @@
 -- How a round ends, and why (Asio reference, io_context::run, ::poll, ::stopped).
 use Rattle.std.specs.Prelude.{◌≡◌, ◌≢◌, ◌⊎◌, ℕ, ◌+◌, ◌-◌, ◌<◌, List, Option, Some, None, length, map, slice_get}
 use Rattle.session_script.specs.Script.{ScriptModel}
+use Rattle.lane_clock.specs.declared.step.ClockStep.{ClockStep}
 use Rattle.lane_turns.specs.declared.closing.Closing.{Closing}
 use Rattle.lane_turns.specs.declared.closing.Closing.TheVariants as closing
 use Rattle.lane_turns.specs.declared.closing_try.ClosingTry.{ClosingTry}
 use Rattle.lane_turns.specs.declared.closing_try.ClosingTry.TheVariants as tried
 use Rattle.lane_context.specs.declared.round_end.RoundEnd.{RoundEnd}
 use Rattle.lane_context.specs.declared.round_end.RoundEnd.TheVariants as round
+use Rattle.lane_logs.specs.Knowing.{lists_of}
 use Rattle.lane_turns.specs.declared.run_end.RunEnd.{RunEnd}
 use Rattle.lane_turns.specs.declared.run_end.RunEnd.TheVariants as end
+use Rattle.lane_turns.specs.AllMeeting.{HaveMetAfterFault}
 use Rattle.lane_turns.specs.AllWorkers.{HadFailed, KnowTheRound, NoneFaulted, clock_seat, log_of}
 use Rattle.lane_turns.specs.Attempts.{WorkerState}
 use Rattle.lane_turns.specs.Attending.{HasGoneOn}
@@ -89,12 +92,20 @@ module _ {H X : Type 0} where
   abbrev pub FaultCame : Terms H X → List (WorkerState H X) → Type 0
   FaultCame t all = OneFaulted all ⊎ HadFailed t
 
+  -- where one of these knew that the reactor had failed, all met
+  abbrev pub MeetIfOneKnew : ScriptModel → (ℕ → List ClockStep) → List (WorkerState H X) → Type 0
+  MeetIfOneKnew script lists all =
+      (k : ℕ) (one : WorkerState H X) → slice_get all k ≡ Some one → KnowsFault script (clock_seat one) →
+      HaveMetAfterFault script lists
+
   -- a round ended so, by what the opener and all workers did
   pub record HasEndedRound (t : Tries H X) (lanes : ℕ) (now : RoundEnd) (opener opener_now : OpenerView)
       (olds news : List (WorkerState H X)) : Type 0 where
     pub ended : EndsRound t.terms now opener opener_now
     pub knows : now ≡ round.Fault → KnowsFault t.terms.names.script opener_now.pen.seat
     pub came : now ≡ round.Fault → FaultCame t.terms news
+    -- then all lanes and workers met, as they do at an event
+    pub met : now ≡ round.Fault → HaveMetAfterFault t.terms.names.script (lists_of opener_now.pen.seat)
     pub none : now ≢ round.Fault → NoneFaulted news
     pub ran : now ≢ round.Fault → OwnRanLast t lanes (run_end_of now) olds news
     pub others : OtherLastsStay olds news

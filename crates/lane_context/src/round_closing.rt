@@ -2,8 +2,10 @@
 ghost use Rattle.std.specs.Prelude.{◌≡◌, ◌≢◌, ◌<◌, ◌≤◌, [], IfNone, IfSome, length, map, true, vec_capacity};
 ghost use Rattle.lane_logs.specs.SeatNumbers.{lane_count};
 ghost use Rattle.lane_logs.specs.Stand.{is_round_open};
-ghost use Rattle.lane_turns.specs.declared.closing_try.ClosingTry.TheVariants.{Refuted};
+ghost use Rattle.lane_logs.specs.Knowing.{lists_of};
+ghost use Rattle.lane_turns.specs.declared.closing_try.ClosingTry.TheVariants.{Failed, Refuted};
 ghost use Rattle.lane_context.specs.declared.round_end.RoundEnd.TheVariants.{Fault};
+ghost use Rattle.lane_turns.specs.AllMeeting.{HaveMetAfterFault};
 ghost use Rattle.lane_turns.specs.AllWorkers.{AreCuts, AreReady, KnowTheRound, NoneFaulted, clock_seat, log_of};
 ghost use Rattle.lane_turns.specs.Attending.{HasGoneOn, KnowsAllOf};
 ghost use Rattle.lane_turns.specs.Benches.{AreLanes, AreWorkers};
@@ -15,7 +17,7 @@ ghost use Rattle.lane_turns.specs.KnownFaults.{KnowsFault};
 ghost use Rattle.lane_turns.specs.LaneOf.{seat_of};
 ghost use Rattle.lane_turns.specs.LaneValues.{terms, tries};
 ghost use Rattle.lane_turns.specs.OwnRuns.{HasRunInVain};
-ghost use Rattle.lane_context.specs.RoundEnds.{EndsRound, FaultCame, HasEndedRound, OtherLastsStay, OwnRanLast, end_after, end_by, run_end_of};
+ghost use Rattle.lane_context.specs.RoundEnds.{EndsRound, FaultCame, HasEndedRound, MeetIfOneKnew, OtherLastsStay, OwnRanLast, end_after, end_by, run_end_of};
 
 use crate::context::Context;
 use crate::opener_calls::hear_failure;
@@ -64,6 +66,8 @@ impl<'a, X: Reactor, H: CompletionHandler, N: LaneSession> Context<'a, X, H, N> 
             opener.old opener.new }
         ensures rows { AreWorkers clock_seat N.names.script workers.new }
         ensures cuts { AreCuts N.names.script opener.new }
+        ensures met { result ≡ Failed →
+            HaveMetAfterFault N.names.script (lists_of opener.new.pen.seat) }
         ensures rounds { result ≢ Refuted →
             KnowTheRound N.names.script opener.new.stand workers.new }
         ensures same { result ≡ Refuted → workers.new ≡ workers.old }
@@ -98,6 +102,8 @@ impl<'a, X: Reactor, H: CompletionHandler, N: LaneSession> Context<'a, X, H, N> 
         ensures rows { AreWorkers clock_seat N.names.script workers.new }
         ensures lanes { AreLanes seat_of N.names.script bench.new }
         ensures cuts { AreCuts N.names.script opener.new }
+        ensures met { result ≡ Failed →
+            HaveMetAfterFault N.names.script (lists_of opener.new.pen.seat) }
         ensures rounds { result ≢ Refuted →
             KnowTheRound N.names.script opener.new.stand workers.new }
         ensures same { result ≡ Refuted → workers.new ≡ workers.old }
@@ -138,6 +144,7 @@ impl<'a, X: Reactor, H: CompletionHandler, N: LaneSession> Context<'a, X, H, N> 
         requires room { lane_count N.names.script ≤ vec_capacity bench.old }
         ensures on { HasGoneOn opener.old opener.new }
         ensures known { KnowsAllOf clock_seat opener.new workers.old }
+        ensures worker_knew { MeetIfOneKnew N.names.script (lists_of opener.new.pen.seat) workers.old }
         ensures rows { AreWorkers clock_seat N.names.script workers.new }
         ensures cuts { AreCuts N.names.script opener.new }
         ensures rounds { KnowTheRound N.names.script opener.new.stand workers.new }
@@ -319,6 +326,8 @@ impl<'a, X: Reactor, H: CompletionHandler, N: LaneSession> Context<'a, X, H, N> 
         ensures knows { result ≡ Fault → KnowsFault N.names.script opener.new.pen.seat }
         ensures came { result ≡ Fault → FaultCame
             (terms N.names H.marks X.state X.told X.faults N.faults N.clock) workers.new }
+        ensures met { result ≡ Fault →
+            HaveMetAfterFault N.names.script (lists_of opener.new.pen.seat) }
         ensures faultless { result ≢ Fault → NoneFaulted workers.new }
         ensures ran { result ≢ Fault → OwnRanLast
             (tries (terms N.names H.marks X.state X.told X.faults N.faults N.clock) 16)
@@ -340,7 +349,8 @@ impl<'a, X: Reactor, H: CompletionHandler, N: LaneSession> Context<'a, X, H, N> 
     /// failed, the caller's own worker runs, and the round is closed by its answer; it runs again as
     /// often as that isn't borne out by a load, and in a poll round by looks at the next cell of each
     /// lane. After a fault nothing is drawn, and the opener knows of it. Each worker takes in what all
-    /// lanes and the opener did. Takes no memory but for hints of its own worker's `run`.
+    /// lanes and the opener did, after a fault too: nobody made a step between what the opener had taken in
+    /// and that. Takes no memory but for hints of its own worker's `run`.
     pub fn close_round<Rt: Wait>(&mut self, rt: &Rt, workers: &mut Workers<'a, X, H, N>) -> RoundEnd
         requires ready { AreReady N.names.script self.old workers.old.all }
         requires round { is_round_open N.names.script workers.old.opener.stand ≡ true }
@@ -352,6 +362,8 @@ impl<'a, X: Reactor, H: CompletionHandler, N: LaneSession> Context<'a, X, H, N> 
             KnowsFault N.names.script workers.new.opener.pen.seat }
         ensures came { result ≡ Fault → FaultCame
             (terms N.names H.marks X.state X.told X.faults N.faults N.clock) workers.new.all }
+        ensures met { result ≡ Fault →
+            HaveMetAfterFault N.names.script (lists_of workers.new.opener.pen.seat) }
         ensures faultless { result ≢ Fault → NoneFaulted workers.new.all }
         ensures ran { result ≢ Fault → OwnRanLast
             (tries (terms N.names H.marks X.state X.told X.faults N.faults N.clock) 16)

@@ -4,6 +4,7 @@ ghost use Rattle.lane_turns.specs.Attempts.{IsSeated};
 ghost use Rattle.lane_turns.specs.LaneValues.{terms, tries};
 ghost use Rattle.lane_turns.specs.Runs.{EndsAtOnce, EndsFor, HasReadLeft, HasRun, HasSettled, HasStoppedAtOnce, HasTriedAndRead, MayHaveRead, ReadsAndTries, StopsAtOnce};
 ghost use Rattle.lane_turns.specs.Scanning.{GoesOn};
+ghost use Rattle.lane_context.specs.StopCauses.{StoppedByRead};
 
 use crate::context::Context;
 use crate::worker::Worker;
@@ -110,7 +111,8 @@ impl<'a, X: Reactor, H: CompletionHandler, N: LaneSession> Context<'a, X, H, N> 
     /// round in which time doesn't pass, nothing is ready (Asio reference, io_context::run, ::poll).
     /// Before each round of looks it reads whether work is left and whether the context is stopped; behind
     /// a stop of its own it does nothing but that. `Stopped` comes by such a read alone: of other stops than
-    /// those of the worker's round, or by a worker that was asked to stop or keeps the failed reactor.
+    /// those with which the worker's round began, or by a worker for which no round is open, or that was
+    /// asked to stop or keeps the failed reactor.
     /// A lane's turn is kept while something is done there, for 16 executions or turns of the reactor at
     /// most. The first lane into which notes were put then is looked at next; at the others it hints, in
     /// the order of the puts, to whichever worker looks for one. A hint may take memory, and is dropped
@@ -123,6 +125,7 @@ impl<'a, X: Reactor, H: CompletionHandler, N: LaneSession> Context<'a, X, H, N> 
             worker.old worker.new }
         ensures stopped { worker.old.seat.stopped ≡ true →
             HasStoppedAtOnce result worker.old worker.new }
+        ensures cause { result ≡ RunEnd.Stopped → StoppedByRead worker.old worker.new }
         ensures turns { IsSeated self.now worker.new }
         ensures on { GoesOn worker.old worker.new }
     {

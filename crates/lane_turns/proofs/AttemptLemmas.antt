@@ -1,5 +1,5 @@
 -- One attempt of a worker at a lane.
-use Rattle.std.proofs.Common.{◌≡◌, ◌⊎◌, ℕ, suc, ◌+◌, ◌≤◌, Bool, true, false, cond, List, [], ◌∷◌, Option, Some, None, inl, inr, refl, sym, ap, subst, ◌∙◌, arith}
+use Rattle.std.proofs.Common.{◌≡◌, ◌⊎◌, ℕ, suc, ◌+◌, ◌<◌, ◌≤◌, Bool, true, false, cond, List, [], ◌∷◌, Option, Some, None, inl, inr, refl, sym, ap, subst, ◌∙◌, arith}
 use Rattle.std.proofs.lemmas.Bool.{eq-eqb}
 use Rattle.std.specs.Prelude.{not, if◌then◌else◌}
 use Rattle.op_handlers.specs.Marks.{Marks}
@@ -139,6 +139,50 @@ module _ {H X : Type 0} (t : Terms H X) where
               subst (λ a. LaneCameTo t a last after) (nothing_is next none) came,
             );
       }
+
+  -- where a lane stands behind so many attempts, in each of which something was done, the last of them with this
+  -- answer; before the first it is nothing
+  abbrev pub StandsAt : ℕ → One → LaneValue H X → LaneValue H X → Type 0
+  StandsAt count last before now =
+      ((count ≡ 0) × (last ≡ one.Nothing) × (now ≡ before)) ⊎ (HasCome t count last before now × (is_done last ≡ true))
+
+  pub comes_on : (count : ℕ) (last next : One) (before mid after : LaneValue H X) → StandsAt count last before mid →
+      LaneCameTo t next mid after → HasCome t (count + 1) next before after
+  comes_on count last next before mid after (inl none) came =
+      subst (λ n. HasCome t (n + 1) next before after) (sym none.0)
+      (first_come next before after (subst (λ (v : LaneValue H X). LaneCameTo t next v after) none.2 came))
+  comes_on count last next before mid after (inr some) came =
+      more_come count last next before mid after some.0 some.1 came
+
+  pub stands_on : (count : ℕ) (last next : One) (before mid after : LaneValue H X) → StandsAt count last before mid →
+      LaneCameTo t next mid after → is_done next ≡ true → StandsAt (count + 1) next before after
+  stands_on count last next before mid after stands came done =
+      inr (comes_on count last next before mid after stands came, done)
+
+  -- the next one came to nothing
+  pub rests_at : (count most : ℕ) (last next : One) (before mid after : LaneValue H X) →
+      StandsAt count last before mid → count + 1 ≤ most → is_nothing next ≡ true → LaneCameTo t next mid after →
+      HasWorked t most last before after
+  rests_at count most last next before mid after (inl none) less is came =
+      subst (λ a. HasWorked t most a before after) (nothing_is next is ∙ sym none.1)
+      (has_worked 1 most next before after
+      (first_come next before after (subst (λ (v : LaneValue H X). LaneCameTo t next v after) none.2 came))
+      (omega (arith, less)))
+  rests_at count most last next before mid after (inr some) less is came =
+      has_rested count most last next before mid after some.0 less (omega (arith, some.0.few)) some.1 is came
+
+  -- or to something else
+  pub ends_at : (count most : ℕ) (last next : One) (before mid after : LaneValue H X) →
+      StandsAt count last before mid → count + 1 ≤ most → LaneCameTo t next mid after →
+      HasWorked t most next before after
+  ends_at count most last next before mid after stands less came =
+      has_worked (count + 1) most next before after (comes_on count last next before mid after stands came) less
+
+  -- or there was none
+  pub worked_at : (count most : ℕ) (last : One) (before now : LaneValue H X) → StandsAt count last before now →
+      0 < count → count ≤ most → HasWorked t most last before now
+  worked_at count most last before now (inl none) some less = absurd (omega (arith, none.0, some))
+  worked_at count most last before now (inr come) some less = has_worked count most last before now come.0 less
 
 module _ {H X : Type 0} (t : Tries H X) (lane : ℕ) (answer : One) (turns left : Seated)
     (kept : Option (LaneValue H X)) (after : LaneValue H X) where

@@ -9,7 +9,7 @@ use Rattle.lane_clock.specs.Seats.{Owns, SeatView, copy_seat, own}
 use Rattle.lane_clock.specs.Steps.{draw_count, step_count}
 use Rattle.lane_clock.proofs.KeepLemmas.{start_same, start_trans}
 use Rattle.lane_logs.specs.Knowing.{lists_of}
-use Rattle.lane_turns.specs.Attending.{AreHeard, HasAttended, HasGoneOn, HaveAttended, IsHeard}
+use Rattle.lane_turns.specs.Attending.{AreHeard, AreKnown, HasAttended, HasGoneOn, HaveAttended, IsHeard}
 use Rattle.lane_turns.specs.Openers.{HasTakenIn, HaveMet, OpenerView}
 use Rattle.lane_turns.proofs.MeetingLemmas.{copied_steps, met_number}
 use Rattle.lane_turns.proofs.PenLemmas.{step_count-append}
@@ -92,6 +92,24 @@ module _ {T : Type 0} (seat : T → SeatView) (script : ScriptModel) where
       let same : Some one ≡ Some other = sym at ∙ ap (slice_get all) (sym here) ∙ is in
       let it : one ≡ other = cc in
       subst (λ t. IsHeard script b (seat t)) it (heard_now script a b (seat one) taken))
+      (at_or_before k i less)
+
+module _ {T : Type 0} (seat : T → SeatView) (script : ScriptModel) where
+  pub none_known : (opener : OpenerView) (all : List T) → AreKnown seat opener all 0
+  none_known opener all k one less is = absurd (omega (arith, less))
+
+  -- one more is known
+  pub more_known : (a b : OpenerView) (all : List T) (i : ℕ) (one : T) → slice_get all i ≡ Some one →
+      AreKnown seat a all i → HasTakenIn script (seat one) a b → AreKnown seat b all (i + 1)
+  more_known a b all i one at known taken k other less is =
+      ⊎_elim
+      (λ (before : k < i) n.
+      start_trans _ _ _ (known k other before is n) ((on_heard script (seat one) a b taken).remembers n))
+      (λ (here : k ≡ i) n.
+      let same : Some one ≡ Some other = sym at ∙ ap (slice_get all) (sym here) ∙ is in
+      let it : one ≡ other = cc in
+      subst (λ t. StartOf (lists_of (seat t) n) (lists_of b.pen.seat n)) it
+      (subst (λ steps. StartOf steps (lists_of b.pen.seat n)) (copied_steps (seat one).known n) (taken.met.met.learns n)))
       (at_or_before k i less)
 
 pub get_set_same : {T : Type 0} (xs : List T) (i : ℕ) (old new : T) → slice_get xs i ≡ Some old →

@@ -58,45 +58,65 @@ cut_outlives script old new j n remembers within cut =
       knows = cut.knows;
     }
 
--- the opener drew an event as its last step, before which it had heard of a seat; the two met since
+-- The opener's own steps since, of which the last is this one; they took nothing in
+pub record HasMadeLast (before after : SeatView) : Type 0 where
+  pub front : List ClockStep
+  pub step : ClockStep
+  pub steps : own after ≡ own before ++ (front ++ step ∷ [])
+  pub quiet : (n : ℕ) → joined_count n front ≡ 0
+  pub number : after.number ≡ before.number
+  pub others : (n : ℕ) → n ≢ before.number → lists_of after n ≡ lists_of before n
+
+abbrev pub drawn_made : (before after : SeatView) → HasDrawnLast before after → HasMadeLast before after
+drawn_made before after drawn =
+    record {
+      front = drawn.front;
+      step = Draw drawn.shown drawn.changes drawn.found;
+      steps = drawn.steps;
+      quiet = drawn.quiet;
+      number = drawn.number;
+      others = drawn.others;
+    }
+
+-- the opener made this as its last step, before which it had heard of a seat; the two met since
 module _ (script : ScriptModel) (before : SeatView) (first last : OpenerView) (old new : SeatView)
     (number : before.number ≡ opener_seat script) (known : KnowsByJoins before)
-    (drawn : HasDrawnLast before first.pen.seat) (apart : old.number ≢ opener_seat script)
+    (made : HasMadeLast before first.pen.seat) (apart : old.number ≢ opener_seat script)
     (heard : StartOf (own old) (lists_of before old.number))
     (attended : HasAttended script first last old new) where
   abbrev o : ℕ
   o = opener_seat script
 
-  -- the event's index among the opener's steps
+  -- the step's index among the opener's steps
   abbrev pub event_index : ℕ
-  event_index = length (own before ++ drawn.front)
+  event_index = length (own before ++ made.front)
 
   first_number : first.pen.seat.number ≡ o
-  first_number = drawn.number ∙ number
+  first_number = made.number ∙ number
 
   old_number : attended.old.pen.seat.number ≡ o
   old_number = attended.since.number ∙ first_number
 
-  first_own : lists_of first.pen.seat o ≡ (own before ++ drawn.front) ++ Draw drawn.shown drawn.changes drawn.found ∷ []
+  first_own : lists_of first.pen.seat o ≡ (own before ++ made.front) ++ made.step ∷ []
   first_own =
-      ap (lists_of first.pen.seat) (sym first_number) ∙ drawn.steps
-      ∙ sym (append_assoc (own before) drawn.front (Draw drawn.shown drawn.changes drawn.found ∷ []))
+      ap (lists_of first.pen.seat) (sym first_number) ∙ made.steps
+      ∙ sym (append_assoc (own before) made.front (made.step ∷ []))
 
-  -- what the opener knew before its event it knows in the end
+  -- what the opener knew by then it knows in the end
   till_last : (n : ℕ) → StartOf (lists_of first.pen.seat n) (lists_of last.pen.seat n)
   till_last n =
       start_trans _ _ _ (attended.since.remembers n)
       (start_trans _ _ _ (attended.met.heard.met.met.remembers n) (attended.till.remembers n))
 
-  front_same : take event_index (lists_of last.pen.seat o) ≡ own before ++ drawn.front
+  front_same : take event_index (lists_of last.pen.seat o) ≡ own before ++ made.front
   front_same =
-      let xs : List ClockStep = own before ++ drawn.front in
+      let xs : List ClockStep = own before ++ made.front in
       let start : StartOf xs (lists_of last.pen.seat o) =
-      start_trans xs (lists_of first.pen.seat o) _ (Draw drawn.shown drawn.changes drawn.found ∷ [], first_own) (till_last o) in
+      start_trans xs (lists_of first.pen.seat o) _ (made.step ∷ [], first_own) (till_last o) in
       take_start event_index xs (lists_of last.pen.seat o) start (omega arith) ∙ take-length xs
 
   -- of the number it had then taken in all steps
-  all_heard : joined_count old.number (own before ++ drawn.front) ≡ length (own old)
+  all_heard : joined_count old.number (own before ++ made.front) ≡ length (own old)
   all_heard =
       let n : ℕ = old.number in
       let apart' : n ≢ before.number = λ same. apart (same ∙ number) in
@@ -105,11 +125,11 @@ module _ (script : ScriptModel) (before : SeatView) (first last : OpenerView) (o
       (attended.met.told.whole n attended.owns) in
       let up = start_length _ _ heard in
       let same : length (lists_of first.pen.seat n) ≡ length (lists_of before n) =
-      ap length (drawn.others n apart') in
+      ap length (made.others n apart') in
       let more = start_length _ _ (attended.since.remembers n) in
       let down = start_length _ _ whole in
-      let taken : joined_count n (own before ++ drawn.front) ≡ joined_count n (own before) =
-      joined_on n (own before) drawn.front (drawn.quiet n) in
+      let taken : joined_count n (own before ++ made.front) ≡ joined_count n (own before) =
+      joined_on n (own before) made.front (made.quiet n) in
       omega (arith, taken, known.others n apart', up, same, more, down)
 
   pub cut_made : IsCut script (lists_of last.pen.seat) event_index old.number
@@ -126,7 +146,7 @@ module _ (script : ScriptModel) (before : SeatView) (first last : OpenerView) (o
       (subst (λ steps. StartOf steps (lists_of attended.new.pen.seat new.number)) (copied_steps new.known new.number)
       (attended.met.heard.met.met.learns new.number)) (attended.till.remembers new.number)) in
       let long : length (lists_of first.pen.seat o) ≡ event_index + 1 =
-      ap length first_own ∙ length-append (own before ++ drawn.front) (Draw drawn.shown drawn.changes drawn.found ∷ []) in
+      ap length first_own ∙ length-append (own before ++ made.front) (made.step ∷ []) in
       record {
         counts = taken;
         joins =

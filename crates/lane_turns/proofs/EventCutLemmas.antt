@@ -16,7 +16,7 @@ use Rattle.lane_turns.specs.Benches.{AreLanes, AreWorkers, IsRow}
 use Rattle.lane_turns.specs.Meeting.{KnowsByJoins}
 use Rattle.lane_turns.specs.Openers.{OpenerView}
 use Rattle.lane_turns.proofs.AttendingLemmas.{on_and_on, on_same}
-use Rattle.lane_turns.proofs.CutLemmas.{cut_made, cut_outlives}
+use Rattle.lane_turns.proofs.CutLemmas.{HasMadeLast, cut_made, cut_outlives, drawn_made}
 use Rattle.lane_turns.proofs.EventIndexLemmas.{event_before, index_within}
 
 -- where the opener drew nothing since, its cuts are those that were
@@ -83,25 +83,50 @@ pub record HasDrawnEvent (script : ScriptModel) (before after : SeatView) : Type
   pub only : (j : ℕ) → IsEventAt script (lists_of after) j →
       (IsEventAt script (lists_of before) j) ⊎ (j ≡ length (own before ++ last.front))
 
--- a row of seats that were heard before the event and met behind it
+-- a row of seats that were heard before a step of the opener and met behind it
 module _ {T : Type 0} (seat : T → SeatView) (script : ScriptModel) (before : OpenerView) (first last : OpenerView)
     (olds news : List T) (start count : ℕ) (row : IsRow seat start count olds)
     (heard : AreHeard seat script before olds (length olds)) (long : length news ≡ length olds)
     (attended : HaveAttended seat script first last olds news (length olds)) where
   row_cut : (number : before.pen.seat.number ≡ opener_seat script) (known : KnowsByJoins before.pen.seat)
-      (drawn : HasDrawnLast before.pen.seat first.pen.seat) (n : ℕ) → start ≤ n → n < start + count → n < opener_seat script →
-      IsCut script (lists_of last.pen.seat) (length (own before.pen.seat ++ drawn.front)) n
-  row_cut number known drawn n after less below =
+      (made : HasMadeLast before.pen.seat first.pen.seat) (n : ℕ) → start ≤ n → n < start + count → n < opener_seat script →
+      IsCut script (lists_of last.pen.seat) (length (own before.pen.seat ++ made.front)) n
+  row_cut number known made n after less below =
       let there = at_row seat start count n olds row after less in
       ⊎_elim
       (λ now.
-      subst (IsCut script (lists_of last.pen.seat) (length (own before.pen.seat ++ drawn.front))) there.4
-      (cut_made script before.pen.seat first last (seat there.1) (seat now.0) number known drawn
+      subst (IsCut script (lists_of last.pen.seat) (length (own before.pen.seat ++ made.front))) there.4
+      (cut_made script before.pen.seat first last (seat there.1) (seat now.0) number known made
       (λ same. absurd (omega (arith, same, there.4, below)))
       (heard there.0 there.1 there.2 there.3).heard
       (attended.met there.0 there.1 now.0 there.2 there.3 now.2)))
       (λ past. absurd (omega (arith, past.0, long, there.2)))
       (slice_get_cases news there.0).1
+
+-- all lanes and then all workers met the opener behind a step of it: that is a cut of each
+module _ {L W : Type 0} (lane : L → SeatView) (worker : W → SeatView) (script : ScriptModel)
+    (before first mid last : OpenerView) (lanes lanes_now : List L) (workers workers_now : List W)
+    (number : before.pen.seat.number ≡ opener_seat script) (known : KnowsByJoins before.pen.seat)
+    (made : HasMadeLast before.pen.seat first.pen.seat) (on_mid : HasGoneOn first mid) (on_last : HasGoneOn mid last) where
+  pub all_cut : AreLanes lane script lanes → AreWorkers worker script workers →
+      AreHeard lane script before lanes (length lanes) → AreHeard worker script before workers (length workers) →
+      length lanes_now ≡ length lanes → length workers_now ≡ length workers →
+      HaveAttended lane script first mid lanes lanes_now (length lanes) →
+      HaveAttended worker script mid last workers workers_now (length workers) → (n : ℕ) → n < opener_seat script →
+      IsCut script (lists_of last.pen.seat) (length (own before.pen.seat ++ made.front)) n
+  all_cut are_lanes are_workers lanes_heard workers_heard lanes_long workers_long lanes_met workers_met n below =
+      ⊎_elim
+      (λ (less : n < lane_count script).
+      row_cut lane script before first last lanes lanes_now 0 (lane_count script) are_lanes lanes_heard lanes_long
+      (row_within lane script first first mid last lanes lanes_now (length lanes) (on_same first) on_last lanes_met)
+      number known made n (omega arith) (omega (arith, less)) below)
+      (λ (more : lane_count script ≤ n).
+      row_cut worker script before first last workers workers_now (lane_count script) (worker_count script) are_workers
+      workers_heard workers_long
+      (row_within worker script first mid last last workers workers_now (length workers) on_mid (on_same last)
+      workers_met)
+      number known made n more (omega (arith, below)) below)
+      (cases_lt n (lane_count script))
 
 -- the whole event: all lanes and then all workers met the opener behind it
 module _ {L W : Type 0} (lane : L → SeatView) (worker : W → SeatView) (script : ScriptModel)
@@ -138,16 +163,7 @@ module _ {L W : Type 0} (lane : L → SeatView) (worker : W → SeatView) (scrip
       ⊎_elim (λ (was : IsEventAt script (lists_of before.pen.seat) j). cut_before j n was below)
       (λ (now : j ≡ length (own before.pen.seat ++ drawn.last.front)).
       subst (λ k. IsCut script (lists_of last.pen.seat) k n) (sym now)
-      (⊎_elim
-      (λ (less : n < lane_count script).
-      row_cut lane script before first last lanes lanes_now 0 (lane_count script) are_lanes lanes_heard lanes_long
-      (row_within lane script first first mid last lanes lanes_now (length lanes) (on_same first) on_last lanes_met)
-      number known drawn.last n (omega arith) (omega (arith, less)) below)
-      (λ (more : lane_count script ≤ n).
-      row_cut worker script before first last workers workers_now (lane_count script) (worker_count script) are_workers
-      workers_heard workers_long
-      (row_within worker script first mid last last workers workers_now (length workers) on_mid (on_same last)
-      workers_met)
-      number known drawn.last n more (omega (arith, below)) below)
-      (cases_lt n (lane_count script))))
+      (all_cut lane worker script before first mid last lanes lanes_now workers workers_now number known
+      (drawn_made before.pen.seat first.pen.seat drawn.last) on_mid on_last are_lanes are_workers lanes_heard
+      workers_heard lanes_long workers_long lanes_met workers_met n below))
       (drawn.only j at_first)

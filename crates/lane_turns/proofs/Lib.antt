@@ -1,3 +1,4 @@
+pub mod AllMeetingLemmas
 pub mod AllWorkersLemmas
 pub mod AttemptLemmas
 pub mod AttendingLemmas

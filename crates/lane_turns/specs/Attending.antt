@@ -32,6 +32,11 @@ abbrev pub AreHeard : {T : Type 0} → (T → SeatView) → ScriptModel → Open
 AreHeard {T} seat script opener all count =
     (k : ℕ) (one : T) → k < count → slice_get all k ≡ Some one → IsHeard script opener (seat one)
 
+-- the opener knows all that each of the first of a list knows
+abbrev pub AreKnown : {T : Type 0} → (T → SeatView) → OpenerView → List T → ℕ → Type 0
+AreKnown {T} seat opener all count =
+    (k : ℕ) (one : T) → k < count → slice_get all k ≡ Some one → Remembers (seat one) opener.pen.seat
+
 -- a seat and the opener met, between what the opener was at first and what it is now
 pub record HasAttended (script : ScriptModel) (first last : OpenerView) (before after : SeatView)
     : Type 0 where

@@ -1,3 +1,4 @@
+pub mod AllMeeting
 pub mod AllWorkers
 pub mod Answers
 pub mod AtRest

@@ -25,6 +25,12 @@ pub record HasRestarted (old new : OpenerView) : Type 0 where
   pub gone : HasGone (shows event.Restart change.Same drawn ∷ []) old.pen new.pen
   pub stand : new.stand ≡ record old.stand { restarted = true; base = drawn.stops }
 
+-- the clock word was read, and nothing else was done
+pub record HasReadAlone (old new : OpenerView) : Type 0 where
+  pub found : Found
+  pub gone : HasGone (silent (Load found) ∷ []) old.pen new.pen
+  pub stand : new.stand ≡ old.stand
+
 -- a load, and looks behind it
 abbrev pub weighing_labels : Found → List Looked → List Labelled
 weighing_labels found looks = silent (Load found) ∷ map look_label looks

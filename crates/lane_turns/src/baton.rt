@@ -6,7 +6,7 @@ ghost use Rattle.lane_turns.specs.Polling.{most_made};
 use crate::handler_baton::{BatonPolled, HandlerBaton};
 use crate::lookout::Lookout;
 use crate::one::One;
-use crate::reactor_baton::{ReactorBaton, ReactorBatonPolled};
+use crate::reactor_baton::ReactorBaton;
 use crate::slot::Slot;
 use crate::worker_seat::WorkerSeat;
 use lane_clock::LaneClock;
@@ -121,11 +121,10 @@ impl<'a, X: Reactor, H: CompletionHandler, N: LaneSession> Baton<'a, X, H, N> {
                 }
             }
             BatonKind::Reactor(mut slot) => {
-                let baton = slot.take_out();
-                let ReactorBatonPolled { baton, one } = baton.work::<H>(
-                    clock, script, map, lookout, most,
-                );
-                slot.put_in(baton);
+                let one = match &mut *slot.inside {
+                    Some(baton) => baton.work::<H>(clock, script, map, lookout, most),
+                    None => unreachable!(),
+                };
                 let kind = BatonKind::Reactor(slot);
                 BatonCame {
                     baton: Baton { kind },

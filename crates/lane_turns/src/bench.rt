@@ -3,7 +3,7 @@ ghost use Rattle.std.specs.Prelude.{◌≡◌, length};
 ghost use Rattle.lane_map.specs.LaneNumbers.{reactor_lane};
 ghost use Rattle.lane_logs.specs.Cuts.{NoneStops};
 ghost use Rattle.lane_logs.specs.Knowing.{lists_of};
-ghost use Rattle.lane_turns.specs.Attending.{AreHeard, HasGoneOn, HaveAttended};
+ghost use Rattle.lane_turns.specs.Attending.{AreHeard, AreKnown, HasGoneOn, HaveAttended};
 ghost use Rattle.lane_turns.specs.Besides.{rests_of};
 ghost use Rattle.lane_turns.specs.Benches.{AreInRound, AreLanes, HaveAllStarted, ReactorGoesOn, places_of};
 
@@ -23,6 +23,7 @@ pub fn hear_all<N: LaneSession, T: Attendee<N>>(
     ensures same { all.new ≡ all.old }
     ensures on { HasGoneOn opener.old opener.new }
     ensures heard { AreHeard T.seat N.names.script opener.new all.old (length all.old) }
+    ensures known { AreKnown T.seat opener.new all.old (length all.old) }
     ensures started { HaveAllStarted T.seat T.place all.old (length all.old) }
 {
     for one in all.iter_mut() {

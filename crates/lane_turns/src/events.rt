@@ -1,14 +1,16 @@
 //! Whole events of the opener over the bench: it hears what each lane and worker did, draws the
 //! event, and each takes that in (Asio reference, io_context::run, ::poll, ::restart; asio::post).
-ghost use Rattle.std.specs.Prelude.{◌≡◌, [], IsFalse, IsTrue, length, true};
+ghost use Rattle.std.specs.Prelude.{◌≡◌, ℕ, [], IsFalse, IsTrue, Some, length, slice_get, true};
 ghost use Rattle.lane_map.specs.LaneNumbers.{cells_of, reactor_lane};
 ghost use Rattle.lane_logs.specs.Cuts.{EventsAreCuts, NoneStops};
 ghost use Rattle.lane_logs.specs.Knowing.{lists_of};
 ghost use Rattle.lane_logs.specs.Stand.{first_stand, is_round_open, wants_restart};
+ghost use Rattle.lane_turns.specs.AllMeeting.{HaveMetAfterFault};
 ghost use Rattle.lane_turns.specs.Attending.{AreHeard, HasGoneOn, KnowsAllOf};
 ghost use Rattle.lane_turns.specs.Benches.{AreInRound, AreLanes, AreStartedAt, AreWorkers, HasHeld, HaveAllMet, ReactorGoesOn, places_of};
 ghost use Rattle.lane_turns.specs.Besides.{rests_of};
 ghost use Rattle.lane_turns.specs.KeptSteps.{AllRemember};
+ghost use Rattle.lane_turns.specs.KnownFaults.{KnowsFault};
 ghost use Rattle.lane_turns.specs.OpenerEvents.{HasClosed, HasOpened, HasRestarted, HasWaited};
 
 use crate::attendee::{Attendee, LaneAttendee};
@@ -76,7 +78,7 @@ fn attend_bench<N: LaneSession, B: Attendee<N>, W: Attendee<N>>(
 }
 
 /// All meet where no event closes the round, since the reactor failed: the opener takes in what each
-/// lane and worker knows, and each of them what the opener knows.
+/// lane and worker knows, and reads the clock word. Each of them then takes that in, as it takes in an event.
 pub fn meet_all<N: LaneSession, B: Attendee<N>, W: Attendee<N>>(
     opener: &mut Opener<N>,
     clock: &LaneClock,
@@ -92,6 +94,11 @@ pub fn meet_all<N: LaneSession, B: Attendee<N>, W: Attendee<N>>(
     ensures on { HasGoneOn opener.old opener.new }
     ensures cuts { EventsAreCuts N.names.script (lists_of opener.new.pen.seat) }
     ensures known { KnowsAllOf W.seat opener.new workers.old }
+    ensures opener_knew { KnowsFault N.names.script opener.old.pen.seat →
+        HaveMetAfterFault N.names.script (lists_of opener.new.pen.seat) }
+    ensures worker_knew { (k : ℕ) (one : W) → slice_get workers.old k ≡ Some one →
+        KnowsFault N.names.script (W.seat one) →
+        HaveMetAfterFault N.names.script (lists_of opener.new.pen.seat) }
     ensures remember { AllRemember W.seat workers.old workers.new }
     ensures lanes { AreLanes B.seat N.names.script lanes.new }
     ensures workers { AreWorkers W.seat N.names.script workers.new }
@@ -102,6 +109,7 @@ pub fn meet_all<N: LaneSession, B: Attendee<N>, W: Attendee<N>>(
     hear_all(opener, clock, workers);
     hear_all(opener, clock, lanes);
     opener.is_one();
+    opener.read(clock);
     attend_bench(opener, clock, script, lanes, workers);
 }
 

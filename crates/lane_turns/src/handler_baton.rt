@@ -49,64 +49,29 @@ pub struct BatonPolled<'a, H: CompletionHandler, N: LaneSession> {
 }
 
 impl<'a, H: CompletionHandler, N: LaneSession> BatonPolled<'a, H, N> {
-    /// With this answer in place of its own.
-    fn after(self, one: One) -> BatonPolled<'a, H, N>
-        ensures { result ≡ record self.entry { one = one } }
-    {
-        let BatonPolled {
-            baton,
-            made,
-            one: _,
-        } = self;
-        BatonPolled { baton, made, one }
-    }
-}
-
-impl<'a, H: CompletionHandler, N: LaneSession> HandlerBaton<'a, H, N> {
-    /// Looks at the lane's next place, and executes what it sees there, unless a load behind the
-    /// look finds that the context is stopped. `made` is the room for the calls. The lanes into which
-    /// it puts notes are noted.
-    fn poll(
-        self,
-        clock: &LaneClock,
-        script: &'a Script,
-        map: &LaneMap<'a>,
-        made: Vec<Posted>,
-        lookout: &mut Lookout,
+    /// A lane that was polled, with its hands, and this answer in place of its own.
+    fn of(
+        polled: Polled,
+        hands: Hands<'a, H>,
+        names: PhantomData<N>,
+        one: One,
     ) -> BatonPolled<'a, H, N>
-        requires none { made.items ≡ [] }
-        requires buffer { most_made script.now ≤ vec_capacity made }
-        requires clock { clock.now ≡ N.clock }
-        requires cells { clock.now.plan.cells ≡ cells_of script.now }
-        requires script { script.now ≡ N.names.script }
-        requires map { map.now ≡ script.now }
-        ensures came { CameTo H.marks result.one self.entry.lane result.baton.lane self.entry.hands
-            result.baton.hands }
-        ensures home { result.baton.lane.lane ≡ self.entry.lane.lane }
-        ensures none { result.made.items ≡ [] }
-        ensures buffer { most_made script.now ≤ vec_capacity result.made }
+        requires { IsHandlerBaton N.names H.marks N.clock
+            (record { lane = polled.lane; hands = hands }) }
+        ensures baton { result.baton ≡ record { lane = polled.lane; hands = hands.entry } }
+        ensures made { result.made ≡ polled.made }
+        ensures one { result.one ≡ one }
     {
-        clock_fits(clock, script);
-        lanes_have_cells(script);
-        let HandlerBaton {
-            lane,
-            mut hands,
-            names,
-        } = self;
-        let Polled {
-            lane,
-            mut made,
-            one,
-        } = poll_handlers(clock, script, map, lane, made, &mut hands);
-        lookout.note_calls(script, map, made.as_slice());
-        made.clear();
+        let Polled { lane, made, one: _ } = polled;
         BatonPolled {
             baton: HandlerBaton { lane, hands, names },
             made,
             one,
         }
     }
+}
 
+impl<'a, H: CompletionHandler, N: LaneSession> HandlerBaton<'a, H, N> {
     /// Polls the lane while something is done there, so many times at most; where then nothing is
     /// found, the answer is the one before. `made` is the room for the calls. The lanes into which
     /// notes are put are noted.
@@ -133,23 +98,35 @@ impl<'a, H: CompletionHandler, N: LaneSession> HandlerBaton<'a, H, N> {
         ensures none { result.made.items ≡ [] }
         ensures buffer { most_made script.now ≤ vec_capacity result.made }
     {
-        let mut came = self.poll(clock, script, map, made, lookout);
-        for _ in 1..most {
-            if !came.one.is_done() {
-                return came;
-            }
-            let BatonPolled {
-                baton,
+        clock_fits(clock, script);
+        lanes_have_cells(script);
+        let HandlerBaton {
+            lane,
+            mut hands,
+            names,
+        } = self;
+        let one = One::Nothing;
+        let mut came = Polled { lane, made, one };
+        for _ in 0..most {
+            let Polled {
+                lane,
                 made,
                 one: last,
             } = came;
-            let next = baton.poll(clock, script, map, made, lookout);
-            if next.one.is_nothing() {
-                return next.after(last);
+            let mut next = poll_handlers(clock, script, map, lane, made, &mut hands);
+            lookout.note_calls(script, map, next.made.as_slice());
+            next.made.clear();
+            let one = next.one;
+            if one.is_nothing() {
+                return BatonPolled::of(next, hands, names, last);
+            }
+            if !one.is_done() {
+                return BatonPolled::of(next, hands, names, one);
             }
             came = next;
         }
-        came
+        let one = came.one;
+        BatonPolled::of(came, hands, names, one)
     }
 
     /// What holds of every such lane.

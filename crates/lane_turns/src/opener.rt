@@ -7,7 +7,7 @@ ghost use Rattle.lane_logs.specs.SeatNumbers.{opener_seat};
 ghost use Rattle.lane_logs.specs.Stand.{first_stand, is_round_open, wants_restart};
 ghost use Rattle.lane_turns.specs.Benches.{AreLanes, AreStartedAt, places_of};
 ghost use Rattle.lane_turns.specs.Meeting.{PenHasMet};
-ghost use Rattle.lane_turns.specs.OpenerEvents.{HasClosed, HasOpened, HasRestarted, HasWaited};
+ghost use Rattle.lane_turns.specs.OpenerEvents.{HasClosed, HasOpened, HasReadAlone, HasRestarted, HasWaited};
 ghost use Rattle.lane_turns.specs.Openers.{HasTakenIn, HaveMet, IsOpener, round_of};
 
 use crate::attendee::LaneAttendee;
@@ -90,6 +90,14 @@ impl<N: LaneSession> Opener<N> {
         clock_fits(clock, script);
         draw_opening(&mut self.pen, clock, script, map);
         self.rounds.opening = 0;
+    }
+
+    /// Reads the clock word, and does nothing else.
+    pub(crate) fn read(&mut self, clock: &LaneClock)
+        requires clock { clock.now ≡ N.clock }
+        ensures { HasReadAlone self.old self.new }
+    {
+        let _found = self.pen.load(clock);
     }
 
     /// What holds of every opener.

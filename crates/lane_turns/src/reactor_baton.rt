@@ -11,7 +11,7 @@ use crate::law::clock_fits;
 use crate::lookout::Lookout;
 use crate::one::One;
 use crate::opener::Opener;
-use crate::reactor_polling::{ReactorPolled, poll_reactor};
+use crate::reactor_polling::poll_reactor;
 use crate::worker_seat::{WorkerSeat, tell_lane};
 use lane_clock::LaneClock;
 use lane_logs::{LaneSession, LogEntry};
@@ -43,119 +43,77 @@ impl<'a, X: Reactor, N: LaneSession> Model for ReactorBaton<'a, X, N> {
         (record { lane = b.lane; proactor = b.proactor }) };
 }
 
-/// What an attempt at the reactor's lane leaves: its baton, and what it came to.
-#[derive(Drop)]
-pub struct ReactorBatonPolled<'a, X: Reactor, N: LaneSession> {
-    pub baton: ReactorBaton<'a, X, N>,
-    pub one: One,
-}
-
-impl<'a, X: Reactor, N: LaneSession> ReactorBatonPolled<'a, X, N> {
-    /// With this answer in place of its own.
-    fn after(self, one: One) -> ReactorBatonPolled<'a, X, N>
-        ensures { result ≡ record self.entry { one = one } }
-    {
-        let ReactorBatonPolled { baton, one: _ } = self;
-        ReactorBatonPolled { baton, one }
-    }
-}
-
 impl<'a, X: Reactor, N: LaneSession> ReactorBaton<'a, X, N> {
     /// Looks at the lane's next place, and takes the request that it sees there, or lets time pass,
     /// unless a load behind the look finds that the context is stopped.
-    fn poll(
-        self,
-        clock: &LaneClock,
-        script: &'a Script,
-        map: &LaneMap<'a>,
-    ) -> ReactorBatonPolled<'a, X, N>
+    fn poll(&mut self, clock: &LaneClock, script: &'a Script, map: &LaneMap<'a>) -> One
         requires clock { clock.now ≡ N.clock }
         requires cells { clock.now.plan.cells ≡ cells_of script.now }
         requires script { script.now ≡ N.names.script }
         requires map { map.now ≡ script.now }
-        ensures came { TurnCameTo N.names X.faults result.one self.entry.lane result.baton.lane
-            self.entry.proactor result.baton.proactor }
+        ensures came { TurnCameTo N.names X.faults result self.old.lane self.new.lane
+            self.old.proactor self.new.proactor }
     {
         clock_fits(clock, script);
         lanes_have_cells(script);
-        let ReactorBaton {
-            lane,
-            mut proactor,
-            names,
-        } = self;
-        let ReactorPolled { lane, one } = poll_reactor::<X, N, Brand>(
-            clock,
-            script,
-            map,
-            lane,
-            &mut proactor,
-        );
-        ReactorBatonPolled {
-            baton: ReactorBaton {
-                lane,
-                proactor,
-                names,
-            },
-            one,
-        }
+        poll_reactor::<X, N, Brand>(clock, script, map, &mut self.lane, &mut self.proactor)
     }
 
     /// Does so, and notes the lanes into which it puts notes.
     fn poll_noted(
-        self,
+        &mut self,
         clock: &LaneClock,
         script: &'a Script,
         map: &LaneMap<'a>,
         lookout: &mut Lookout,
-    ) -> ReactorBatonPolled<'a, X, N>
+    ) -> One
         requires clock { clock.now ≡ N.clock }
         requires cells { clock.now.plan.cells ≡ cells_of script.now }
         requires script { script.now ≡ N.names.script }
         requires map { map.now ≡ script.now }
-        ensures came { TurnCameTo N.names X.faults result.one self.entry.lane result.baton.lane
-            self.entry.proactor result.baton.proactor }
-        ensures home { result.baton.lane.lane ≡ self.entry.lane.lane }
+        ensures came { TurnCameTo N.names X.faults result self.old.lane self.new.lane
+            self.old.proactor self.new.proactor }
+        ensures home { self.new.lane.lane ≡ self.old.lane.lane }
     {
         let before = self.log().len();
-        let came = self.poll(clock, script, map);
-        let log = came.baton.log();
+        let one = self.poll(clock, script, map);
+        let log = self.log();
         lookout.note_told(script, map, &log[before.min(log.len())..]);
-        came
+        one
     }
 
     /// Polls the lane while something is done there, so many times at most; where then nothing is
     /// found, the answer is the one before. The lanes into which notes are put are noted.
     pub fn work<H: CompletionHandler>(
-        self,
+        &mut self,
         clock: &LaneClock,
         script: &'a Script,
         map: &LaneMap<'a>,
         lookout: &mut Lookout,
         most: u32,
-    ) -> ReactorBatonPolled<'a, X, N>
+    ) -> One
         requires most { 0 < most }
         requires clock { clock.now ≡ N.clock }
         requires cells { clock.now.plan.cells ≡ cells_of script.now }
         requires script { script.now ≡ N.names.script }
         requires map { map.now ≡ script.now }
         ensures worked { HasWorked
-            (terms N.names H.marks X.state X.told X.faults N.faults N.clock) most result.one
-            (reactor (Some self.entry)) (reactor (Some result.baton)) }
-        ensures home { result.baton.lane.lane ≡ self.entry.lane.lane }
+            (terms N.names H.marks X.state X.told X.faults N.faults N.clock) most result
+            (reactor (Some self.old)) (reactor (Some self.new)) }
+        ensures home { self.new.lane.lane ≡ self.old.lane.lane }
     {
-        let mut came = self.poll_noted(clock, script, map, lookout);
-        for _ in 1..most {
-            if !came.one.is_done() {
-                return came;
+        let mut last = One::Nothing;
+        for _ in 0..most {
+            let one = self.poll_noted(clock, script, map, lookout);
+            if one.is_nothing() {
+                return last;
             }
-            let ReactorBatonPolled { baton, one: last } = came;
-            let next = baton.poll_noted(clock, script, map, lookout);
-            if next.one.is_nothing() {
-                return next.after(last);
+            if !one.is_done() {
+                return one;
             }
-            came = next;
+            last = one;
         }
-        came
+        last
     }
 
     /// What holds of every such lane.

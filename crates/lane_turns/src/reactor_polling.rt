@@ -27,13 +27,6 @@ use proactor_core::Proactor;
 use reactor_trait::Reactor;
 use session_script::{Script, scripts_are_well_formed};
 
-/// What an attempt leaves: the lane, and what it came to.
-#[derive(Drop)]
-pub struct ReactorPolled {
-    pub lane: LaneState,
-    pub one: One,
-}
-
 /// Whether an act is a request that wasn't taken.
 fn may_take<'a, X: Reactor>(script: &Script, proactor: &Proactor<'a, X>, a: ActNo) -> bool
     requires script { proactor.now.script ≡ script.now }
@@ -78,57 +71,40 @@ fn take_seen<'a, X: Reactor, N: LaneSession, S: PenStart>(
     clock: &LaneClock,
     script: &'a Script,
     map: &LaneMap<'a>,
-    state: LaneState,
+    state: &mut LaneState,
     proactor: &mut Proactor<'a, X>,
     note: Note,
-) -> ReactorPolled
-    requires clock { state.pen.seat.clock ≡ clock.now }
+) -> One
+    requires clock { state.old.pen.seat.clock ≡ clock.now }
     requires script { script.now ≡ N.names.script }
     requires map { map.now ≡ script.now }
     requires fits { FitsClock script.now clock.now }
     requires works { proactor.old.tables.failed ≡ false }
     requires keeps { KeepsTurns N.names X.state X.told X.faults N.faults
-        (log_half N.names state.pen.log) proactor.old }
-    requires room { HasTurnRoom N.names state.pen }
-    requires seen { HasGone (looks_full state.lane state.place note) S.start state.pen }
-    requires few { state.place + 1 < 2 ^ 32 }
-    ensures came { TurnCameTo N.names X.faults result.one (with_pen state S.start) result.lane
+        (log_half N.names state.old.pen.log) proactor.old }
+    requires room { HasTurnRoom N.names state.old.pen }
+    requires seen { HasGone (looks_full state.old.lane state.old.place note) S.start
+        state.old.pen }
+    requires few { state.old.place + 1 < 2 ^ 32 }
+    ensures came { TurnCameTo N.names X.faults result (with_pen state.old S.start) state.new
         proactor.old proactor.new }
     ensures keeps { KeepsTurns N.names X.state X.told X.faults N.faults
-        (log_half N.names result.lane.pen.log) proactor.new }
-    ensures room { HasTurnRoom N.names result.lane.pen }
+        (log_half N.names state.new.pen.log) proactor.new }
+    ensures room { HasTurnRoom N.names state.new.pen }
 {
-    let LaneState { mut pen, at } = state;
     if !may_take(script, proactor, note.op) {
-        let at = at.missed_too(note.op);
-        let one = One::Missing(note.op);
-        return ReactorPolled {
-            lane: LaneState { pen, at },
-            one,
-        };
+        state.at = state.at.missed_too(note.op);
+        return One::Missing(note.op);
     }
-    let found = pen.load(clock);
-    if found.stops != at.base {
-        let one = One::Stopped;
-        return ReactorPolled {
-            lane: LaneState { pen, at },
-            one,
-        };
+    let found = state.pen.load(clock);
+    if found.stops != state.at.base {
+        return One::Stopped;
     }
-    let at = at.one_place_on();
-    if take_request::<X, N>(clock, script, map, &mut pen, proactor, note.op) {
-        let one = One::Turned;
-        ReactorPolled {
-            lane: LaneState { pen, at },
-            one,
-        }
-    } else {
-        let one = One::Fault;
-        ReactorPolled {
-            lane: LaneState { pen, at },
-            one,
-        }
+    state.at = state.at.one_place_on();
+    if !take_request::<X, N>(clock, script, map, &mut state.pen, proactor, note.op) {
+        return One::Fault;
     }
+    One::Turned
 }
 
 /// Lets time pass where nothing was seen at the lane's next place: in a running round, where
@@ -138,62 +114,40 @@ fn pass_seen<'a, X: Reactor, N: LaneSession, S: PenStart>(
     clock: &LaneClock,
     script: &'a Script,
     map: &LaneMap<'a>,
-    state: LaneState,
+    state: &mut LaneState,
     proactor: &mut Proactor<'a, X>,
-) -> ReactorPolled
-    requires clock { state.pen.seat.clock ≡ clock.now }
+) -> One
+    requires clock { state.old.pen.seat.clock ≡ clock.now }
     requires script { script.now ≡ N.names.script }
     requires map { map.now ≡ script.now }
     requires fits { FitsClock script.now clock.now }
     requires works { proactor.old.tables.failed ≡ false }
     requires keeps { KeepsTurns N.names X.state X.told X.faults N.faults
-        (log_half N.names state.pen.log) proactor.old }
-    requires room { HasTurnRoom N.names state.pen }
-    requires seen { HasGone (looks_empty N.names.script state.lane state.place) S.start
-        state.pen }
-    ensures came { TurnCameTo N.names X.faults result.one (with_pen state S.start) result.lane
+        (log_half N.names state.old.pen.log) proactor.old }
+    requires room { HasTurnRoom N.names state.old.pen }
+    requires seen { HasGone (looks_empty N.names.script state.old.lane state.old.place) S.start
+        state.old.pen }
+    ensures came { TurnCameTo N.names X.faults result (with_pen state.old S.start) state.new
         proactor.old proactor.new }
     ensures keeps { KeepsTurns N.names X.state X.told X.faults N.faults
-        (log_half N.names result.lane.pen.log) proactor.new }
-    ensures room { HasTurnRoom N.names result.lane.pen }
+        (log_half N.names state.new.pen.log) proactor.new }
+    ensures room { HasTurnRoom N.names state.new.pen }
 {
     scripts_are_well_formed(script);
-    let LaneState { mut pen, at } = state;
-    if !may_wait(proactor, at.running) {
-        let one = One::Nothing;
-        return ReactorPolled {
-            lane: LaneState { pen, at },
-            one,
-        };
+    if !may_wait(proactor, state.at.running) {
+        return One::Nothing;
     }
-    let load = pen.load(clock);
-    if load.stops != at.base {
-        let one = One::Stopped;
-        return ReactorPolled {
-            lane: LaneState { pen, at },
-            one,
-        };
+    let load = state.pen.load(clock);
+    if load.stops != state.at.base {
+        return One::Stopped;
     }
     if load.work != idle_work(proactor) {
-        let one = One::Nothing;
-        return ReactorPolled {
-            lane: LaneState { pen, at },
-            one,
-        };
+        return One::Nothing;
     }
-    if pass_time::<X, N>(clock, script, map, &mut pen, proactor) {
-        let one = One::Turned;
-        ReactorPolled {
-            lane: LaneState { pen, at },
-            one,
-        }
-    } else {
-        let one = One::Fault;
-        ReactorPolled {
-            lane: LaneState { pen, at },
-            one,
-        }
+    if !pass_time::<X, N>(clock, script, map, &mut state.pen, proactor) {
+        return One::Fault;
     }
+    One::Turned
 }
 
 /// Looks at the lane's next place, and takes the request that it sees there. Where it sees none, time
@@ -205,41 +159,30 @@ pub fn poll_reactor<'a, X: Reactor, N: LaneSession, S: PenStart>(
     clock: &LaneClock,
     script: &'a Script,
     map: &LaneMap<'a>,
-    state: LaneState,
+    state: &mut LaneState,
     proactor: &mut Proactor<'a, X>,
-) -> ReactorPolled
-    requires start { S.start ≡ state.pen }
-    requires clock { state.pen.seat.clock ≡ clock.now }
+) -> One
+    requires start { S.start ≡ state.old.pen }
+    requires clock { state.old.pen.seat.clock ≡ clock.now }
     requires script { script.now ≡ N.names.script }
     requires map { map.now ≡ script.now }
     requires fits { FitsClock script.now clock.now }
-    requires lane { state.lane < length (cells_of script.now) }
+    requires lane { state.old.lane < length (cells_of script.now) }
     requires keeps { KeepsTurns N.names X.state X.told X.faults N.faults
-        (log_half N.names state.pen.log) proactor.old }
-    requires room { HasTurnRoom N.names state.pen }
-    ensures came { TurnCameTo N.names X.faults result.one state result.lane proactor.old
+        (log_half N.names state.old.pen.log) proactor.old }
+    requires room { HasTurnRoom N.names state.old.pen }
+    ensures came { TurnCameTo N.names X.faults result state.old state.new proactor.old
         proactor.new }
     ensures keeps { KeepsTurns N.names X.state X.told X.faults N.faults
-        (log_half N.names result.lane.pen.log) proactor.new }
-    ensures room { HasTurnRoom N.names result.lane.pen }
+        (log_half N.names state.new.pen.log) proactor.new }
+    ensures room { HasTurnRoom N.names state.new.pen }
 {
-    let LaneState { mut pen, at } = state;
     if proactor.failed() {
-        pen.load(clock);
-        let one = One::Stopped;
-        return ReactorPolled {
-            lane: LaneState { pen, at },
-            one,
-        };
+        state.pen.load(clock);
+        return One::Stopped;
     }
-    match see_next(clock, map, &mut pen, at.lane, at.place) {
-        Some(note) => {
-            let state = LaneState { pen, at };
-            take_seen::<X, N, S>(clock, script, map, state, proactor, note)
-        }
-        None => {
-            let state = LaneState { pen, at };
-            pass_seen::<X, N, S>(clock, script, map, state, proactor)
-        }
+    match see_next(clock, map, &mut state.pen, state.at.lane, state.at.place) {
+        Some(note) => take_seen::<X, N, S>(clock, script, map, state, proactor, note),
+        None => pass_seen::<X, N, S>(clock, script, map, state, proactor),
     }
 }

@@ -1,4 +1,4 @@
-//! Handlers that count how they are spent, and that may wait for another one.
+//! Handlers that count how they are spent, and that may wait for others.
 
 ghost use Rattle.std.specs.Prelude.{◌≡◌, length};
 ghost use Rattle.op_handlers.specs.Rack.{IsWholeRack, handlers_in};
@@ -12,30 +12,32 @@ use std::alloc::Global;
 use std::process::Abort;
 use std::sync::atomic::{AtomicU64, Ordering};
 
-/// How many handlers were executed, how many of them saw that a second one was, and how many were
-/// discarded.
+/// How many handlers were executed, how many of them saw that as many were as each looks for, and how
+/// many were discarded.
 #[derive(Drop)]
 pub(crate) struct Executions {
     count: AtomicU64,
     discards: AtomicU64,
     met: AtomicU64,
-    /// How often each looks for a second one.
+    /// How often each looks, and for how many in all.
     looks: u32,
+    company: u64,
 }
 
 impl Executions {
-    /// Where none was, and none looks for another one.
+    /// Where none was, and none looks for others.
     pub(crate) fn none() -> Executions {
-        Executions::with_looks(0)
+        Executions::looking(0, 0)
     }
 
-    /// Where none was, and each looks so often for a second one.
-    pub(crate) fn with_looks(looks: u32) -> Executions {
+    /// Where none was, and each looks so often whether so many were, itself among them.
+    pub(crate) fn looking(looks: u32, company: u64) -> Executions {
         Executions {
             count: AtomicU64::new(0),
             discards: AtomicU64::new(0),
             met: AtomicU64::new(0),
             looks,
+            company,
         }
     }
 
@@ -49,16 +51,16 @@ impl Executions {
         self.discards.load(Ordering::SeqCst)
     }
 
-    /// How many saw a second one.
+    /// How many saw as many as each looks for.
     pub(crate) fn met(&self) -> u64 {
         self.met.load(Ordering::SeqCst)
     }
 
-    /// One more is executed, and looks for a second one until it sees it or gives up.
+    /// One more is executed, and looks for the others until it sees them or gives up.
     fn come(&self) {
         self.count.fetch_add(1, Ordering::SeqCst);
         for _ in 0..self.looks {
-            if self.count() >= 2 {
+            if self.count() >= self.company {
                 self.met.fetch_add(1, Ordering::SeqCst);
                 return;
             }
@@ -66,7 +68,7 @@ impl Executions {
     }
 }
 
-/// A handler that counts its execution, and then waits for a second one.
+/// A handler that counts its execution, and then waits for others.
 pub(crate) struct Counting<'a> {
     number: u64,
     executions: &'a Executions,

@@ -2,7 +2,7 @@ use Rattle.std.proofs.Common.{◌≡◌, ◌<◌, Some, get_or, length, refl, se
 use Rattle.std.specs.Prelude.{slice_get}
 use Rattle.std.proofs.lemmas.List.{set-get_or}
 use Rattle.std.proofs.lemmas.Option.{slice_get-get_or}
-use Rattle.lane_turns.proofs.AttendingLemmas.{more_heard, none_heard, on_and_on, on_heard, on_same}
+use Rattle.lane_turns.proofs.AttendingLemmas.{more_heard, more_known, none_heard, none_known, on_and_on, on_heard, on_same}
 use Rattle.lane_turns.proofs.BenchLemmas.{more_started, none_started}
 use Rattle.lane_turns.proofs.bench.hear_all.Goals as goal
 
@@ -12,6 +12,7 @@ loop-one-init g c =
       same = refl;
       on = on_same c.args.opener.now;
       heard = none_heard g.T.Attendee.seat g.N.LaneSession.names.script c.args.opener.now c.args.all.now;
+      known = none_known g.T.Attendee.seat g.N.LaneSession.names.script c.args.opener.now c.args.all.now;
       started = none_started g.T.Attendee.seat g.T.Attendee.place c.args.all.now;
     }
 
@@ -34,7 +35,15 @@ loop-one-preserved g c =
       heard =
           more_heard g.T.Attendee.seat g.N.LaneSession.names.script c.loop-one.opener c.report.new.opener
           c.args.all.now i one at c.loop-one.invariant.heard c.report.ensures.heard;
+      known =
+          more_known g.T.Attendee.seat g.N.LaneSession.names.script c.loop-one.opener c.report.new.opener
+          c.args.all.now i one at c.loop-one.invariant.known c.report.ensures.heard;
       started =
           more_started g.T.Attendee.seat g.T.Attendee.place c.args.all.now i one at c.loop-one.invariant.started
           c.report.ensures.started;
     }
+
+pub returns-clause-known : goal.returns-clause-known
+returns-clause-known g c = λ k one less at.
+    c.loop-one.invariant.known k one
+    (omega (arith, less, c.loop-one-test.false, c.loop-one.auto.all, ap length c.loop-one.invariant.same)) at

@@ -10,8 +10,8 @@ use Rattle.lane_turns.proofs.PollingLemmas.{standing}
 use Rattle.lane_turns.proofs.ReactorPollingLemmas.{broke_next, few_pending, found_work, guards_few, half_works, idle_is, left_time, loaded_room, passed_next, waits_is}
 use Rattle.lane_turns.proofs.reactor_polling.pass_seen.Goals as goal
 
-pub returns-then-load-at-clause-room : goal.returns-then-load-at-clause-room
-returns-then-load-at-clause-room g c =
+pub returns-then-load-state-clause-room : goal.returns-then-load-state-clause-room
+returns-then-load-state-clause-room g c =
     loaded_room g.N.LaneSession.names c.load-load.result c.state.inside.pen c.load-load.new.self c.load-load.ensures.gone
     (subst (λ (s : LaneView). HasTurnRoom g.N.LaneSession.names s.pen) (sym c.state.view_is) c.requires.room)
 
@@ -33,8 +33,8 @@ idle_work-requires g c =
     (log_half g.N.LaneSession.names s.pen.log) c.args.proactor.now) (sym c.state.view_is) c.requires.keeps)
     c.requires.works (subst IsWellFormed c.requires.script c.scripts_are_well_formed.ensures)
 
-pub returns-then-load-at-clause-came : goal.returns-then-load-at-clause-came
-returns-then-load-at-clause-came g c = (
+pub returns-then-load-state-clause-came : goal.returns-then-load-state-clause-came
+returns-then-load-state-clause-came g c = (
   inr (inl (subst (λ (s : LaneView).
       LeftTime g.N.LaneSession.names (with_pen s g.S.PenStart.start) (standing c.state.inside.at c.load-load.new.self)) c.state.view_is
       (left_time g.N.LaneSession.names c.state.inside.at g.S.PenStart.start c.state.inside.pen
@@ -55,7 +55,7 @@ returns-then-load-at-clause-came g c = (
       KeepsTurns g.N.LaneSession.names g.X.Reactor.state g.X.Reactor.told g.X.Reactor.faults g.N.LaneSession.faults
       (log_half g.N.LaneSession.names s.pen.log) c.args.proactor.now) (sym c.state.view_is) c.requires.keeps)
       c.requires.works c.state.inside.at.running c.may_wait.result c.may_wait.ensures c.if-not-may_wait.false).1
-      c.load-load.result c.load-load.new.self c.load-load.ensures.gone (λ same. absurd (c.if-load-at.true same))))),
+      c.load-load.result c.load-load.new.self c.load-load.ensures.gone (λ same. absurd (c.if-load-state.true same))))),
   refl,
 )
 
@@ -81,7 +81,7 @@ returns-then-load-idle_work-clause-came g c = (
       KeepsTurns g.N.LaneSession.names g.X.Reactor.state g.X.Reactor.told g.X.Reactor.faults g.N.LaneSession.faults
       (log_half g.N.LaneSession.names s.pen.log) c.args.proactor.now) (sym c.state.view_is) c.requires.keeps)
       c.requires.works c.state.inside.at.running c.may_wait.result c.may_wait.ensures c.if-not-may_wait.false).1
-      c.load-load.result c.load-load.new.self c.load-load.ensures.gone c.if-load-at.false
+      c.load-load.result c.load-load.new.self c.load-load.ensures.gone c.if-load-state.false
       (λ same. c.if-load-idle_work.true (same ∙ sym (idle_is g.N.LaneSession.names g.X.Reactor.state g.X.Reactor.told g.X.Reactor.faults g.N.LaneSession.faults
       (log_half g.N.LaneSession.names c.state.inside.pen.log) c.args.proactor.now (subst (λ (s : LaneView).
       KeepsTurns g.N.LaneSession.names g.X.Reactor.state g.X.Reactor.told g.X.Reactor.faults g.N.LaneSession.faults
@@ -91,8 +91,8 @@ returns-then-load-idle_work-clause-came g c = (
   refl,
 )
 
-pub returns-then-pass_time-clause-came : goal.returns-then-pass_time-clause-came
-returns-then-pass_time-clause-came g c = (
+pub returns-clause-came : goal.returns-clause-came
+returns-clause-came g c = (
   subst (λ (s : LaneView).
       TurnedNext g.N.LaneSession.names false (with_pen s g.S.PenStart.start) (standing c.state.inside.at c.pass_time.new.pen)) c.state.view_is
       (passed_next g.N.LaneSession.names c.state.inside.at g.S.PenStart.start c.state.inside.pen
@@ -113,18 +113,18 @@ returns-then-pass_time-clause-came g c = (
       KeepsTurns g.N.LaneSession.names g.X.Reactor.state g.X.Reactor.told g.X.Reactor.faults g.N.LaneSession.faults
       (log_half g.N.LaneSession.names s.pen.log) c.args.proactor.now) (sym c.state.view_is) c.requires.keeps)
       c.requires.works c.state.inside.at.running c.may_wait.result c.may_wait.ensures c.if-not-may_wait.false).1
-      c.load-load.result c.load-load.new.self c.load-load.ensures.gone c.if-load-at.false (c.if-load-idle_work.false ∙ (idle_is g.N.LaneSession.names g.X.Reactor.state g.X.Reactor.told g.X.Reactor.faults g.N.LaneSession.faults
+      c.load-load.result c.load-load.new.self c.load-load.ensures.gone c.if-load-state.false (c.if-load-idle_work.false ∙ (idle_is g.N.LaneSession.names g.X.Reactor.state g.X.Reactor.told g.X.Reactor.faults g.N.LaneSession.faults
       (log_half g.N.LaneSession.names c.state.inside.pen.log) c.args.proactor.now (subst (λ (s : LaneView).
       KeepsTurns g.N.LaneSession.names g.X.Reactor.state g.X.Reactor.told g.X.Reactor.faults g.N.LaneSession.faults
       (log_half g.N.LaneSession.names s.pen.log) c.args.proactor.now) (sym c.state.view_is) c.requires.keeps)
       c.requires.works c.idle_work.result c.idle_work.ensures
       (few_pending g.N.LaneSession.names c.state.inside.pen (subst (λ (s : LaneView). HasTurnRoom g.N.LaneSession.names s.pen) (sym c.state.view_is) c.requires.room))))
-      c.pass_time.new.pen false (c.pass_time.ensures.passed c.if-pass_time.true)),
-  c.pass_time.ensures.stood c.if-pass_time.true,
+      c.pass_time.new.pen false (c.pass_time.ensures.passed c.if-not-pass_time.false)),
+  c.pass_time.ensures.stood c.if-not-pass_time.false,
 )
 
-pub returns-else-pass_time-clause-came : goal.returns-else-pass_time-clause-came
-returns-else-pass_time-clause-came g c = (
+pub returns-then-not-pass_time-clause-came : goal.returns-then-not-pass_time-clause-came
+returns-then-not-pass_time-clause-came g c = (
   subst (λ (s : LaneView).
       TurnedNext g.N.LaneSession.names true (with_pen s g.S.PenStart.start) (standing c.state.inside.at c.pass_time.new.pen)
       ⊎ FailedNext g.N.LaneSession.names (with_pen s g.S.PenStart.start) (standing c.state.inside.at c.pass_time.new.pen)) c.state.view_is
@@ -146,12 +146,12 @@ returns-else-pass_time-clause-came g c = (
       KeepsTurns g.N.LaneSession.names g.X.Reactor.state g.X.Reactor.told g.X.Reactor.faults g.N.LaneSession.faults
       (log_half g.N.LaneSession.names s.pen.log) c.args.proactor.now) (sym c.state.view_is) c.requires.keeps)
       c.requires.works c.state.inside.at.running c.may_wait.result c.may_wait.ensures c.if-not-may_wait.false).1
-      c.load-load.result c.load-load.new.self c.load-load.ensures.gone c.if-load-at.false (c.if-load-idle_work.false ∙ (idle_is g.N.LaneSession.names g.X.Reactor.state g.X.Reactor.told g.X.Reactor.faults g.N.LaneSession.faults
+      c.load-load.result c.load-load.new.self c.load-load.ensures.gone c.if-load-state.false (c.if-load-idle_work.false ∙ (idle_is g.N.LaneSession.names g.X.Reactor.state g.X.Reactor.told g.X.Reactor.faults g.N.LaneSession.faults
       (log_half g.N.LaneSession.names c.state.inside.pen.log) c.args.proactor.now (subst (λ (s : LaneView).
       KeepsTurns g.N.LaneSession.names g.X.Reactor.state g.X.Reactor.told g.X.Reactor.faults g.N.LaneSession.faults
       (log_half g.N.LaneSession.names s.pen.log) c.args.proactor.now) (sym c.state.view_is) c.requires.keeps)
       c.requires.works c.idle_work.result c.idle_work.ensures
       (few_pending g.N.LaneSession.names c.state.inside.pen (subst (λ (s : LaneView). HasTurnRoom g.N.LaneSession.names s.pen) (sym c.state.view_is) c.requires.room))))
-      c.pass_time.new.pen (c.pass_time.ensures.failed c.if-pass_time.false)),
-  c.pass_time.ensures.rose c.if-pass_time.false,
+      c.pass_time.new.pen (c.pass_time.ensures.failed c.if-not-pass_time.true)),
+  c.pass_time.ensures.rose c.if-not-pass_time.true,
 )

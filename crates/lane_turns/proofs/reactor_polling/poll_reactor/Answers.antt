@@ -47,18 +47,18 @@ pass_seen-requires-clause-seen g c =
 
 pub returns-in-Some-clause-came : goal.returns-in-Some-clause-came
 returns-in-Some-clause-came g c =
-    from_view g.N.LaneSession.names g.X.Reactor.faults c.take_seen.result.one c.state.inside.at c.state.inside.pen c.see_next.new.pen
-    c.args.state c.take_seen.result.lane c.args.proactor.now c.take_seen.new.proactor c.state.view_is
+    from_view g.N.LaneSession.names g.X.Reactor.faults c.take_seen.result c.state.inside.at c.state.inside.pen c.see_next.new.pen
+    c.args.state.now c.take_seen.new.state c.args.proactor.now c.take_seen.new.proactor c.state.view_is
     (subst (λ (pen : PenView).
-    TurnCameTo g.N.LaneSession.names g.X.Reactor.faults c.take_seen.result.one
-    (with_pen (standing c.state.inside.at c.see_next.new.pen) pen) c.take_seen.result.lane c.args.proactor.now
+    TurnCameTo g.N.LaneSession.names g.X.Reactor.faults c.take_seen.result
+    (with_pen (standing c.state.inside.at c.see_next.new.pen) pen) c.take_seen.new.state c.args.proactor.now
     c.take_seen.new.proactor) c.requires.start c.take_seen.ensures.came)
 
 pub returns-in-None-clause-came : goal.returns-in-None-clause-came
 returns-in-None-clause-came g c =
-    from_view g.N.LaneSession.names g.X.Reactor.faults c.pass_seen.result.one c.state.inside.at c.state.inside.pen c.see_next.new.pen
-    c.args.state c.pass_seen.result.lane c.args.proactor.now c.pass_seen.new.proactor c.state.view_is
+    from_view g.N.LaneSession.names g.X.Reactor.faults c.pass_seen.result c.state.inside.at c.state.inside.pen c.see_next.new.pen
+    c.args.state.now c.pass_seen.new.state c.args.proactor.now c.pass_seen.new.proactor c.state.view_is
     (subst (λ (pen : PenView).
-    TurnCameTo g.N.LaneSession.names g.X.Reactor.faults c.pass_seen.result.one
-    (with_pen (standing c.state.inside.at c.see_next.new.pen) pen) c.pass_seen.result.lane c.args.proactor.now
+    TurnCameTo g.N.LaneSession.names g.X.Reactor.faults c.pass_seen.result
+    (with_pen (standing c.state.inside.at c.see_next.new.pen) pen) c.pass_seen.new.state c.args.proactor.now
     c.pass_seen.new.proactor) c.requires.start c.pass_seen.ensures.came)

@@ -8,10 +8,11 @@ returns-then-has_one_faulted-clause-ended g c =
     let t =
     tries (terms g.N.LaneSession.names g.H.CompletionHandler.marks g.X.Reactor.state g.X.Reactor.told g.X.Reactor.faults
     g.N.LaneSession.faults g.N.LaneSession.clock) 16 in
+    let told = c.has_one_faulted.ensures.knows c.if-has_one_faulted.true in
     ended_faulted t c.args.self.now.lanes c.args.opener.now c.meet_around.new.opener c.args.workers.now
     c.meet_around.new.workers c.meet_around.ensures.on c.meet_around.ensures.known
-    (c.has_one_faulted.ensures.one c.if-has_one_faulted.true)
-    (c.has_one_faulted.ensures.knows c.if-has_one_faulted.true)
+    (c.has_one_faulted.ensures.one c.if-has_one_faulted.true) told
+    (c.meet_around.ensures.worker_knew told.index told.worker told.at told.knows)
     c.meet_around.ensures.rest c.meet_around.ensures.remember c.meet_around.ensures.rounds
 
 pub returns-then-has_one_faulted-clause-free : goal.returns-then-has_one_faulted-clause-free

@@ -24,10 +24,11 @@ returns-then-has_one_faulted-clause-ended g c =
     let t =
     tries (terms g.N.LaneSession.names g.H.CompletionHandler.marks g.X.Reactor.state g.X.Reactor.told g.X.Reactor.faults
     g.N.LaneSession.faults g.N.LaneSession.clock) 16 in
+    let told = c.has_one_faulted.ensures.knows c.if-has_one_faulted.true in
     run_faulted t c.args.self.now.lanes c.run_last-end.result.end c.args.workers.now c.run_last-end.new.workers
     c.run_last-end.ensures.ran c.args.opener.now c.meet_around.new.opener c.meet_around.new.workers
-    c.meet_around.ensures.on c.meet_around.ensures.known (c.has_one_faulted.ensures.one c.if-has_one_faulted.true)
-    (c.has_one_faulted.ensures.knows c.if-has_one_faulted.true)
+    c.meet_around.ensures.on c.meet_around.ensures.known (c.has_one_faulted.ensures.one c.if-has_one_faulted.true) told
+    (c.meet_around.ensures.worker_knew told.index told.worker told.at told.knows)
     c.meet_around.ensures.rest c.meet_around.ensures.remember c.meet_around.ensures.rounds
 
 pub returns-then-has_one_faulted-clause-free : goal.returns-then-has_one_faulted-clause-free
@@ -71,7 +72,8 @@ returns-clause-ended g c =
     (c.has_one_faulted.ensures.none c.if-has_one_faulted.false) c.args.opener.now c.try_closing-tried.new.opener
     c.try_closing-tried.new.workers
     c.try_closing-tried.ensures.rest c.try_closing-tried.ensures.remember
-    c.try_closing-tried.result c.try_closing-tried.ensures.tried c.try_closing-tried.ensures.rounds)
+    c.try_closing-tried.result c.try_closing-tried.ensures.tried c.try_closing-tried.ensures.met
+    c.try_closing-tried.ensures.rounds)
 
 pub returns-clause-vain : goal.returns-clause-vain
 returns-clause-vain g c =

@@ -26,3 +26,6 @@ returns-clause-logs g c = c.close_bench.ensures.ended.logs
 
 pub returns-clause-remember : goal.returns-clause-remember
 returns-clause-remember g c = c.close_bench.ensures.ended.remember
+
+pub returns-clause-met : goal.returns-clause-met
+returns-clause-met g c = c.close_bench.ensures.ended.met

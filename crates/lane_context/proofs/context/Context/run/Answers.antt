@@ -4,6 +4,7 @@ use Rattle.lane_turns.specs.LaneValues.{terms, tries}
 use Rattle.lane_turns.specs.Runs.{HasReadAs, at_first, with_end}
 use Rattle.lane_turns.specs.declared.run_end.RunEnd.TheVariants as end
 use Rattle.lane_context.proofs.RunLemmas.{ended_on, has_run, met_fault, turns_on}
+use Rattle.lane_context.proofs.StopLemmas.{run_stopped}
 use Rattle.lane_turns.proofs.ScanLemmas.{on_and_on, on_same}
 use Rattle.lane_context.proofs.context.Context.run.Goals as goal
 
@@ -29,6 +30,14 @@ returns-in-Some-run_round-clause-stopped g c = λ stopped.
       read = subst (λ (w : WorkerState g.row.H.Denot g.row.X.Denot). HasReadAs true w c.run_round.new.worker) same once.1;
       kept = c.ends.ensures.kept ∙ ap (λ now. with_end c.run_round.new.worker now) is;
     }
+
+pub returns-in-Some-run_round-clause-cause : goal.returns-in-Some-run_round-clause-cause
+returns-in-Some-run_round-clause-cause g c = λ is.
+    let t =
+    tries (terms g.N.LaneSession.names g.H.CompletionHandler.marks g.X.Reactor.state g.X.Reactor.told g.X.Reactor.faults
+    g.N.LaneSession.faults g.N.LaneSession.clock) 16 in
+    run_stopped t c.args.self.now.lanes c.ends.result c.args.worker.now c.ends.new.self
+    (returns-in-Some-run_round-clause-run g c) is
 
 pub loop-init : goal.loop-init
 loop-init g c =

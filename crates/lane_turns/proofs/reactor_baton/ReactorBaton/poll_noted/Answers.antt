@@ -3,5 +3,5 @@ use Rattle.lane_turns.proofs.reactor_baton.ReactorBaton.poll_noted.Goals as goal
 
 pub returns-clause-home : goal.returns-clause-home
 returns-clause-home g c =
-    same_reactor_lane g.N.LaneSession.names g.X.Reactor.faults c.poll-came.result.one c.args.self.lane
-    c.poll-came.result.baton.lane c.args.self.proactor c.poll-came.result.baton.proactor c.poll-came.ensures.came
+    same_reactor_lane g.N.LaneSession.names g.X.Reactor.faults c.poll-one.result c.args.self.now.lane
+    c.poll-one.new.self.lane c.args.self.now.proactor c.poll-one.new.self.proactor c.poll-one.ensures.came
