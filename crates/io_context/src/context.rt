@@ -17,7 +17,6 @@ use io_history::{HistoryTable, Keeper, Named};
 use io_reactor::{Edges, Reactor};
 use io_rules::Limits;
 use io_scheduler::{Scheduler, Section};
-use io_sockets::Sockets;
 use std::alloc::Global;
 use std::sync::atomic::{AtomicBool, Ordering};
 use std::sync::ledger::Share;
@@ -67,14 +66,9 @@ impl<H: Handler, C: Named, W: Reactor> Context<H, C, W> {
             return Err(NoMemory);
         };
         let poller = Poller { poll, edges };
-        let Ok(sockets) = Sockets::make(alloc, limits.streams) else {
+        let Ok(set) = SocketSet::make(alloc, limits.streams, &reactor) else {
             poller.finish(reactor);
             return Err(NoMemory);
-        };
-        let set = SocketSet {
-            sockets,
-            places: limits.streams,
-            starved: false,
         };
         let (ended, share) = ledger.open::<C>();
         match Scheduler::make(alloc, limits, Keeper::of(seat, ended)) {

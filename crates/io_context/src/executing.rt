@@ -4,7 +4,7 @@ use crate::context::Context;
 use crate::invocation::{Invocation, Looks, Next, Pause, invoke};
 use crate::shared::Shared;
 use crate::sockets::close_those;
-use crate::system_call::make;
+use crate::system_call::{SystemCall, close, make_all};
 use crate::worker::Worker;
 use io_handlers::Handler;
 use io_history::Named;
@@ -15,7 +15,7 @@ use std::sync::{MutexGuard, Wait};
 /// What a worker does besides when a handler has returned.
 #[derive(Clone, Copy)]
 pub(crate) struct Rhythm {
-    /// It reads the clock.
+    /// It reads the clock, and looks at the sockets that are listed before it takes a handler.
     pub(crate) reads: bool,
     /// It looks at the outside.
     pub(crate) glances: bool,
@@ -33,6 +33,7 @@ impl<H: Handler, C: Named, W: Reactor> Context<H, C, W> {
             now: Some(self.reactor.now()),
             waits,
             glances: false,
+            calls_first: false,
         }
     }
 
@@ -42,8 +43,9 @@ impl<H: Handler, C: Named, W: Reactor> Context<H, C, W> {
             now: Some(self.reactor.now()),
             waits,
             glances: !waits,
+            calls_first: true,
         };
-        let mut shared = self.shared.lock(rt);
+        let mut shared = self.enter(rt);
         let next = shared.begin(&self.table, looks);
         self.go_on(rt, shared, next, waits)
     }
@@ -76,8 +78,9 @@ impl<H: Handler, C: Named, W: Reactor> Context<H, C, W> {
             now: self.read_if(rhythm.reads || staging.delays()),
             waits: rhythm.waits,
             glances: rhythm.glances,
+            calls_first: rhythm.reads,
         };
-        let mut shared = self.shared.lock(rt);
+        let mut shared = self.enter(rt);
         let by = &mut worker.share;
         let next = shared.end(&self.table, running, state, mark, &mut staging, by, looks);
         match worker.staging.replace(staging) {
@@ -97,6 +100,7 @@ impl<H: Handler, C: Named, W: Reactor> Context<H, C, W> {
     }
 
     /// Invokes what begins, with the lock free.
+    #[inline(always)]
     fn go_on<'a, R: Wait>(
         &'a self,
         rt: &R,
@@ -115,6 +119,7 @@ impl<H: Handler, C: Named, W: Reactor> Context<H, C, W> {
     }
 
     /// Waits for the outside until this time, or until it is woken. Where that fails the context stops.
+    #[inline(never)]
     fn watch<'a, R: Wait>(
         &'a self,
         rt: &R,
@@ -128,9 +133,50 @@ impl<H: Handler, C: Named, W: Reactor> Context<H, C, W> {
             self.failed.store(true, Ordering::SeqCst);
             let _section = self.stop(rt);
         }
-        let mut shared = self.shared.lock(rt);
+        let mut shared = self.enter(rt);
         let next = shared.begin_watched(&self.table, poller.edges.as_slice(), looks);
         drop(poller);
+        (shared, next)
+    }
+
+    /// What system calls have answered takes effect; what is next then.
+    #[inline(never)]
+    fn put_back<'a, R: Wait>(
+        &'a self,
+        rt: &R,
+        calls: Vec<SystemCall<W::Socket>>,
+        waits: bool,
+    ) -> Locked<'a, H, C, W::Socket> {
+        let looks = Looks {
+            now: None,
+            waits,
+            glances: false,
+            calls_first: false,
+        };
+        let mut shared = self.enter(rt);
+        let next = shared.put_back(&self.table, calls, looks);
+        (shared, next)
+    }
+
+    /// Looks again for what is next.
+    #[inline(never)]
+    fn begin_again<'a, R: Wait>(&'a self, rt: &R, waits: bool) -> Locked<'a, H, C, W::Socket> {
+        let looks = self.looks(waits);
+        let mut shared = self.enter(rt);
+        let next = shared.begin(&self.table, looks);
+        (shared, next)
+    }
+
+    /// Sleeps until it is called; what is next then.
+    #[inline(never)]
+    fn sleep<'a, R: Wait>(
+        &'a self,
+        rt: &R,
+        shared: MutexGuard<'a, Shared<H, C, W::Socket>>,
+        waits: bool,
+    ) -> Locked<'a, H, C, W::Socket> {
+        let mut shared = self.more.wait(rt, shared);
+        let next = shared.begin_awake(&self.table, self.looks(waits));
         (shared, next)
     }
 
@@ -152,36 +198,30 @@ impl<H: Handler, C: Named, W: Reactor> Context<H, C, W> {
                 drop(shared);
                 self.wake(wake);
                 H::retire(state);
-                let mut shared = self.shared.lock(rt);
-                let next = shared.begin(&self.table, self.looks(waits));
-                Some((shared, next))
+                Some(self.begin_again(rt, waits))
             }
-            Pause::Call(call, wake) => {
+            Pause::Call(closing, calls, wake) => {
                 drop(shared);
                 self.wake(wake);
-                let returned = make(&self.reactor, call);
-                let looks = Looks {
-                    now: None,
-                    waits,
-                    glances: false,
-                };
-                let mut shared = self.shared.lock(rt);
-                let next = shared.put_back(&self.table, returned, looks);
-                Some((shared, next))
+                close(&self.reactor, closing);
+                let mut calls = calls;
+                make_all(&self.reactor, &mut calls);
+                Some(self.put_back(rt, calls, waits))
             }
-            Pause::Close(leaving, wake) => {
+            Pause::Close(leaving, calls, wake) => {
                 drop(shared);
                 self.wake(wake);
                 close_those(&self.reactor, Some(leaving));
-                let mut shared = self.shared.lock(rt);
-                let next = shared.begin(&self.table, self.looks(waits));
-                Some((shared, next))
+                Some(self.put_back(rt, calls, waits))
+            }
+            Pause::Again(wake) => {
+                drop(shared);
+                self.wake(wake);
+                Some(self.begin_again(rt, waits))
             }
             Pause::Rest(wake) => {
                 self.wake(wake);
-                let mut shared = self.more.wait(rt, shared);
-                let next = shared.begin_awake(&self.table, self.looks(waits));
-                Some((shared, next))
+                Some(self.sleep(rt, shared, waits))
             }
             Pause::Watch(until, wake) => {
                 drop(shared);
@@ -192,6 +232,7 @@ impl<H: Handler, C: Named, W: Reactor> Context<H, C, W> {
     }
 
     /// Waits until a handler begins, if the worker waits; `None` where its call of `run` is to return.
+    #[inline(never)]
     fn pause<'a, R: Wait>(
         &'a self,
         rt: &R,

@@ -1,11 +1,11 @@
-ghost use Rattle.std.specs.Prelude.{◌≡◌};
+ghost use Rattle.std.specs.Prelude.{◌≡◌, IfSome};
 ghost use Rattle.std.specs.Option.{is_some};
 ghost use Rattle.io_context.specs.Invoked.{IsHandlerOf, IsInvoked};
 ghost use Rattle.io_context.specs.Sleeping.{SleepWhileIdle, is_any_listed};
 ghost use Rattle.io_scheduler.specs.Told.{IsOnLane};
 
 use crate::sleepers::{Rest, Sleepers, Wake};
-use crate::sockets::{Leaving, Look, SocketSet};
+use crate::sockets::{Leaving, SocketSet};
 use crate::system_call::SystemCall;
 use io_handlers::{Completion, Handler, Initiator};
 use io_history::{HistoryTable, Named};
@@ -41,10 +41,12 @@ pub(crate) enum Next<H: Handler, C: Named, S> {
 
 /// What a worker does where no handler begins.
 pub(crate) enum Pause<T, S> {
-    /// It makes a system call on a socket.
-    Call(SystemCall<S>, Wake),
-    /// It closes sockets.
-    Close(Leaving<S>, Wake),
+    /// It closes this socket, if there is one, and makes these system calls.
+    Call(Option<S>, Vec<SystemCall<S>>, Wake),
+    /// It closes sockets. These system calls have returned.
+    Close(Leaving<S>, Vec<SystemCall<S>>, Wake),
+    /// It looks again, since other workers have all lists of system calls.
+    Again(Wake),
     /// It retires the state of a strand that is gone.
     Retire(T, Wake),
     /// It sleeps.
@@ -66,6 +68,8 @@ pub(crate) struct Looks {
     pub(crate) waits: bool,
     /// Whether it looks at the outside first.
     pub(crate) glances: bool,
+    /// Whether system calls come before handlers.
+    pub(crate) calls_first: bool,
 }
 
 /// The handler that has begun.
@@ -101,6 +105,7 @@ fn look<H: Handler, C: Named>(
 }
 
 /// What no handler that may begin leaves to be done: a worker that waits is to sleep, unless it is to return.
+#[inline(never)]
 fn take_rest<H: Handler, C: Named, S>(
     scheduler: &mut Scheduler<H, C>,
     sleepers: &mut Sleepers,
@@ -124,8 +129,78 @@ fn take_rest<H: Handler, C: Named, S>(
     }
 }
 
-/// All waits that are due complete, if the clock was read. Then a system call on a socket is made if one may
-/// be, or the next handler begins, if one may; else a worker that waits is to sleep, unless it is to return.
+/// System calls on sockets that are listed, if any may be made.
+fn take_calls<H: Handler, C: Named, S>(
+    scheduler: &mut Scheduler<H, C>,
+    sleepers: &mut Sleepers,
+    set: &mut SocketSet<S>,
+    table: &HistoryTable,
+) -> Option<Pause<H::State, S>>
+    requires table { table.now ≡ C.table }
+    ensures sleepers { IfSome result (λ _. SleepWhileIdle sleepers.new scheduler.new (is_any_listed set.new)) }
+{
+    let Some(mut calls) = set.lists.take() else {
+        if scheduler.is_stopped() || !set.is_any_listed() {
+            return None;
+        }
+        return Some(Pause::Again(sleepers.call(scheduler, set.is_any_listed())));
+    };
+    match set.look(scheduler, table, &mut calls) {
+        None => {
+            if calls.is_empty() {
+                set.lists.give(calls);
+                return None;
+            }
+            let wake = sleepers.call(scheduler, set.is_any_listed());
+            Some(Pause::Call(None, calls, wake))
+        }
+        closing => {
+            let wake = sleepers.call(scheduler, set.is_any_listed());
+            Some(Pause::Call(closing, calls, wake))
+        }
+    }
+}
+
+/// Where no handler may begin, system calls are made; else a worker that waits is to sleep, unless it is to
+/// return.
+fn take_pause<H: Handler, C: Named, S>(
+    scheduler: &mut Scheduler<H, C>,
+    sleepers: &mut Sleepers,
+    set: &mut SocketSet<S>,
+    table: &HistoryTable,
+    waits: bool,
+) -> Pause<H::State, S>
+    requires table { table.now ≡ C.table }
+    ensures sleepers { SleepWhileIdle sleepers.new scheduler.new (is_any_listed set.new) }
+{
+    match take_calls(scheduler, sleepers, set, table) {
+        Some(pause) => pause,
+        None => take_rest(scheduler, sleepers, table, waits, set.is_any_listed()),
+    }
+}
+
+/// The next handler begins, if one may; else system calls are made, or the worker pauses.
+fn take_handler<H: Handler, C: Named, S>(
+    scheduler: &mut Scheduler<H, C>,
+    sleepers: &mut Sleepers,
+    set: &mut SocketSet<S>,
+    table: &HistoryTable,
+    waits: bool,
+) -> Next<H, C, S>
+    requires table { table.now ≡ C.table }
+    ensures sleepers { SleepWhileIdle sleepers.new scheduler.new (is_any_listed set.new) }
+{
+    match scheduler.begin(table) {
+        Some(begun) => Next::Invoke(
+            to_invoke(begun),
+            sleepers.call(scheduler, set.is_any_listed()),
+        ),
+        None => Next::Pause(take_pause(scheduler, sleepers, set, table, waits)),
+    }
+}
+
+/// All waits that are due complete, if the clock was read. Then the next handler begins, or system calls on
+/// sockets are made, if any may be; else a worker that waits is to sleep, unless it is to return.
 pub(crate) fn take_next<H: Handler, C: Named, S>(
     scheduler: &mut Scheduler<H, C>,
     sleepers: &mut Sleepers,
@@ -140,35 +215,12 @@ pub(crate) fn take_next<H: Handler, C: Named, S>(
     if looks.glances && sleepers.glance() {
         return Next::Pause(Pause::Watch(0, sleepers.call(scheduler, set.is_any_listed())));
     }
-    match set.look(scheduler, table) {
-        Look::Call(call) => {
-            return Next::Pause(Pause::Call(call, sleepers.call(scheduler, set.is_any_listed())));
+    if looks.calls_first || set.are_many_listed() {
+        if let Some(pause) = take_calls(scheduler, sleepers, set, table) {
+            return Next::Pause(pause);
         }
-        Look::Close(socket) => {
-            let leaving = Leaving {
-                socket: Some(socket),
-                made: None,
-            };
-            return Next::Pause(Pause::Close(
-                leaving,
-                sleepers.call(scheduler, set.is_any_listed()),
-            ));
-        }
-        Look::Nothing => {}
     }
-    match scheduler.begin(table) {
-        Some(begun) => Next::Invoke(
-            to_invoke(begun),
-            sleepers.call(scheduler, set.is_any_listed()),
-        ),
-        None => Next::Pause(take_rest(
-            scheduler,
-            sleepers,
-            table,
-            looks.waits,
-            set.is_any_listed(),
-        )),
-    }
+    take_handler(scheduler, sleepers, set, table, looks.waits)
 }
 
 /// Invokes a handler, with the state of its strand if it has one; answers its mark and the state.

@@ -3,7 +3,9 @@
 //! whenever the lock is free and whole at its end, in which the laws of the rules hold. Programs stand on it.
 #![tactic(auto)]
 
+mod calls;
 mod context;
+mod entering;
 mod executing;
 mod finishing;
 mod guard;

@@ -13,7 +13,7 @@ use std::sync::ledger::Share;
 use std::thread;
 use std::thread::Threads;
 
-/// A worker that never pauses looks at the clock once in so many handlers.
+/// A worker that never pauses looks at the clock and at the sockets that are listed once in so many handlers.
 const LOOKS_EACH: u64 = 16;
 
 /// And at the outside once in so many.

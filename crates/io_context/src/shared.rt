@@ -25,7 +25,7 @@ use crate::invocation::{Looks, Next, Pause, take_next};
 use crate::refused::{Refused, refuse, refuse_strand, refuse_transfer, refuse_wait};
 use crate::sleepers::{Sleepers, Wake};
 use crate::sockets::{Leaving, SocketSet};
-use crate::system_call::Returned;
+use crate::system_call::SystemCall;
 use io_handlers::{Handler, Staging};
 use io_history::{HistoryTable, Named};
 use io_reactor::Edge;
@@ -145,17 +145,17 @@ impl<H: Handler, C: Named, S> Shared<H, C, S> {
         )
     }
 
-    /// A system call has returned. Then the next handler begins, if one may; sockets that are to be closed are,
+    /// System calls have returned. Then the next handler begins, if one may; sockets that are to be closed are,
     /// before.
     pub(crate) fn put_back(
         &mut self,
         table: &HistoryTable,
-        returned: Returned<S>,
+        calls: Vec<SystemCall<S>>,
         looks: Looks,
     ) -> Next<H, C, S>
         requires { table.now ≡ C.table }
     {
-        match self.set.put_back(&mut self.scheduler, table, returned) {
+        match self.set.put_all_back(&mut self.scheduler, table, calls) {
             None => take_next(
                 &mut self.scheduler,
                 &mut self.sleepers,
@@ -163,9 +163,13 @@ impl<H: Handler, C: Named, S> Shared<H, C, S> {
                 table,
                 looks,
             ),
-            Some(leaving) => {
+            Some((leaving, calls)) => {
                 let listed = self.set.is_any_listed();
-                Next::Pause(Pause::Close(leaving, self.sleepers.call(&self.scheduler, listed)))
+                Next::Pause(Pause::Close(
+                    leaving,
+                    calls,
+                    self.sleepers.call(&self.scheduler, listed),
+                ))
             }
         }
     }

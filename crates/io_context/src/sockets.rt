@@ -1,35 +1,32 @@
-ghost use Rattle.std.specs.Prelude.{◌≡◌};
+ghost use Rattle.std.specs.Prelude.{◌≡◌, ◌<◌, vec_capacity, vec_len};
 ghost use Rattle.io_context.specs.Sleeping.{is_any_listed};
 
-use crate::system_call::{Answer, Returned, SystemCall, close};
+use crate::calls::CallLists;
+use crate::system_call::{Answer, SystemCall, blocked, close};
+use asio_types::NoMemory;
 use io_handlers::{Handler, Staging, Touched};
 use io_history::{HistoryTable, Named};
 use io_reactor::{Edge, Reactor, Readiness};
 use io_rules::{Gave, Name, Side};
 use io_scheduler::{Attempt, Scheduler};
 use io_sockets::{Held, Outcome, Sockets, Stand, Turn, WaitType};
+use std::alloc::Global;
 
-/// What a socket that was looked at is used for.
-pub(crate) enum Look<S> {
-    /// Nothing.
-    Nothing,
-    /// A system call.
-    Call(SystemCall<S>),
-    /// Its stream is gone: it is to be closed.
-    Close(S),
-}
+/// So many sockets are looked at before handlers.
+const MANY_LISTED: usize = 16;
 
 /// Sockets that are to be closed with the lock free.
 pub(crate) struct Leaving<S> {
     pub(crate) socket: Option<S>,
     pub(crate) made: Option<S>,
+    pub(crate) left: Option<S>,
 }
 
 /// Those that are to be closed, if there are any.
-fn left_of<S>(socket: Option<S>, made: Option<S>) -> Option<Leaving<S>> {
-    match (socket, made) {
-        (None, None) => None,
-        (socket, made) => Some(Leaving { socket, made }),
+fn left_of<S>(socket: Option<S>, made: Option<S>, left: Option<S>) -> Option<Leaving<S>> {
+    match (socket, made, left) {
+        (None, None, None) => None,
+        (socket, made, left) => Some(Leaving { socket, made, left }),
     }
 }
 
@@ -40,6 +37,8 @@ pub(crate) struct SocketSet<S> {
     pub(crate) places: u32,
     /// Whether an accept waits for a free place.
     pub(crate) starved: bool,
+    /// For the system calls that workers make.
+    pub(crate) lists: CallLists<S>,
 }
 
 /// Closes sockets, if there are any.
@@ -47,9 +46,10 @@ pub(crate) fn close_those<W: Reactor>(reactor: &W, leaving: Option<Leaving<W::So
     match leaving {
         None => {}
         Some(leaving) => {
-            let Leaving { socket, made } = leaving;
+            let Leaving { socket, made, left } = leaving;
             close(reactor, socket);
             close(reactor, made);
+            close(reactor, left);
         }
     }
 }
@@ -60,13 +60,36 @@ fn is_unused(reserved: Option<Name>, gave: Gave) -> bool {
 }
 
 impl<S> SocketSet<S> {
+    /// So many places without sockets. Takes memory for all of them; `NoMemory` where it is refused.
+    pub(crate) fn make<W: Reactor<Socket = S>>(
+        alloc: Global,
+        places: u32,
+        reactor: &W,
+    ) -> Result<SocketSet<S>, NoMemory> {
+        let lists = CallLists::make(alloc, reactor)?;
+        match Sockets::make(alloc, places) {
+            Ok(sockets) => Ok(SocketSet {
+                sockets,
+                places,
+                starved: false,
+                lists,
+            }),
+            Err(refused) => {
+                lists.close(reactor);
+                Err(refused)
+            }
+        }
+    }
+
     /// Closes all that are here, and gives the memory back.
     pub(crate) fn close_all<W: Reactor<Socket = S>>(self, reactor: &W) {
         let SocketSet {
             sockets,
             places: _,
             starved: _,
+            lists,
         } = self;
+        lists.close(reactor);
         let mut stands = sockets.into_stands();
         'stands: while let Some(stand) = stands.pop() {
             let Stand {
@@ -92,6 +115,11 @@ impl<S> SocketSet<S> {
         self.sockets.turns() > 0
     }
 
+    /// Whether so many are to be looked at that this comes before handlers.
+    pub(crate) fn are_many_listed(&self) -> bool {
+        self.sockets.turns() >= MANY_LISTED
+    }
+
     /// One is to be looked at.
     pub(crate) fn list(&mut self, place: u32, wait: WaitType) {
         if self.sockets.has_place(place) {
@@ -103,7 +131,7 @@ impl<S> SocketSet<S> {
     pub(crate) fn add(&mut self, name: Name, socket: S) -> Option<Leaving<S>> {
         let left = self.sockets.renew(name);
         let made = self.note(name, socket);
-        left_of(left, made)
+        left_of(None, made, left)
     }
 
     /// The socket of this name is here; it comes out where it isn't waited for.
@@ -148,6 +176,7 @@ impl<S> SocketSet<S> {
             attempt,
             socket,
             left,
+            answer: blocked(),
         }
     }
 
@@ -201,93 +230,95 @@ impl<S> SocketSet<S> {
         closed
     }
 
-    /// The system call of a side, if one is worth trying and may begin.
+    /// A system call of a side is to be made, if one is worth trying and may begin.
     fn call_on<H: Handler, C: Named>(
         &mut self,
         scheduler: &mut Scheduler<H, C>,
         table: &HistoryTable,
         name: Name,
         side: Side,
-    ) -> Option<SystemCall<S>>
-        requires { table.now ≡ C.table }
+        calls: &mut Vec<SystemCall<S>>,
+    )
+        requires table { table.now ≡ C.table }
+        requires room { vec_len calls.old < vec_capacity calls.old }
     {
         if !self.sockets.may_be_taken(name) || !self.sockets.is_ready(name, side) {
-            return None;
+            return;
         }
         match scheduler.attempt(table, name, side) {
-            None => {
-                self.starved = self.starved || scheduler.has_listener(name);
-                None
-            }
-            Some(attempt) => Some(self.take(attempt)),
+            None => self.starved = self.starved || scheduler.has_listener(name),
+            Some(attempt) => calls.push_reserved(self.take(attempt)),
         }
     }
 
-    /// What is to be done with a socket that was listed.
+    /// A system call of a socket that was listed is to be made, if one may be. The socket comes out where its
+    /// stream is gone, to be closed.
     fn look_at<H: Handler, C: Named>(
         &mut self,
         scheduler: &mut Scheduler<H, C>,
         table: &HistoryTable,
         turn: Turn,
-    ) -> Look<S>
-        requires { table.now ≡ C.table }
+        calls: &mut Vec<SystemCall<S>>,
+    ) -> Option<S>
+        requires table { table.now ≡ C.table }
+        requires room { vec_len calls.old < vec_capacity calls.old }
     {
         let name = scheduler.stream_name(turn.place);
-        if !scheduler.has_stream(name) {
-            if !self.sockets.has_socket(turn.place) {
-                return Look::Nothing;
-            }
-            return match self.sockets.remove(turn.place) {
-                None => Look::Nothing,
-                Some(socket) => Look::Close(socket),
+        if scheduler.has_stream(name) {
+            let side = match turn.wait {
+                WaitType::Read => Side::Read,
+                WaitType::Write => Side::Write,
             };
+            self.call_on(scheduler, table, name, side, calls);
+            return None;
         }
-        let call = match turn.wait {
-            WaitType::Read => self.call_on(scheduler, table, name, Side::Read),
-            WaitType::Write => self.call_on(scheduler, table, name, Side::Write),
-        };
-        match call {
-            None => Look::Nothing,
-            Some(call) => Look::Call(call),
+        if self.sockets.has_socket(turn.place) {
+            self.sockets.remove(turn.place)
+        } else {
+            None
         }
     }
 
-    /// What is to be done with the first socket of those that are listed with which something is to be done.
+    /// System calls of sockets that are listed are to be made, as far as there is room. The first socket comes
+    /// out whose stream is gone, to be closed.
     pub(crate) fn look<H: Handler, C: Named>(
         &mut self,
         scheduler: &mut Scheduler<H, C>,
         table: &HistoryTable,
-    ) -> Look<S>
+        calls: &mut Vec<SystemCall<S>>,
+    ) -> Option<S>
         requires { table.now ≡ C.table }
     {
         if scheduler.is_stopped() {
-            return Look::Nothing;
+            return None;
         }
         for _ in 0..self.sockets.turns() {
-            let Some(turn) = self.sockets.next() else {
-                return Look::Nothing;
-            };
-            match self.look_at(scheduler, table, turn) {
-                Look::Nothing => {}
-                found => return found,
+            if calls.len() >= calls.capacity() {
+                return None;
+            }
+            let turn = self.sockets.next()?;
+            match self.look_at(scheduler, table, turn, calls) {
+                None => {}
+                Some(socket) => return Some(socket),
             }
         }
-        Look::Nothing
+        None
     }
 
     /// A system call has returned: what it gave is noted, and its socket is here again. What is to be closed
     /// comes out.
-    pub(crate) fn put_back<H: Handler, C: Named>(
+    fn put_back<H: Handler, C: Named>(
         &mut self,
         scheduler: &mut Scheduler<H, C>,
         table: &HistoryTable,
-        returned: Returned<S>,
+        returned: SystemCall<S>,
     ) -> Option<Leaving<S>>
         requires { table.now ≡ C.table }
     {
-        let Returned {
+        let SystemCall {
             attempt,
             socket,
+            left,
             answer,
         } = returned;
         let Answer {
@@ -298,13 +329,33 @@ impl<S> SocketSet<S> {
         let name = attempt.stream;
         let reserved = attempt.reserved;
         if scheduler.back(table, attempt, gave).is_err() {
-            return left_of(socket, made);
+            return left_of(socket, made, left);
         }
         let made = self.note_made(reserved, made);
         let socket = self.give_back(name.place, socket, outcome);
         if !scheduler.has_stream(name) || is_unused(reserved, gave) {
             self.list_listeners(scheduler);
         }
-        left_of(socket, made)
+        left_of(socket, made, left)
+    }
+
+    /// System calls have returned. What is to be closed comes out, with those that are still to be taken.
+    pub(crate) fn put_all_back<H: Handler, C: Named>(
+        &mut self,
+        scheduler: &mut Scheduler<H, C>,
+        table: &HistoryTable,
+        calls: Vec<SystemCall<S>>,
+    ) -> Option<(Leaving<S>, Vec<SystemCall<S>>)>
+        requires { table.now ≡ C.table }
+    {
+        let mut calls = calls;
+        'calls: while let Some(call) = calls.pop() {
+            match self.put_back(scheduler, table, call) {
+                None => {}
+                Some(leaving) => return Some((leaving, calls)),
+            }
+        }
+        self.lists.give(calls);
+        None
     }
 }

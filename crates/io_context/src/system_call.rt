@@ -6,19 +6,14 @@ use io_rules::{Gave, Operation};
 use io_scheduler::Attempt;
 use io_sockets::Outcome;
 
-/// A system call that a worker makes with the lock free, and the socket for it.
+/// A system call that a worker makes with the lock free, the socket for it, and what came of it.
 pub(crate) struct SystemCall<S> {
     pub(crate) attempt: Attempt,
     /// None where it isn't made yet.
     pub(crate) socket: Option<S>,
     /// One that is to be closed before.
     pub(crate) left: Option<S>,
-}
-
-/// What came of it.
-pub(crate) struct Returned<S> {
-    pub(crate) attempt: Attempt,
-    pub(crate) socket: Option<S>,
+    /// That it would block, until it is made.
     pub(crate) answer: Answer<S>,
 }
 
@@ -31,7 +26,7 @@ pub(crate) struct Answer<S> {
 }
 
 /// It would block.
-fn blocked<S>() -> Answer<S> {
+pub(crate) fn blocked<S>() -> Answer<S> {
     Answer {
         gave: Gave::WouldBlock,
         outcome: Outcome::Blocked,
@@ -165,27 +160,49 @@ pub(crate) fn close<W: Reactor>(reactor: &W, socket: Option<W::Socket>) {
     }
 }
 
-/// Makes it.
-pub(crate) fn make<W: Reactor>(reactor: &W, call: SystemCall<W::Socket>) -> Returned<W::Socket> {
-    let SystemCall {
-        mut attempt,
-        socket,
-        left,
-    } = call;
-    close(reactor, left);
-    match socket {
-        None => Returned {
-            attempt,
-            socket: None,
-            answer: blocked(),
-        },
-        Some(mut socket) => {
-            let answer = call_for(reactor, &mut socket, &mut attempt);
-            Returned {
-                attempt,
-                socket: Some(socket),
-                answer,
-            }
+/// What a system call answers becomes this.
+fn set_answer<W: Reactor>(reactor: &W, answer: &mut Answer<W::Socket>, to: Answer<W::Socket>) {
+    let Answer {
+        gave: _,
+        outcome: _,
+        made,
+    } = std::mem::replace(answer, to);
+    close(reactor, made);
+}
+
+/// Makes a system call.
+fn make<W: Reactor>(reactor: &W, call: &mut SystemCall<W::Socket>) {
+    close(reactor, call.left.take());
+    match &mut call.socket {
+        None => {}
+        Some(socket) => {
+            let answer = call_for(reactor, socket, &mut call.attempt);
+            set_answer(reactor, &mut call.answer, answer);
         }
     }
+}
+
+/// Makes these, in order.
+pub(crate) fn make_all<W: Reactor>(reactor: &W, calls: &mut Vec<SystemCall<W::Socket>>) {
+    for call in calls.iter_mut() {
+        make(reactor, call);
+    }
+}
+
+/// Closes the sockets of a system call.
+pub(crate) fn close_call<W: Reactor>(reactor: &W, call: SystemCall<W::Socket>) {
+    let SystemCall {
+        attempt: _,
+        socket,
+        left,
+        answer,
+    } = call;
+    let Answer {
+        gave: _,
+        outcome: _,
+        made,
+    } = answer;
+    close(reactor, socket);
+    close(reactor, left);
+    close(reactor, made);
 }

@@ -69,6 +69,7 @@ impl<H: Handler, C: Named> Scheduler<H, C> {
     }
 
     /// A call that a handler staged takes effect, which has returned at this time.
+    #[inline(always)]
     fn commit_one(
         &mut self,
         table: &HistoryTable,

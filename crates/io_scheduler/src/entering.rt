@@ -8,6 +8,7 @@ use io_rules::Lane;
 use io_strands::{ReadyOp, Strand};
 
 /// An operation that is called is ready, behind the others of its lane or before them.
+#[inline(always)]
 pub(crate) fn enter<H, S>(
     strands: &mut Vec<Strand<H, S>>,
     jobs: &mut Jobs<ReadyOp<H>>,

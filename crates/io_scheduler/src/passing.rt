@@ -114,6 +114,7 @@ fn pass_to<H: Handler, C: Named>(
 impl<H: Handler, C: Named> Scheduler<H, C> {
     /// The clock was read: it comes to this time, unless it has come further already, and all waits that are
     /// due then complete.
+    #[inline(never)]
     pub fn pass(&mut self, table: &HistoryTable, now: u64)
         requires { table.now ≡ C.table }
         ensures { HavePassed (if nat_lt now self.old.now then self.old.now else now) self.old self.new }

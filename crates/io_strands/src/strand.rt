@@ -1,6 +1,6 @@
-ghost use Rattle.std.specs.Prelude.{◌≡◌, ◌+◌, ◌≤◌, ◌++◌, [], false, true, length, slice_get, vec_capacity, vec_len, IfOk, Some};
+ghost use Rattle.std.specs.Prelude.{◌≡◌, ◌+◌, ◌≤◌, ◌++◌, ◌<◌, ◌↔◌, [], false, true, length, slice_get, vec_capacity, vec_len, IfOk, IsSome, Some};
 ghost use Rattle.std.specs.VecDeque.{deque_capacity};
-ghost use Rattle.std.specs.Option.{is_some};
+ghost use Rattle.std.specs.Option.{is_some, option_to_list};
 ghost use Rattle.io_rules.specs.Strands.{First, Last, Later};
 ghost use Rattle.io_strands.specs.declared.ready.ReadyOp.{ReadyOp};
 ghost use Rattle.io_strands.specs.Cell.{MayBeReady, MayBeTied, begun, called, emptied, ended, is_there, may_begin, readied, vacant};
@@ -65,6 +65,20 @@ fn move_all<T>(from: &mut VecDeque<T>, to: &mut Vec<T>)
 {
     while let Some(one) = from.pop_front() {
         to.push_reserved(one);
+    }
+}
+
+/// Takes out the first element. Where it is the only one, the next comes to the same slot: so a queue that is
+/// mostly short keeps to a few slots of its room.
+fn take_first<T>(queue: &mut VecDeque<T>) -> Option<T>
+    ensures items { queue.old.items ≡ option_to_list result ++ queue.new.items }
+    ensures some { IsSome result ↔ (0 < length queue.old.items) }
+    ensures capacity { deque_capacity queue.new ≡ deque_capacity queue.old }
+{
+    if queue.len() == 1 {
+        queue.pop_back()
+    } else {
+        queue.pop_front()
     }
 }
 
@@ -186,7 +200,7 @@ impl<H, S> Strand<H, S> {
         ensures state { self.old.state ≡ Some result.1 }
         ensures begun { self.new ≡ begun result.0 self.old }
     {
-        match (self.queue.pop_front(), self.state.take()) {
+        match (take_first(&mut self.queue), self.state.take()) {
             (Some(op), Some(state)) => {
                 self.front = 0;
                 self.runs = Some(op.number);
