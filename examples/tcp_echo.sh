@@ -11,18 +11,6 @@ fi
 # (each connection is an open file of the server and one of the clients)
 ulimit -n 4096 2> /dev/null || ulimit -n "$(ulimit -Hn)"
 
-# The port that the server writes into the file $1, once it does.
-port_in() {
-  local wait
-  for wait in {1..200}; do
-    if [ -s "$1" ]; then
-      sed -n 's/^port //p' "$1"
-      return
-    fi
-    sleep 0.02
-  done
-}
-
 for workers in 1 2 4; do
   mkfifo "$room/end$workers"
   timeout 460 "$room/tcp_echo" 0 --workers "$workers" < "$room/end$workers" > "$room/said$workers" &
@@ -34,7 +22,7 @@ for workers in 1 2 4; do
     [ "$verdict" = passed ]
     count $? "$name with $workers workers: $verdict"
   done < <(grep -E '^[a-z_]+: (passed|failed)$' "$room/clients")
-  [ "$(grep -cE ': passed$' "$room/clients")" = 7 ]
+  [ "$(grep -cE ': passed$' "$room/clients")" = 8 ]
   count $? "all cases with $workers workers: $(tail -n 3 "$room/clients")"
   exec 9>&-
   wait "$server"

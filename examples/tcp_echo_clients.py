@@ -77,6 +77,18 @@ async def resets():
     return await blocks(1)
 
 
+async def slow_sender():
+    """A client that sends a byte each 50 milliseconds."""
+    reader, writer = await connect()
+    good = True
+    for at in range(20):
+        writer.write(bytes([at]))
+        good = good and await reader.readexactly(1) == bytes([at])
+        await asyncio.sleep(0.05)
+    writer.close()
+    return good
+
+
 async def slow_reader(size=400000):
     """A client that sends much and reads a little at a time."""
     reader, writer = await asyncio.open_connection("127.0.0.1", PORT, limit=2048)
@@ -143,7 +155,7 @@ def files_of(pid):
 
 
 async def all_cases():
-    cases = [all_blocks, half_closes, resets, slow_reader, never_reads, silent_and_idle, above_the_limit]
+    cases = [all_blocks, half_closes, resets, slow_sender, slow_reader, never_reads, silent_and_idle, above_the_limit]
     before = files_of(PID) if PID else 0
     failed = 0
     for case in cases:

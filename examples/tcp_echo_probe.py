@@ -1,6 +1,6 @@
-"""Clients of a tcp_echo that may fail: `tcp_echo_probe.py PORT [SECONDS]`. 8 connections, one behind the other, send a block each and
-compare what comes back: it has to be a first part of the block. With SECONDS, 16 connections send blocks for so long. Prints how many
-blocks came back whole; the status is 1 where a byte was wrong."""
+"""Clients of a tcp_echo that may fail: `tcp_echo_probe.py PORT [SECONDS [CONNECTIONS]]`. 8 connections (or so many), one behind the other,
+send a block each and compare what comes back: it has to be a first part of the block. With SECONDS above 0, 16 connections send blocks
+for so long. Prints how many blocks came back whole; the status is 1 where a byte was wrong."""
 import socket
 import sys
 import threading
@@ -8,6 +8,7 @@ import time
 
 PORT = int(sys.argv[1])
 SECONDS = float(sys.argv[2]) if len(sys.argv) > 2 else 0
+CONNECTIONS = int(sys.argv[3]) if len(sys.argv) > 3 else 8
 whole = 0
 wrong = 0
 counting = threading.Lock()
@@ -71,7 +72,7 @@ if SECONDS:
     for thread in threads:
         thread.join()
 else:
-    for client in range(8):
+    for client in range(CONNECTIONS):
         once(client)
 print(whole)
 sys.exit(wrong > 0)

@@ -46,6 +46,8 @@ files_of() { ls "/proc/$1/fd" | wc -l; }
 for workers in 1 4; do
   start "$room/tcp_echo" 0 --workers "$workers"
   pid=$(server_pid)
+  # (memory is taken at the start, and becomes resident with its first use: each place for a connection is used once)
+  python3 examples/tcp_echo_probe.py "$port" 0 1400 > "$room/whole"
   python3 examples/tcp_echo_probe.py "$port" 1 > "$room/whole"
   before=$(memory_of "$pid")
   files=$(files_of "$pid")

@@ -5,4 +5,4 @@
 
 mod echo;
 
-pub use echo::{Echo, NoState};
+pub use echo::{Activity, Echo, Link, Service};

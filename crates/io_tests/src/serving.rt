@@ -4,8 +4,8 @@ ghost use Rattle.std.specs.Prelude.{◌≡◌};
 
 use crate::running::MEMORY;
 use asio_types::{Failed, NoMemory};
-use echo_handlers::Echo;
-use io_context::{Context, Lane, Limits, Named, NewContext};
+use echo_handlers::{Activity, Echo, Service};
+use io_context::{Context, Lane, Limits, Named, NewContext, Reactor};
 use io_reactor_memory::{
     MemoryPoll, MemoryReactor, PeerScript, PollTurn, ReadEnd, Script, Visit, WriteEnd,
 };
@@ -14,7 +14,6 @@ use std::marker::Brand;
 use std::net::{Ipv4Addr, SocketAddr};
 use std::process::Abort;
 use std::sync::Wait;
-use std::time::Duration;
 
 /// So often the server looks at what has come.
 const LOOKS: usize = 24;
@@ -22,7 +21,7 @@ const LOOKS: usize = 24;
 /// A listener and one connection at a time.
 const LIMITS: Limits = Limits {
     operations: 8,
-    strands: 0,
+    strands: 2,
     timers: 2,
     slots: 0,
     streams: 2,
@@ -31,8 +30,8 @@ const LIMITS: Limits = Limits {
     held: 0,
 };
 
-/// For so many seconds a client may send nothing.
-const IDLE: u64 = 60;
+/// For so many nanoseconds a client may send nothing.
+const IDLE: u64 = 60_000_000_000;
 
 /// What a client does, and what it has got back then.
 #[derive(Clone, Copy)]
@@ -130,6 +129,20 @@ fn script_of(alloc: Global, visits: Vec<Visit>) -> Result<Script, NoMemory> {
     })
 }
 
+/// A strand for each connection.
+fn make_strands<R: Wait, C: Named, W: Reactor>(
+    rt: &R,
+    context: &Context<Echo<'_>, C, W>,
+    lanes: &mut Vec<Lane>,
+) -> Result<(), NoMemory> {
+    for _ in 0..LIMITS.strands {
+        if let Ok((name, _section)) = context.make_strand(rt, Activity { until: 0 }) {
+            lanes.push(Lane::Strand(name))?;
+        }
+    }
+    Ok(())
+}
+
 /// Serves, and answers whether a wait has failed.
 fn serve_as<'s, R: Abort + Wait, C: Named>(
     rt: &R,
@@ -143,17 +156,21 @@ fn serve_as<'s, R: Abort + Wait, C: Named>(
     requires name { new.name ≡ C.name }
     requires parts { new.parts ≡ C.parts }
 {
-    let made = Context::<Echo, C, MemoryReactor<'s>>::make(alloc, new, reactor, poll);
+    let mut lanes = Vec::new(alloc);
+    let made = Context::<Echo<'_>, C, MemoryReactor<'s>>::make(alloc, new, reactor, poll);
     let (context, mut share) = made.expect(rt, MEMORY);
+    make_strands(rt, &context, &mut lanes).expect(rt, MEMORY);
     let mut worker = context.worker(alloc, &mut share).expect(rt, MEMORY);
     let listened = context.listen(rt, SocketAddr::from((Ipv4Addr::LOCALHOST, 1)));
     if let Ok(listening) = &listened {
         let listener = listening.listener;
-        let first = Echo::Accepted {
+        let service = Service {
             alloc,
             listener,
-            idle: Duration::from_secs(IDLE),
+            idle: IDLE,
+            lanes: lanes.as_slice(),
         };
+        let first = Echo::Accepted { service };
         let _accepted = context.accept(rt, Lane::Own, listener, first);
     }
     for _ in 0..LOOKS {
@@ -223,21 +240,53 @@ fn an_accept_that_fails_or_has_no_place_lets_others_be_served(
     Ok(())
 }
 
+/// A client that is silent, after what it sends, and the next one, by a clock that goes on by so many seconds
+/// each time that it is read.
+fn silent_and_next(
+    alloc: Global,
+    silent: &Client,
+    next: &Client,
+    seconds: u64,
+) -> Result<Script, NoMemory> {
+    let mut visits = Vec::new(alloc);
+    visits.push(Visit::Comes(peer_of(alloc, silent)?))?;
+    visits.push(Visit::Comes(peer_of(alloc, next)?))?;
+    let mut script = script_of(alloc, visits)?;
+    for at in 0..100u64 {
+        script
+            .clock
+            .push(at.saturating_mul(seconds).saturating_mul(1_000_000_000))?;
+    }
+    Ok(script)
+}
+
 #[test]
 fn a_client_that_is_silent_makes_room_for_the_next(rt: HostRuntime) -> Result<(), NoMemory> {
     let alloc = rt.alloc();
     let clients = clients();
-    let mut visits = Vec::new(alloc);
-    visits.push(Visit::Comes(peer_of(alloc, &clients[8])?))?;
-    visits.push(Visit::Comes(peer_of(alloc, &clients[0])?))?;
-    let mut script = script_of(alloc, visits)?;
-    // (it is looked at every 20 seconds)
-    for at in 0..100u64 {
-        script.clock.push(at * 20_000_000_000)?;
+    let spoke_once = playing(&[b"hello"], ReadEnd::Open, &[9], WriteEnd::Full, b"hello");
+    for silent in &[clients[8], spoke_once] {
+        let script = silent_and_next(alloc, silent, &clients[0], 20)?;
+        assert_eq!(rt; serve(&rt, alloc, &script), Ok(false));
+        assert_eq!(rt; took_at(&script, 0), Some(silent.back));
+        assert_eq!(rt; took_at(&script, 1), Some(b"hello".as_slice()));
     }
+    Ok(())
+}
+
+#[test]
+fn a_client_that_is_heard_of_is_kept(rt: HostRuntime) -> Result<(), NoMemory> {
+    let alloc = rt.alloc();
+    let talking = playing(
+        &[b"a", b"", b"b", b"", b"c", b"", b"d", b"", b"e", b"", b"f"],
+        ReadEnd::Eof,
+        &[9],
+        WriteEnd::Full,
+        b"abcdef",
+    );
+    let script = silent_and_next(alloc, &talking, &clients()[0], 8)?;
     assert_eq!(rt; serve(&rt, alloc, &script), Ok(false));
-    assert_eq!(rt; took_at(&script, 0), Some(b"".as_slice()));
-    assert_eq!(rt; took_at(&script, 1), Some(b"hello".as_slice()));
+    assert_eq!(rt; took_at(&script, 0), Some(talking.back));
     Ok(())
 }
 

@@ -9,7 +9,7 @@ mod words;
 ghost use Rattle.std.specs.Prelude.{◌≡◌, ◌<◌, ◌≤◌};
 
 use asio_types::{Failed, NoMemory};
-use echo_handlers::Echo;
+use echo_handlers::{Activity, Echo, Service};
 use io_context::{Context, Lane, Limits, Named, NewContext, Reactor, run_on_threads};
 use io_reactor_mio::MioReactor;
 use std::alloc::Global;
@@ -21,14 +21,13 @@ use std::rt::{Clock, Env};
 use std::sync::Wait;
 use std::sync::ledger::Share;
 use std::thread::Threads;
-use std::time::Duration;
 use std::{env, thread};
 use words::{Asked, MOST_WORKERS, asked_of};
 
 const USAGE: &str = "usage: tcp_echo PORT [ADDRESS..] [--workers N]";
 
-/// For so many seconds a client may send nothing.
-const IDLE: u64 = 60;
+/// For so many nanoseconds a client may send nothing.
+const IDLE: u64 = 60_000_000_000;
 
 /// As many connections at a time. Each has two operations, and the handler of an accept initiates two more.
 const CONNECTIONS: u32 = 1152;
@@ -38,7 +37,7 @@ fn limits_of(listeners: u32) -> Limits
 {
     Limits {
         operations: 2 * CONNECTIONS + listeners + 256,
-        strands: 0,
+        strands: CONNECTIONS + listeners,
         timers: CONNECTIONS + 64,
         slots: 0,
         streams: CONNECTIONS + listeners,
@@ -49,27 +48,45 @@ fn limits_of(listeners: u32) -> Limits
 }
 
 /// Waits until standard input has a byte or ends, and stops the context.
-fn stop_at_end<R: Input + Wait, C: Named, W: Reactor>(rt: &R, context: &Context<Echo, C, W>) {
+fn stop_at_end<R: Input + Wait, C: Named, W: Reactor>(rt: &R, context: &Context<Echo<'_>, C, W>) {
     let mut input = rt.reader();
     let mut byte = [0];
     let _ended = input.read(&mut byte);
     let _section = context.stop(rt);
 }
 
-/// Listens at an address, prints the port, and accepts the first connection.
-fn listen<R: Print + Wait, C: Named, W: Reactor>(
+/// A strand for each connection that there may be.
+fn make_strands<R: Wait, C: Named, W: Reactor>(
     rt: &R,
-    alloc: Global,
-    context: &Context<Echo, C, W>,
+    context: &Context<Echo<'_>, C, W>,
+    many: u32,
+    lanes: &mut Vec<Lane>,
+) -> Result<(), NoMemory> {
+    for _ in 0..many {
+        match context.make_strand(rt, Activity { until: 0 }) {
+            Ok((name, _section)) => lanes.push(Lane::Strand(name))?,
+            Err(_refused) => return Err(NoMemory),
+        }
+    }
+    Ok(())
+}
+
+/// Listens at an address, prints the port, and accepts the first connection.
+fn listen<'a, R: AllocGlobal + Print + Wait, C: Named, W: Reactor>(
+    rt: &R,
+    context: &Context<Echo<'a>, C, W>,
+    lanes: &'a [Lane],
     address: SocketAddr,
 ) -> Result<(), Failed> {
     let listening = context.listen(rt, address)?;
     let listener = listening.listener;
-    let first = Echo::Accepted {
-        alloc,
+    let service = Service {
+        alloc: rt.alloc(),
         listener,
-        idle: Duration::from_secs(IDLE),
+        idle: IDLE,
+        lanes,
     };
+    let first = Echo::Accepted { service };
     if context.accept(rt, Lane::Own, listener, first).is_err() {
         return Err(Failed);
     }
@@ -80,24 +97,25 @@ fn listen<R: Print + Wait, C: Named, W: Reactor>(
 }
 
 /// Likewise at each of these.
-fn listen_all<R: Print + Wait, C: Named, W: Reactor>(
+fn listen_all<'a, R: AllocGlobal + Print + Wait, C: Named, W: Reactor>(
     rt: &R,
-    alloc: Global,
-    context: &Context<Echo, C, W>,
+    context: &Context<Echo<'a>, C, W>,
+    lanes: &'a [Lane],
     asked: &Asked,
 ) -> Result<(), Failed> {
     for address in &asked.addresses {
-        listen(rt, alloc, context, SocketAddr::from((*address, asked.port)))?;
+        listen(rt, context, lanes, SocketAddr::from((*address, asked.port)))?;
     }
     Ok(())
 }
 
 /// Listens, and serves until standard input has a byte or ends.
 fn serve<
+    'a,
     R: AllocGlobal + Eprint + Input + Print + Threads + Wait + Sync,
     C: Named + Send + Sync,
     W: Reactor + Sync,
->(rt: &R, context: &Context<Echo, C, W>, asked: &Asked, share: &mut Share<C>)
+>(rt: &R, context: &Context<Echo<'a>, C, W>, lanes: &'a [Lane], asked: &Asked, share: &mut Share<C>)
 where
     W::Socket: Send,
     W::Poll: Send,
@@ -105,7 +123,7 @@ where
 {
     let alloc = rt.alloc();
     let workers = asked.workers;
-    if listen_all(rt, alloc, context, asked).is_err() {
+    if listen_all(rt, context, lanes, asked).is_err() {
         let _unsaid = rt.eprintln("tcp_echo: it can't listen there");
         return;
     }
@@ -123,7 +141,14 @@ fn run_over<
     R: AllocGlobal + Eprint + Input + Print + Threads + Wait + Sync,
     C: Named + Send + Sync,
     W: Reactor + Sync,
->(rt: &R, new: NewContext, reactor: W, poll: W::Poll, asked: &Asked) -> Result<(), NoMemory>
+>(
+    rt: &R,
+    new: NewContext,
+    reactor: W,
+    poll: W::Poll,
+    asked: &Asked,
+    strands: u32,
+) -> Result<(), NoMemory>
 where
     W::Socket: Send,
     W::Poll: Send,
@@ -132,12 +157,14 @@ where
     requires name { new.name ≡ C.name }
     requires parts { new.parts ≡ C.parts }
 {
-    let (context, mut share) = Context::<Echo, C, W>::make(rt.alloc(), new, reactor, poll)?;
-    if asked.workers <= MOST_WORKERS {
-        serve(rt, &context, asked, &mut share);
+    let mut lanes = Vec::new(rt.alloc());
+    let (context, mut share) = Context::<Echo<'_>, C, W>::make(rt.alloc(), new, reactor, poll)?;
+    let made = make_strands(rt, &context, strands, &mut lanes);
+    if made.is_ok() && asked.workers <= MOST_WORKERS {
+        serve(rt, &context, lanes.as_slice(), asked, &mut share);
     }
     let _history = context.finish(rt, share);
-    Ok(())
+    made
 }
 
 fn run<
@@ -157,11 +184,12 @@ fn run<
         return Err(NoMemory);
     };
     let listeners = asked.addresses.len().min(16) as u32;
-    let Ok(new) = NewContext::with_limits(alloc, limits_of(listeners)) else {
+    let limits = limits_of(listeners);
+    let Ok(new) = NewContext::with_limits(alloc, limits) else {
         reactor.finish(poll);
         return Err(NoMemory);
     };
-    run_over::<R, Brand, MioReactor<R>>(rt, new, reactor, poll, asked)
+    run_over::<R, Brand, MioReactor<R>>(rt, new, reactor, poll, asked, limits.strands)
 }
 
 /// What the program's words ask for.
