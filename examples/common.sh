@@ -31,3 +31,15 @@ say_counts() {
   echo "$told_by: $passed passed, $failed failed"
   [ "$failed" = 0 ]
 }
+
+# The port that a server writes into the file $1, once it does.
+port_in() {
+  local wait
+  for wait in {1..200}; do
+    if [ -s "$1" ]; then
+      sed -n 's/^port //p' "$1"
+      return
+    fi
+    sleep 0.02
+  done
+}

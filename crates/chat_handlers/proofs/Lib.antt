@@ -1,0 +1,5 @@
+pub mod LinesLemmas
+pub mod RoomLemmas
+pub mod ServingLemmas
+pub mod TellingLemmas
+pub mod TextsLemmas

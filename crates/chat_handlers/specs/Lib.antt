@@ -1,0 +1,5 @@
+pub mod Lines
+pub mod Chats
+pub mod Rooms
+pub mod Serving
+pub mod Texts
