@@ -3,6 +3,7 @@ pub mod Entered
 pub mod LastCalls
 pub mod Judging
 pub mod Marks
+pub mod Parts
 pub mod Queues
 pub mod Stacks
 pub mod Strands

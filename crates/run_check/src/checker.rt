@@ -8,6 +8,7 @@ ghost use Rattle.run_rules.specs.Breaks.{BreaksByDoing};
 ghost use Rattle.run_rules.specs.MayCome.{MayDo, IsUntouched, IsTaken};
 ghost use Rattle.std.specs.Option.{option_or};
 ghost use Rattle.run_check.specs.Called.{called_by};
+ghost use Rattle.run_check.specs.Parts.{FollowsCalls, FollowsExecutions, FollowsMarks, FollowsTakings};
 ghost use Rattle.run_rules.specs.declared.frame.Frame.{Frame};
 
 use crate::entered::Entered;
@@ -62,6 +63,38 @@ fn is_execution(who: Frame, op: u64) -> bool
         Frame::Execution { op: other } => other == op,
         Frame::Outside { .. } => false,
     }
+}
+
+/// Follows a line in what is executed, and where; a begin lets this strand in, and an end lets it go.
+fn follow_executions(
+    stacks: &mut Stacks,
+    strands: &mut Strands,
+    line: &Line,
+    own: Option<u64>,
+) -> Result<(), NoRoom>
+    ensures { IfOk result (λ _. FollowsExecutions line.now own stacks.old strands.old stacks.new strands.new) }
+{
+    stacks.follow(line.thread, &line.does, own)?;
+    strands.follow(line.thread, &line.does, own)?;
+    Ok(())
+}
+
+/// Follows a line of a frame in what it calls, takes and marks.
+fn follow_kept(
+    last_calls: &mut LastCalls,
+    takings: &mut Takings,
+    marks: &mut Marks,
+    frame: Frame,
+    line: &Line,
+) -> Result<(), NoRoom>
+    ensures calls { IfOk result (λ _. FollowsCalls line.now frame last_calls.old last_calls.new) }
+    ensures taken { IfOk result (λ _. FollowsTakings line.now frame takings.old takings.new) }
+    ensures marked { IfOk result (λ _. FollowsMarks line.now marks.old marks.new) }
+{
+    last_calls.follow(frame, &line.does)?;
+    takings.follow(line.thread, frame, &line.does)?;
+    marks.follow(&line.does)?;
+    Ok(())
 }
 
 impl Checker {
@@ -468,12 +501,15 @@ impl Checker {
         self.queues.place(placed, place)?;
         self.queues.spend(&line.does);
         self.waiting.follow(frame, place, &line.does)?;
-        self.stacks.follow(thread, &line.does, own)?;
-        self.strands.follow(thread, &line.does, own)?;
+        follow_executions(&mut self.stacks, &mut self.strands, line, own)?;
         self.entered.follow(thread, &line.does)?;
-        self.last_calls.follow(frame, &line.does)?;
-        self.takings.follow(thread, frame, &line.does)?;
-        self.marks.follow(&line.does)?;
+        follow_kept(
+            &mut self.last_calls,
+            &mut self.takings,
+            &mut self.marks,
+            frame,
+            line,
+        )?;
         Ok(())
     }
 

@@ -1,9 +1,10 @@
 ghost use Rattle.std.specs.Prelude.{◌≡◌, ◌==◌, ◌≤◌, ◌≢◌, if◌then◌else◌, IfOk, OnOk, IfSome, IsSome, IsSomeAnd, ℕ, Some, None};
-ghost use Rattle.std.specs.BTreeMap.{get};
+ghost use Rattle.std.specs.BTreeMap.{Updates, get};
 ghost use Rattle.std.specs.BTreeMap.Range.{IsLeBy};
 ghost use Rattle.run_check.specs.Following.{CanPlace, place_after, spends};
 ghost use Rattle.run_check.specs.Queues.{spot_at, spot_cmp, on_strand, AreInOrder};
 
+use crate::tables::put;
 use run_lines::Doing;
 use std::alloc::{AllocError, Global};
 use std::collections::{BTreeMap, HashMap};
@@ -45,6 +46,18 @@ fn on_strand(found: Option<((u64, u64), u64)>, strand: u64) -> Option<(u64, u64)
     }
 }
 
+/// Notes an operation at its spot.
+fn put_in_order(
+    order: &mut BTreeMap<(u64, u64), u64>,
+    spot: (u64, u64),
+    op: u64,
+) -> Result<(), AllocError>
+    ensures { OnOk result (Updates spot_cmp order.old order.new spot (Some op)) }
+{
+    order.insert(spot, op)?;
+    Ok(())
+}
+
 impl Queues {
     pub(crate) fn new(alloc: Global) -> Self
         ensures empty { (op : ℕ) → spot_at result op ≡ None }
@@ -73,8 +86,8 @@ impl Queues {
         ensures spots { IfOk result
             (λ _. (other : ℕ) → spot_at self.new other ≡ (if op == other then Some (strand, place) else spot_at self.old other)) }
     {
-        self.order.insert((strand, place), op)?;
-        self.spots.insert(op, (strand, place))?;
+        put_in_order(&mut self.order, (strand, place), op)?;
+        put(&mut self.spots, op, (strand, place))?;
         Ok(())
     }
 

@@ -6,10 +6,10 @@ use itoa::Buffer;
 use run_lines::{Entry, Kind, Line, read_line};
 use run_names::{Names, NotNamed, read_names};
 use run_orders::Guard;
-use run_overlaps::{Guards, NotFound, claims_of, find_guards};
+use run_overlaps::{Guards, NotFound, claims_of, find_guards, find_handed};
 use run_reader::{LineReader, ReadFault};
 use run_witness::find_witness;
-use std::alloc::Global;
+use std::alloc::{AllocError, Global};
 
 /// Why a run isn't told of.
 #[derive(Clone, Copy, Debug, PartialEq, Eq)]
@@ -127,20 +127,81 @@ fn write_group<K: Sink>(out: &mut K, names: &Names, group: &Group) -> Result<(),
     write_all(out, b"\n")
 }
 
-/// What is said of a thing that a guard keeps apart.
+/// What keeps the claims of a thing apart.
+#[derive(Clone, Copy)]
+enum Kept {
+    By { guard: Guard },
+    /// Each claim is given back before the next one, in each order.
+    HandedOver,
+}
+
+/// What keeps the claims of the things of a run apart.
+#[derive(Drop)]
+struct Known {
+    guards: Guards,
+    handed: Vec<u64>,
+}
+
+impl Known {
+    /// What keeps the claims of a thing apart, if that is known.
+    fn of(&self, thing: u64) -> Option<Kept> {
+        match self.guards.of(thing) {
+            Some(guard) => Some(Kept::By { guard }),
+            None if self.handed.contains(&thing) => Some(Kept::HandedOver),
+            None => None,
+        }
+    }
+}
+
+/// So many things without a guard are asked whether they are handed over: each takes time for all lines.
+const MOST_ASKED: usize = 64;
+
+/// The first things for which no guard was found.
+fn unguarded(alloc: Global, guards: &Guards, all: &[Listing]) -> Result<Vec<u64>, AllocError> {
+    let mut things = Vec::new(alloc);
+    for listing in all {
+        if things.len() < MOST_ASKED && guards.of(listing.thing).is_none() {
+            things.push(listing.thing)?;
+        }
+    }
+    Ok(things)
+}
+
+/// Finds what keeps the claims of things without a guard apart.
+fn find_known(
+    alloc: Global,
+    lines: &[Line],
+    guards: Guards,
+    all: &[Listing],
+) -> Result<Known, NotFound> {
+    let Ok(things) = unguarded(alloc, &guards, all) else {
+        return Err(NotFound::NoMemory);
+    };
+    let handed = if things.is_empty() {
+        things
+    } else {
+        find_handed(alloc, lines, &things)?
+    };
+    Ok(Known { guards, handed })
+}
+
+/// What is said of a thing whose claims are kept apart.
 fn write_never<K: Sink>(
     out: &mut K,
     names: &Names,
     listing: &Listing,
-    guard: Guard,
+    kept: Kept,
 ) -> Result<(), Failed> {
     write_item(out, names, "never: thing ", Kind::Thing, listing.thing)?;
     write_count(out, ": ", listing.count, " claims")?;
-    write_guard(out, names, guard)?;
+    match kept {
+        Kept::By { guard } => write_guard(out, names, guard)?,
+        Kept::HandedOver => write_all(out, b", handed over")?,
+    }
     write_all(out, b"\n")
 }
 
-/// What is said of a thing for which no guard was found.
+/// What is said of a thing of which nothing is known to keep the claims apart.
 fn write_unguarded<K: Sink>(
     out: &mut K,
     names: &Names,
@@ -168,7 +229,7 @@ struct Counts {
     never: u64,
 }
 
-/// Tells of a thing for which no guard was found; whether an order overlaps its claims.
+/// Tells of a thing of which nothing is known to keep the claims apart; whether an order overlaps them.
 fn tell_unguarded<K: Sink>(
     alloc: Global,
     lines: &[Line],
@@ -186,12 +247,12 @@ fn tell_unguarded<K: Sink>(
     }
 }
 
-/// Tells of the things for which no guard was found.
+/// Tells of the things of which nothing is known to keep the claims apart.
 fn tell_open<K: Sink>(
     alloc: Global,
     lines: &[Line],
     names: &Names,
-    guards: &Guards,
+    known: &Known,
     all: &[Listing],
     out: &mut K,
 ) -> Result<Counts, Status> {
@@ -201,7 +262,7 @@ fn tell_open<K: Sink>(
         never: 0,
     };
     for listing in all {
-        if guards.of(listing.thing).is_some() {
+        if known.of(listing.thing).is_some() {
             counts.never = counts.never.saturating_add(1);
         } else if tell_unguarded(alloc, lines, names, listing, out)? {
             counts.may = counts.may.saturating_add(1);
@@ -212,17 +273,17 @@ fn tell_open<K: Sink>(
     Ok(counts)
 }
 
-/// Tells of the things that a guard keeps apart, and of how many things each answer was given.
+/// Tells of the things whose claims are kept apart, and of how many things each answer was given.
 fn write_rest<K: Sink>(
     out: &mut K,
     names: &Names,
-    guards: &Guards,
+    known: &Known,
     all: &[Listing],
     counts: Counts,
 ) -> Result<(), Failed> {
     for listing in all {
-        if let Some(guard) = guards.of(listing.thing) {
-            write_never(out, names, listing, guard)?;
+        if let Some(kept) = known.of(listing.thing) {
+            write_never(out, names, listing, kept)?;
         }
     }
     write_count(out, "things: ", counts.may, " may overlap, ")?;
@@ -246,7 +307,7 @@ fn tell<K: Sink>(
     alloc: Global,
     lines: &[Line],
     names: &Names,
-    guards: &Guards,
+    guards: Guards,
     out: &mut K,
 ) -> Status {
     let Ok(claims) = claims_of(alloc, lines) else {
@@ -255,11 +316,14 @@ fn tell<K: Sink>(
     let Ok(things) = list_things(alloc, names, &claims) else {
         return Status::NoMemory;
     };
-    let counts = match tell_open(alloc, lines, names, guards, &things.all, out) {
+    let Ok(known) = find_known(alloc, lines, guards, &things.all) else {
+        return Status::NoMemory;
+    };
+    let counts = match tell_open(alloc, lines, names, &known, &things.all, out) {
         Ok(counts) => counts,
         Err(status) => return status,
     };
-    match write_rest(out, names, guards, &things.all, counts) {
+    match write_rest(out, names, &known, &things.all, counts) {
         Ok(()) => status_of(counts),
         Err(_) => Status::WriteFault,
     }
@@ -282,7 +346,7 @@ pub fn overlaps<S: Source, K: Sink>(
         Err(NotNamed::NoMemory) => return Status::NoMemory,
     };
     match find_guards(alloc, &lines) {
-        Ok(guards) => tell(alloc, &lines, &names, &guards, out),
+        Ok(guards) => tell(alloc, &lines, &names, guards, out),
         Err(NotFound::Illegal { .. }) => Status::NotLegal,
         Err(NotFound::NoMemory) => Status::NoMemory,
         // (as where a frame unlocks a mutex and goes on with what that seemed to guard)

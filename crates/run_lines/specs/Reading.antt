@@ -178,6 +178,13 @@ doing_in verb.Work words = one_in words >>= λ context. Ok (doing.Work context)
 doing_in verb.Stop words = one_in words >>= λ context. Ok (doing.Stop context)
 doing_in verb.Restart words = one_in words >>= λ context. Ok (doing.Restart context)
 
+-- one number stands behind this verb
+abbrev pub HasOne : Verb → Type 0
+HasOne verb.Call = ⊥
+HasOne verb.Done = ⊥
+HasOne verb.Begin = ⊥
+HasOne _ = Unit
+
 -- the text of a name goes to the end of the line
 abbrev pub text_at : ℕ → Rest → Result (List ℕ) BadLine
 text_at at words =

@@ -1,5 +1,5 @@
-ghost use Rattle.std.specs.Prelude.{◌≡◌};
-ghost use Rattle.run_lines.specs.Reading.{call_in, doing_in, one_in, outcome_in, words_left};
+ghost use Rattle.std.specs.Prelude.{◌≡◌, Ok};
+ghost use Rattle.run_lines.specs.Reading.{HasOne, Rest, call_in, doing_in, one_in, outcome_in, words_left};
 
 use crate::bad_line::BadLine;
 use crate::code::Code;
@@ -14,7 +14,6 @@ pub(crate) fn doing_of(verb: Verb, words: &mut Words<'_>) -> Result<Doing, BadLi
 {
     match verb {
         Verb::Call => call_of(words),
-        Verb::Back => Ok(Doing::Back { op: one_of(words)? }),
         Verb::Done => {
             let (op, code, size) = outcome_of(words)?;
             Ok(Doing::Done { op, code, size })
@@ -23,39 +22,44 @@ pub(crate) fn doing_of(verb: Verb, words: &mut Words<'_>) -> Result<Doing, BadLi
             let (op, code, size) = outcome_of(words)?;
             Ok(Doing::Begin { op, code, size })
         }
-        Verb::End => Ok(Doing::End { op: one_of(words)? }),
-        Verb::Throw => Ok(Doing::Throw { op: one_of(words)? }),
-        Verb::Drop => Ok(Doing::Drop { op: one_of(words)? }),
-        Verb::Claim => Ok(Doing::Claim {
-            thing: one_of(words)?,
-        }),
-        Verb::Release => Ok(Doing::Release {
-            thing: one_of(words)?,
-        }),
-        Verb::Lock => Ok(Doing::Lock {
-            lock: one_of(words)?,
-        }),
-        Verb::Unlock => Ok(Doing::Unlock {
-            lock: one_of(words)?,
-        }),
-        Verb::Mark => Ok(Doing::Mark {
-            mark: one_of(words)?,
-        }),
-        Verb::After => Ok(Doing::After {
-            mark: one_of(words)?,
-        }),
-        Verb::Cancel => Ok(Doing::Cancel {
-            thing: one_of(words)?,
-        }),
-        Verb::Work => Ok(Doing::Work {
-            context: one_of(words)?,
-        }),
-        Verb::Stop => Ok(Doing::Stop {
-            context: one_of(words)?,
-        }),
-        Verb::Restart => Ok(Doing::Restart {
-            context: one_of(words)?,
-        }),
+        _ => said_of_one(verb, one_of(words)),
+    }
+}
+
+/// What a verb says of the number behind it.
+#[tactic(auto, unfolding(crate::specs::Reading::doing_in))]
+fn said_of_one(verb: Verb, number: Result<u64, BadLine>) -> Result<Doing, BadLine>
+    requires { HasOne verb }
+    ensures { (words : Rest) → number ≡ one_in words → result ≡ doing_in verb words }
+{
+    match number {
+        Ok(number) => Ok(with_one(verb, number)),
+        Err(bad) => Err(bad),
+    }
+}
+
+/// What a verb says of one number.
+#[tactic(auto, unfolding(crate::specs::Reading::doing_in))]
+fn with_one(verb: Verb, number: u64) -> Doing
+    requires { HasOne verb }
+    ensures { (words : Rest) → one_in words ≡ Ok number → doing_in verb words ≡ Ok result }
+{
+    match verb {
+        Verb::Back => Doing::Back { op: number },
+        Verb::End => Doing::End { op: number },
+        Verb::Throw => Doing::Throw { op: number },
+        Verb::Drop => Doing::Drop { op: number },
+        Verb::Claim => Doing::Claim { thing: number },
+        Verb::Release => Doing::Release { thing: number },
+        Verb::Lock => Doing::Lock { lock: number },
+        Verb::Unlock => Doing::Unlock { lock: number },
+        Verb::Mark => Doing::Mark { mark: number },
+        Verb::After => Doing::After { mark: number },
+        Verb::Cancel => Doing::Cancel { thing: number },
+        Verb::Work => Doing::Work { context: number },
+        Verb::Stop => Doing::Stop { context: number },
+        Verb::Restart => Doing::Restart { context: number },
+        Verb::Call | Verb::Done | Verb::Begin => unreachable!(),
     }
 }
 

@@ -2,7 +2,7 @@ use crate::line::Line;
 use crate::name::Name;
 
 /// What a line of a run holds.
-#[derive(Clone, Copy, Debug)]
+#[derive(Clone, Copy)]
 pub enum Entry<'a> {
     /// What happened.
     Line(Line),

@@ -3,7 +3,7 @@ use crate::word::Word;
 
 /// What happened, in the terms of Boost.Asio. Numbers are below 2^64, and each kind of thing that
 /// is numbered (operations, contexts, strands, things, locks and marks) has numbers of its own.
-#[derive(Clone, Copy, Debug, PartialEq, Eq)]
+#[derive(Clone, Copy, PartialEq, Eq)]
 pub enum Doing {
     /// An operation of a context is initiated, with a strand or none, on a socket or timer or none.
     Call {
@@ -84,7 +84,7 @@ pub enum Doing {
 }
 
 /// A line of a run: what happened, and the thread on which.
-#[derive(Clone, Copy, Debug, PartialEq, Eq)]
+#[derive(Clone, Copy, PartialEq, Eq)]
 pub struct Line {
     pub thread: u64,
     pub does: Doing,

@@ -1,7 +1,7 @@
 ghost use Rattle.std.specs.Prelude.{◌≡◌, IfOk, IfErr, MatchResult};
-ghost use Rattle.run_lines.specs.Entry.{IsEntryText, PlainEntry, plain};
+ghost use Rattle.run_lines.specs.Entry.{IsEntryText, PlainEntry, line, plain};
 ghost use Rattle.run_lines.specs.BadLine.{IsBadLine};
-ghost use Rattle.run_lines.specs.Reading.{Agrees, entry_in, name_in, plain_name, words_left};
+ghost use Rattle.run_lines.specs.Reading.{Agrees, entry_in, line_in, name_in, plain_name, words_left};
 ghost use Rattle.run_lines.specs.Words.{words_of};
 
 use crate::bad_line::{BadLine, Wants};
@@ -24,8 +24,18 @@ fn name_of<'a>(words: &mut Words<'a>) -> Result<Name<'a>, BadLine>
     Ok(Name { kind, number, text })
 }
 
+/// What stands behind the number of a thread.
+#[tactic(auto, unfolding(crate::specs::Reading::line_in))]
+fn line_of(thread: u64, words: &mut Words<'_>) -> Result<Line, BadLine>
+    ensures { Agrees line result (line_in thread (words_left words.old)) }
+{
+    let verb = words.verb(2)?;
+    let does = doing_of(verb, words)?;
+    Ok(Line { thread, does })
+}
+
 /// What a line says, or the first word that can't stand where it does.
-#[tactic(auto, unfolding(crate::specs::Reading::entry_in, crate::specs::Reading::line_in))]
+#[tactic(auto, unfolding(crate::specs::Reading::entry_in))]
 fn entry_of(line: &[u8]) -> Result<Entry<'_>, BadLine>
     ensures { Agrees plain result (entry_in (words_of line.now)) }
 {
@@ -40,9 +50,8 @@ fn entry_of(line: &[u8]) -> Result<Entry<'_>, BadLine>
         return Ok(Entry::Name(name));
     }
     let thread = number_of(first).ok_or(wrong)?;
-    let verb = words.verb(2)?;
-    let does = doing_of(verb, &mut words)?;
-    Ok(Entry::Line(Line { thread, does }))
+    let line = line_of(thread, &mut words)?;
+    Ok(Entry::Line(line))
 }
 
 /// What a line says, which comes without the line feed at its end. Takes no memory, and looks at

@@ -31,7 +31,7 @@ fn again(rt: &impl Abort, text: &str) -> Result<(), Fail> {
 /// This text says that, and that is written as this text.
 fn both(rt: &impl Abort, text: &str, thread: u64, does: Doing) -> Result<(), Fail> {
     let line = line_of(text)?;
-    assert_eq!(rt; line, Line { thread, does });
+    assert!(rt; line == Line { thread, does }, "{text}");
     assert_eq!(rt; LineText::of(&line).as_slice(), text.as_bytes());
     Ok(())
 }
@@ -82,70 +82,32 @@ fn what_becomes_of_an_operation_is_read_and_written(rt: HostRuntime) -> Result<(
     both(&rt, "1 drop 2", 1, Doing::Drop { op })
 }
 
+/// What else a thread does, behind the number of the thread.
+const ELSE: [(&str, Doing); 10] = [
+    ("18446744073709551615 claim 1", Doing::Claim { thing: 1 }),
+    (
+        "18446744073709551615 release 1",
+        Doing::Release { thing: 1 },
+    ),
+    ("18446744073709551615 lock 2", Doing::Lock { lock: 2 }),
+    ("18446744073709551615 unlock 2", Doing::Unlock { lock: 2 }),
+    ("18446744073709551615 mark 3", Doing::Mark { mark: 3 }),
+    ("18446744073709551615 after 3", Doing::After { mark: 3 }),
+    ("18446744073709551615 cancel 1", Doing::Cancel { thing: 1 }),
+    ("18446744073709551615 work 4", Doing::Work { context: 4 }),
+    ("18446744073709551615 stop 4", Doing::Stop { context: 4 }),
+    (
+        "18446744073709551615 restart 4",
+        Doing::Restart { context: 4 },
+    ),
+];
+
 #[test]
 fn what_else_a_thread_does_is_read_and_written(rt: HostRuntime) -> Result<(), Fail> {
-    let thread = MOST;
-    let (thing, lock, mark, context) = (1, 2, 3, 4);
-    both(
-        &rt,
-        "18446744073709551615 claim 1",
-        thread,
-        Doing::Claim { thing },
-    )?;
-    both(
-        &rt,
-        "18446744073709551615 release 1",
-        thread,
-        Doing::Release { thing },
-    )?;
-    both(
-        &rt,
-        "18446744073709551615 lock 2",
-        thread,
-        Doing::Lock { lock },
-    )?;
-    both(
-        &rt,
-        "18446744073709551615 unlock 2",
-        thread,
-        Doing::Unlock { lock },
-    )?;
-    both(
-        &rt,
-        "18446744073709551615 mark 3",
-        thread,
-        Doing::Mark { mark },
-    )?;
-    both(
-        &rt,
-        "18446744073709551615 after 3",
-        thread,
-        Doing::After { mark },
-    )?;
-    both(
-        &rt,
-        "18446744073709551615 cancel 1",
-        thread,
-        Doing::Cancel { thing },
-    )?;
-    both(
-        &rt,
-        "18446744073709551615 work 4",
-        thread,
-        Doing::Work { context },
-    )?;
-    both(
-        &rt,
-        "18446744073709551615 stop 4",
-        thread,
-        Doing::Stop { context },
-    )?;
-    both(
-        &rt,
-        "18446744073709551615 restart 4",
-        thread,
-        Doing::Restart { context },
-    )
+    for (text, does) in ELSE {
+        both(&rt, text, MOST, does)?;
+    }
+    Ok(())
 }
 
 /// Names, with their kinds and numbers.

@@ -108,6 +108,16 @@ all_began level (line ∷ past) legal thread =
     (all_still level past line line.thread (stack past line.thread) legal.1.rules (all_began level past legal.0 line.thread))))
     (λ elsewhere. all_still level past line thread (stack past thread) legal.1.rules (all_began level past legal.0 thread))
 
+-- so a line that begins an execution is the one by which it began
+pub only_begin : (level : Level) (run : List Line) → IsLegalSoFar level run → (first : Spot) (op : ℕ) → IsEnd run (first.line ∷ first.past)
+    → begins first.line.does op ≡ true → (began : Spot) → begin_spot run op ≡ Some began → began ≡ first
+only_begin level run legal first op (later, parted) begun began alone =
+    let here : begin_spot (first.line ∷ first.past) op ≡ Some first = rw begun refl in
+    let there : begin_spot run op ≡ Some first =
+    ap (λ (l : List Line). begin_spot l op) parted
+    ∙ spot_always level later (first.line ∷ first.past) op first (subst (λ (l : List Line). IsLegalSoFar level l) parted legal) here in
+    some_same began first (sym alone ∙ there)
+
 -- the innermost execution is the first one on the stack
 pub frame_top : (ops : List ℕ) (thread op : ℕ) → frame_of ops thread ≡ Execution op → ops ≡ op ∷ outer ops
 frame_top [] thread op is = cc

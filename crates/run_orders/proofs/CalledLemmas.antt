@@ -82,7 +82,7 @@ call_found (line ∷ past) op call is =
 
 -- in the run the call of what has begun stays its call
 
-begins_called : (past : List Line) (thread op : ℕ) (does : Doing) → MayDo plain past thread does → begins does op ≡ true
+pub begins_called : (past : List Line) (thread op : ℕ) (does : Doing) → MayDo plain past thread does → begins does op ≡ true
     → IsSome (call_of past op)
 begins_called past thread op (doing.Begin number code size) may is =
     subst (λ (o : ℕ). IsSome (call_of past o)) (eqb-true number op is) may.waiting.called
@@ -111,16 +111,7 @@ same_call run legal claim thing op is =
 
 -- and the call in an order has the same strand
 
-strand_called : (past : List Line) (op strand : ℕ) → strand_of past op ≡ Some strand
-    → (call : Calling) × (call_of past op ≡ Some call) × (call.strand ≡ Some strand)
-strand_called past op strand is = by_call (call_of past op) refl is
-  where
-    by_call : (found : Option Calling) → call_of past op ≡ found → option_and_then (λ (call : Calling). call.strand) found ≡ Some strand
-        → (call : Calling) × (call_of past op ≡ Some call) × (call.strand ≡ Some strand)
-    by_call None found is = cc
-    by_call (Some call) found is = (call, found, is)
-
-takes_begin : (does : Doing) (op : ℕ) → begins does op ≡ true → takes_up does ≡ Some op
+pub takes_begin : (does : Doing) (op : ℕ) → begins does op ≡ true → takes_up does ≡ Some op
 takes_begin (doing.Begin number code size) op is = ap Some (eqb-true number op is)
 takes_begin _ op is = cc
 
@@ -142,6 +133,51 @@ order_call (one ∷ before) but step stands number word context strand thing cal
       ap (λ (o : Option Calling). option_and_then (λ (call : Calling). call.strand) o) still ∙ was.1,
     )) stands
 
+call_known : (found : Option Calling) → IsSome found → (call : Calling) × (found ≡ Some call)
+call_known None called = cc
+call_known (Some call) called = (call, refl)
+
+pub begin_strand : (run : List Line) → IsLegalSoFar plain run → (apart : List ℕ) (steps : List Step) → EachMayStand run apart steps
+    → IsLegalBut (lines_of steps) → (start : Spot) → IsEnd run (start.line ∷ start.past) → (op thread : ℕ)
+    → begins start.line.does op ≡ true → (ex : Executes run steps start op thread)
+    → strand_of (lines_of steps) ex.number ≡ strand_of start.past op
+begin_strand run legal apart steps each but start whole op thread begun ex =
+    let call = call_known (call_of start.past op)
+    (begins_called start.past start.line.thread op start.line.does (spot_legal run legal start whole) begun) in
+    let c = call_found start.past op call.0 call.1 in
+    let end : IsEnd run (c.spot.line ∷ c.spot.past) =
+    end_of_end run start.past (c.spot.line ∷ c.spot.past) (end_more run start.line start.past whole) c.end in
+    let there = spot_of_end run c.spot.line c.spot.past end in
+    let was = stood run apart steps each ex.begin start ex.put.stands ex.put.there in
+    let makes : calls c.spot.line.does op ≡ true = ap (λ (d : Doing). calls d op) c.calls_it ∙ eq-eqb op op refl in
+    let cause : IsCause apart c.spot start = record {
+      earlier = shorter c.end.0 c.spot.line c.spot.past start.past c.end.1;
+      reason =
+          inr
+          (inl (
+            op,
+            takes_begin start.line.does op begun,
+            or_left (calls c.spot.line.does op) (completes c.spot.line.does op && begins start.line.does op) makes,
+          ));
+    } in
+    let put = stands_step was.before (length c.spot.past)
+    (cause_stands run apart steps ex.begin start was (length c.spot.past) c.spot there cause) in
+    let there_too : spot_at run (put.0).place ≡ Some c.spot = ap (spot_at run) put.2 ∙ there in
+    let copy = stood run apart steps each put.0 c.spot (was.within put.0 put.1) there_too in
+    let k = copy.may.copied.0 in
+    let does : (put.0).line.does ≡ doing.Call k (call.0).word (call.0).context (call.0).strand (call.0).thing =
+    copy.may.copied.1 ∙ ap (λ (s : Spot). renumbered k s.line.does) copy.same ∙ ap (λ (d : Doing). renumbered k d) c.calls_it in
+    let numbers : (op == op) ≡ (k == ex.number) =
+    one_number c.spot.line.does start.line.does (put.0).line.does ex.begin.line.does op op k ex.number
+    (subst (λ (s : Spot). same_at c.spot s (put.0) ex.begin) was.same
+    (was.may.numbered put.0 c.spot (record { stands = put.1; there = there_too })))
+    (ap (λ (d : Doing). op_of d) c.calls_it) (op_of_begin start.line.does op begun) (ap (λ (d : Doing). op_of d) does)
+    (op_of_begin ex.begin.line.does ex.number ex.copied) in
+    let number : k ≡ ex.number = eqb-true k ex.number (sym numbers ∙ eq-eqb op op refl) in
+    ap (λ (n : ℕ). strand_of (lines_of steps) n) (sym number)
+    ∙ (order_call steps but put.0 (was.within put.0 put.1) k (call.0).word (call.0).context (call.0).strand (call.0).thing does).1
+    ∙ sym (ap (λ (o : Option Calling). option_and_then (λ (c : Calling). c.strand) o) call.1)
+
 pub order_strand : (run : List Line) → (legal : IsLegalSoFar plain run) → (apart : List ℕ) (steps : List Step)
     → EachMayStand run apart steps → IsLegalBut (lines_of steps) → (claim : Spot) (thing op strand : ℕ)
     → (is : IsClaim run claim thing op) → strand_of claim.past op ≡ Some strand → (thread : ℕ)
@@ -149,45 +185,21 @@ pub order_strand : (run : List Line) → (legal : IsLegalSoFar plain run) → (a
     → strand_of (lines_of steps) ex.number ≡ Some strand
 order_strand run legal apart steps each but claim thing op strand is on thread ex =
     let began = claim_begun run legal claim thing op is in
-    let call = strand_called began.spot.past op strand
-    (ap (λ (o : Option Calling). option_and_then (λ (c : Calling). c.strand) o) (sym (same_call run legal claim thing op is)) ∙ on) in
-    let c = call_found began.spot.past op call.0 call.1 in
-    let whole : IsEnd run claim.past = end_more run claim.line claim.past is.end in
-    let inside : IsEnd claim.past began.spot.past = end_more claim.past began.spot.line began.spot.past began.inside in
-    let end : IsEnd run (c.spot.line ∷ c.spot.past) =
-    end_of_end run began.spot.past (c.spot.line ∷ c.spot.past) (end_of_end run claim.past began.spot.past whole inside) c.end in
-    let there = spot_of_end run c.spot.line c.spot.past end in
-    let was = stood run apart steps each ex.begin began.spot ex.put.stands ex.put.there in
-    let makes : calls c.spot.line.does op ≡ true = ap (λ (d : Doing). calls d op) c.calls_it ∙ eq-eqb op op refl in
-    let cause : IsCause apart c.spot began.spot = record {
-      earlier = shorter c.end.0 c.spot.line c.spot.past began.spot.past c.end.1;
-      reason =
-          inr
-          (inl (
-            op,
-            takes_begin began.spot.line.does op began.begun,
-            or_left (calls c.spot.line.does op) (completes c.spot.line.does op && begins began.spot.line.does op) makes,
-          ));
-    } in
-    let put = stands_step was.before (length c.spot.past)
-    (cause_stands run apart steps ex.begin began.spot was (length c.spot.past) c.spot there cause) in
-    let there_too : spot_at run (put.0).place ≡ Some c.spot = ap (spot_at run) put.2 ∙ there in
-    let copy = stood run apart steps each put.0 c.spot (was.within put.0 put.1) there_too in
-    let k = copy.may.copied.0 in
-    let does : (put.0).line.does ≡ doing.Call k (call.0).word (call.0).context (call.0).strand (call.0).thing =
-    copy.may.copied.1 ∙ ap (λ (s : Spot). renumbered k s.line.does) copy.same ∙ ap (λ (d : Doing). renumbered k d) c.calls_it in
-    let numbers : (op == op) ≡ (k == ex.number) =
-    one_number c.spot.line.does began.spot.line.does (put.0).line.does ex.begin.line.does op op k ex.number
-    (subst (λ (s : Spot). same_at c.spot s (put.0) ex.begin) was.same
-    (was.may.numbered put.0 c.spot (record { stands = put.1; there = there_too })))
-    (ap (λ (d : Doing). op_of d) c.calls_it) (op_of_begin began.spot.line.does op began.begun) (ap (λ (d : Doing). op_of d) does)
-    (op_of_begin ex.begin.line.does ex.number ex.copied) in
-    let number : k ≡ ex.number = eqb-true k ex.number (sym numbers ∙ eq-eqb op op refl) in
-    ap (λ (n : ℕ). strand_of (lines_of steps) n) (sym number)
-    ∙ (order_call steps but put.0 (was.within put.0 put.1) k (call.0).word (call.0).context (call.0).strand (call.0).thing does).1 ∙ call.2
+    begin_strand run legal apart steps each but began.spot
+    (end_of_end run claim.past (began.spot.line ∷ began.spot.past) (end_more run claim.line claim.past is.end) began.inside) op thread
+    began.begun ex
+    ∙ ap (λ (o : Option Calling). option_and_then (λ (c : Calling). c.strand) o) (sym (same_call run legal claim thing op is)) ∙ on
+
+-- the strand of what was called stays so in the run
+pub strand_in_run : (run past : List Line) → IsLegalSoFar plain run → IsEnd run past → (op : ℕ) → IsSome (call_of past op)
+    → strand_of run op ≡ strand_of past op
+strand_in_run run past legal (later, parted) op called =
+    ap (λ (l : List Line). strand_of l op) parted
+    ∙ ap (λ (o : Option Calling). option_and_then (λ (c : Calling). c.strand) o)
+    (call_always later past op (subst (λ (l : List Line). IsLegalSoFar plain l) parted legal) called)
 
 -- what executes on a strand holds it
-any_in : (test : ℕ → Bool) (ops : List ℕ) (op : ℕ) → IsIn op ops → test op ≡ true → list_any test ops ≡ true
+pub any_in : (test : ℕ → Bool) (ops : List ℕ) (op : ℕ) → IsIn op ops → test op ≡ true → list_any test ops ≡ true
 any_in test [] op is true_of = absurd is
 any_in test (one ∷ ops) op is true_of =
     ⊎_elim (λ (here : one ≡ op). or_left (test one) (list_any test ops) (ap test here ∙ true_of))

@@ -1,11 +1,11 @@
 -- What a join keeps apart is held by one thread.
-use Rattle.std.proofs.Common.{◌≡◌, ◌≢◌, ℕ, List, sym, inl, ⊎_elim}
+use Rattle.std.proofs.Common.{ℕ, List, sym, inl, ⊎_elim}
 use Rattle.run_lines.specs.declared.line.Line.{Line}
 use Rattle.run_rules.specs.Legal.{IsLegalSoFar}
 use Rattle.run_orders.specs.declared.guard.Guard.{Guard}
 use Rattle.run_orders.specs.declared.guard.Guard.TheVariants as guard
 use Rattle.run_orders.specs.declared.order.Step.{Step}
-use Rattle.run_orders.specs.Forced.{IsForced, through}
+use Rattle.run_orders.specs.Forced.{through}
 use Rattle.run_orders.specs.Holding.{HoldsBoth}
 use Rattle.run_orders.specs.Joins.{JoinsAll}
 use Rattle.run_orders.specs.Laws.{NeverOverlaps}
@@ -14,7 +14,7 @@ use Rattle.run_orders.proofs.ForcedLemmas.{forced_apart}
 use Rattle.run_orders.proofs.GuardLemmas.{guarded_apart}
 
 -- it is the same which of two claims is named first
-turned : (run : List Line) (steps : List Step) (thing one other : ℕ) → HoldsBoth run steps thing one other
+pub turned : (run : List Line) (steps : List Step) (thing one other : ℕ) → HoldsBoth run steps thing one other
     → HoldsBoth run steps thing other one
 turned run steps thing one other holds = record {
   first = holds.second;

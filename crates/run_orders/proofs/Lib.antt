@@ -7,6 +7,12 @@ pub mod CalledLemmas
 pub mod LockLemmas
 pub mod UnderLockLemmas
 pub mod GuardLemmas
-pub mod ForcedLemmas
+pub mod NumberLemmas
+pub mod EndingLemmas
 pub mod OrderLemmas
+pub mod NestedLemmas
+pub mod TurnLemmas
+pub mod QueueLemmas
+pub mod ForcedLemmas
 pub mod JoinLemmas
+pub mod HandingLemmas

@@ -1,7 +1,7 @@
 -- A mutex that guards a claim is locked in an order while the claim is held.
 use Rattle.std.proofs.Common.{◌≡◌, ℕ, List, [], ◌∷◌, refl, ap, sym, subst, ◌∙◌, ⊎_elim}
 use Rattle.std.proofs.lemmas.Bool.{and_parts, cases_eq, cond_both, eq-eqb, eqb-true, or_cases, or_left, or_right, both_ways}
-use Rattle.std.specs.Prelude.{Bool, true, ◌==◌, ◌&&◌, ◌⊎◌}
+use Rattle.std.specs.Prelude.{Bool, true, ◌==◌, ◌&&◌}
 use Rattle.std.specs.List.{list_any}
 use Rattle.run_lines.specs.declared.line.Doing.{Doing}
 use Rattle.run_lines.specs.declared.line.Doing.TheVariants as doing

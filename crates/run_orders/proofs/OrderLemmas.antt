@@ -150,7 +150,7 @@ may_but past thread (doing.Work context) may = may
 may_but past thread (doing.Stop context) may = may
 may_but past thread (doing.Restart context) may = may
 
-legal_but : (past : List Line) → IsLegalSoFar plain past → IsLegalBut past
+pub legal_but : (past : List Line) → IsLegalSoFar plain past → IsLegalBut past
 legal_but [] legal = tt
 legal_but (line ∷ past) legal = (legal_but past legal.0, may_but past line.thread line.does legal.1.rules)
 

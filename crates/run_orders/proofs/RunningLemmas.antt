@@ -22,7 +22,7 @@ use Rattle.run_orders.specs.Orders.{EachMayStand, IsLegalBut, IsPut, MayDoBut, M
 use Rattle.run_orders.specs.Trees.{Spot, around_by, spot_at, tree, writer}
 use Rattle.run_orders.proofs.TreeLemmas.{IsEnd, IsIn, found, legal_end, some_same, spot_of_end}
 use Rattle.run_orders.proofs.BeginLemmas.{IsBegun, begun_before, frame_top, one_frame}
-use Rattle.run_orders.proofs.StandLemmas.{Executes, IsWritten, cause_stands, equal_ops, one_number, op_of_begin, op_of_end, renumbered_ends, stack_of, stood, stood_stands, tree_of_begin, written}
+use Rattle.run_orders.proofs.StandLemmas.{Executes, IsWritten, cause_stands, equal_ops, executes_more, one_number, op_of_begin, op_of_end, renumbered_ends, stack_of, stood, stood_stands, tree_of_begin, written}
 
 -- what ends an execution
 
@@ -32,7 +32,7 @@ spot_legal run legal spot (later, parted) =
     let whole : IsLegalSoFar plain (later ++ spot.line ∷ spot.past) = subst (λ (all : List Line). IsLegalSoFar plain all) parted legal in
     (legal_end plain later (spot.line ∷ spot.past) whole).1.rules
 
-may_end : (past : List Line) (thread op : ℕ) (does : Doing) → MayDo plain past thread does → ends does ≡ Some op → MayEnd past thread op
+pub may_end : (past : List Line) (thread op : ℕ) (does : Doing) → MayDo plain past thread does → ends does ≡ Some op → MayEnd past thread op
 may_end past thread op (doing.End number) may is = subst (λ (o : ℕ). MayEnd past thread o) (some_same number op is) may
 may_end past thread op (doing.Throw number) may is = subst (λ (o : ℕ). MayEnd past thread o) (some_same number op is) may
 may_end past thread op _ may is = cc
@@ -149,7 +149,7 @@ in_after past thread number (doing.Throw op) may there goes_on =
         ⊎_elim (λ (e : one ≡ number). let same : one ≡ op = cc in absurd (goes_on (ap Some (sym same ∙ e)))) (λ is. is) there
 in_after past thread number _ may there goes_on = there
 
-in_next : (past : List Line) (line : Line) (thread number : ℕ) → MayDoBut past line.thread line.does → IsIn number (stack past thread)
+pub in_next : (past : List Line) (line : Line) (thread number : ℕ) → MayDoBut past line.thread line.does → IsIn number (stack past thread)
     → (ends line.does ≡ Some number → ⊥) → IsIn number (stack (line ∷ past) thread)
 in_next past line thread number may there goes_on =
     cond_both (line.thread == thread) (stack_after line.does (stack past thread)) (stack past thread) (λ (ops : List ℕ). IsIn number ops)
@@ -157,7 +157,7 @@ in_next past line thread number may there goes_on =
     subst (λ (t : ℕ). IsIn number (stack past t) → IsIn number (stack_after line.does (stack past t))) same
     (λ is. in_after past line.thread number line.does may is goes_on) there) (λ elsewhere. there)
 
-top_in : (ops : List ℕ) (thread number : ℕ) → frame_of ops thread ≡ Execution number → IsIn number ops
+pub top_in : (ops : List ℕ) (thread number : ℕ) → frame_of ops thread ≡ Execution number → IsIn number ops
 top_in [] thread number is = cc
 top_in (one ∷ rest) thread number is = let e : one ≡ number = cc in inl e
 
@@ -203,7 +203,7 @@ running run legal apart (step ∷ before) each but claim thing op is put there k
     mine is.writes (claim_plain claim thing is.claims) in
     subst (λ (t : ℕ). Running run (step ∷ before) mine.spot op t) (ap (λ (s : Step). s.line.thread) here)
     (record {
-      executes = more before step mine.spot op step.line.thread w.executes;
+      executes = executes_more run step before mine.spot op step.line.thread w.executes;
       within =
           in_next (lines_of before) step.line step.line.thread w.executes.number but.1
           (top_in (stack (lines_of before) step.line.thread) step.line.thread w.executes.number w.writes)
@@ -216,23 +216,13 @@ running run legal apart (step ∷ before) each but claim thing op is put there k
     let was = running run legal apart before each.0 but.0 claim thing op is put earlier
     (λ at later found_at gives stands. kept at later found_at gives (inr stands)) in
     record {
-      executes = more before step (claim_begun run legal claim thing op is).spot op put.line.thread was.executes;
+      executes = executes_more run step before (claim_begun run legal claim thing op is).spot op put.line.thread was.executes;
       within =
           in_next (lines_of before) step.line put.line.thread was.executes.number but.1 was.within
           (λ ended. goes_on run legal apart before each.0 step each.1 claim thing op is put earlier kept was.executes ended);
     })
     there.stands
   where
-    more : (before : List Step) (step : Step) (spot : Spot) (op thread : ℕ) → Executes run before spot op thread
-        → Executes run (step ∷ before) spot op thread
-    more before step spot op thread was = record {
-      number = was.number;
-      begin = was.begin;
-      put = record { stands = inr was.put.stands; there = was.put.there };
-      copied = was.copied;
-      on = was.on;
-    }
-
     claims_end : (number : ℕ) (does : Doing) (op : ℕ) → ends (renumbered number does) ≡ Some op → does ≡ doing.Claim thing → ⊥
     claims_end number does op ended claims =
         let no : None ≡ Some op = ap (λ (d : Doing). ends (renumbered number d)) (sym claims) ∙ ended in cc

@@ -1,7 +1,7 @@
 -- What stands in an order of a run.
 use Rattle.std.proofs.Common.{◌≡◌, ℕ, List, [], ◌∷◌, refl, ap, sym, subst, ◌∙◌, inl, inr, ⊎_elim, length}
 use Rattle.std.proofs.lemmas.Bool.{eq-eqb, eqb-true}
-use Rattle.std.specs.Prelude.{true, ◌==◌, ◌⊎◌, Option, Some, nat_eq}
+use Rattle.std.specs.Prelude.{true, ◌==◌, Option, Some, nat_eq}
 use Rattle.std.specs.Option.{option_eq}
 use Rattle.run_lines.specs.declared.line.Doing.{Doing}
 use Rattle.run_lines.specs.declared.line.Doing.TheVariants as doing
@@ -143,6 +143,16 @@ pub record Executes (run : List Line) (steps : List Step) (spot : Spot) (op thre
   pub put : IsPut run steps begin spot
   pub copied : begins begin.line.does number ≡ true
   pub on : begin.line.thread ≡ thread
+
+abbrev pub executes_more : (run : List Line) (step : Step) (before : List Step) (spot : Spot) (op thread : ℕ)
+    → Executes run before spot op thread → Executes run (step ∷ before) spot op thread
+executes_more run step before spot op thread was = record {
+  number = was.number;
+  begin = was.begin;
+  put = record { stands = inr was.put.stands; there = was.put.there };
+  copied = was.copied;
+  on = was.on;
+}
 
 -- the execution that writes a line has begun, and writes it there, too
 pub record IsWritten (run : List Line) (before : List Step) (spot : Spot) (op thread : ℕ) : Type 0 where

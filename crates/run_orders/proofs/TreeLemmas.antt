@@ -74,7 +74,7 @@ abbrev pub IsIn : ℕ → List ℕ → Type 0
 IsIn op [] = ⊥
 IsIn op (one ∷ others) = (one ≡ op) ⊎ IsIn op others
 
-in_outer : (op : ℕ) (ops : List ℕ) → IsIn op (outer ops) → IsIn op ops
+pub in_outer : (op : ℕ) (ops : List ℕ) → IsIn op (outer ops) → IsIn op ops
 in_outer op [] is = is
 in_outer op (one ∷ others) is = inr is
 
@@ -130,6 +130,10 @@ executions_on level (line ∷ past) legal thread op =
     (λ o there. begun_still level past line o line.thread legal.1.rules (executions_on level past legal.0 line.thread o there))))
     (λ elsewhere there. begun_still level past line op thread legal.1.rules (executions_on level past legal.0 thread op there))
 
+pub begun_in_stack : (level : Level) (past : List Line) → IsLegalSoFar level past → (thread op : ℕ) → IsIn op (stack past thread)
+    → is_begun past op ≡ true
+begun_in_stack level past legal thread op there = is_begun_on past op thread (executions_on level past legal thread op there)
+
 around_on : (level : Level) (spot : Spot) → IsLegalSoFar level (spot.line ∷ spot.past) → (op : ℕ) (does : Doing)
     → does ≡ spot.line.does → IsIn op (around_by does (stack spot.past spot.line.thread))
     → begun_on (spot.line ∷ spot.past) op ≡ Some spot.line.thread
@@ -183,7 +187,7 @@ tree_on_thread level run legal one other first second =
 
 -- who writes the first line of a tree
 
-none_root : (ops : List ℕ) → root [] ops ≡ None → ops ≡ []
+pub none_root : (ops : List ℕ) → root [] ops ≡ None → ops ≡ []
 none_root [] none = refl
 none_root (op ∷ []) none = cc
 none_root (op ∷ other ∷ others) none = absurd (cons_apart other others (none_root (other ∷ others) none))

@@ -16,42 +16,19 @@ use Rattle.run_orders.specs.Guards.{UnderLock}
 use Rattle.run_orders.specs.Holding.{GivesBack}
 use Rattle.run_orders.specs.Orders.{EachMayStand, IsPut, IsStep, MayStand, Stands, lines_of, plain, renumbered}
 use Rattle.run_orders.specs.Trees.{Spot, around_by, frame_by, root, spot_at, tree, writer}
-use Rattle.run_orders.proofs.TreeLemmas.{IsEnd, begun_one, found, some_same}
+use Rattle.run_orders.proofs.TreeLemmas.{IsEnd, found, some_same}
 use Rattle.run_orders.proofs.BeginLemmas.{begun_before}
-use Rattle.run_orders.proofs.StandLemmas.{Executes, cause_stands, equal_ops, frame_in, one_number, op_of_begin, same_thread, stack_of, stands_step, stood, stood_stands, tree_of_begin, written}
+use Rattle.run_orders.proofs.StandLemmas.{Executes, cause_stands, frame_in, op_of_begin, same_thread, stack_of, stands_step, stood, stood_stands, tree_of_begin, written}
+use Rattle.run_orders.proofs.NumberLemmas.{same_named}
 use Rattle.run_orders.proofs.LockLemmas.{lock_stays, lock_taken, thread_has}
 
 -- two begins of one number in an order begin one operation in the run
-same_begun : (run : List Line) (apart : List ℕ) (steps : List Step) → EachMayStand run apart steps → (one two : Step) (a b : Spot)
+pub same_begun : (run : List Line) (apart : List ℕ) (steps : List Step) → EachMayStand run apart steps → (one two : Step) (a b : Spot)
     (op other number : ℕ) → IsPut run steps one a → IsPut run steps two b → begins a.line.does op ≡ true → begins b.line.does other ≡ true
     → begins one.line.does number ≡ true → begins two.line.does number ≡ true → op ≡ other
-same_begun run apart [] each one two a b op other number first second is too copy copied = absurd first.stands
-same_begun run apart (step ∷ before) each one two a b op other number first second is too copy copied =
-    ⊎_elim
-    (λ (here : step ≡ one). ⊎_elim
-    (λ (also : step ≡ two).
-    let same : a ≡ b = some_same a b (sym first.there ∙ ap (λ (s : Step). spot_at run s.place) (sym here ∙ also) ∙ second.there) in
-    begun_one b.line.does op other (ap (λ (s : Spot). begins s.line.does op) (sym same) ∙ is) too)
-    (λ behind. let same : each.1.spot ≡ a =
-    some_same each.1.spot a (sym each.1.there ∙ ap (λ (s : Step). spot_at run s.place) here ∙ first.there) in
-    sym (equal_ops other op number
-    (one_number b.line.does each.1.spot.line.does two.line.does step.line.does other op number number
-    (each.1.numbered two b (record { stands = behind; there = second.there })) (op_of_begin b.line.does other too)
-    (op_of_begin each.1.spot.line.does op (ap (λ (s : Spot). begins s.line.does op) same ∙ is))
-    (op_of_begin two.line.does number copied)
-    (op_of_begin step.line.does number (ap (λ (s : Step). begins s.line.does number) here ∙ copy)))))
-    second.stands)
-    (λ behind. ⊎_elim
-    (λ (also : step ≡ two). let same : each.1.spot ≡ b =
-    some_same each.1.spot b (sym each.1.there ∙ ap (λ (s : Step). spot_at run s.place) also ∙ second.there) in
-    equal_ops op other number
-    (one_number a.line.does each.1.spot.line.does one.line.does step.line.does op other number number
-    (each.1.numbered one a (record { stands = behind; there = first.there })) (op_of_begin a.line.does op is)
-    (op_of_begin each.1.spot.line.does other (ap (λ (s : Spot). begins s.line.does other) same ∙ too))
-    (op_of_begin one.line.does number copy)
-    (op_of_begin step.line.does number (ap (λ (s : Step). begins s.line.does number) also ∙ copied))))
-    (λ both. same_begun run apart before each.0 one two a b op other number (record { stands = behind; there = first.there })
-    (record { stands = both; there = second.there }) is too copy copied) second.stands) first.stands
+same_begun run apart steps each one two a b op other number first second is too copy copied =
+    same_named run apart steps each one two a b first second op other number (op_of_begin a.line.does op is)
+    (op_of_begin b.line.does other too) (op_of_begin one.line.does number copy) (op_of_begin two.line.does number copied)
 
 -- in an order, who writes a line is known by who writes it in the run
 

@@ -6,9 +6,10 @@ use Rattle.run_orders.specs.declared.guard.Guard.{Guard}
 use Rattle.run_orders.specs.declared.order.Step.{Step}
 use Rattle.run_orders.specs.Guards.{Guards, GuardsAll}
 use Rattle.run_orders.specs.Forced.{IsForced}
+use Rattle.run_orders.specs.Handing.{HandsOver}
 use Rattle.run_orders.specs.Holding.{GivesBack, HoldsBoth}
 use Rattle.run_orders.specs.Joins.{JoinsAll}
-use Rattle.run_orders.specs.Orders.{IsOrderOf, plain}
+use Rattle.run_orders.specs.Orders.{IsOrderOf, Stands, plain}
 use Rattle.run_orders.specs.Trees.{Spot, spot_at, tree}
 
 -- a run as an order of itself: each line stands where it is
@@ -50,3 +51,12 @@ KeepsForcedApart run apart steps = (thing place other at : ℕ) (one later : Spo
 abbrev pub JoinsSuffice : List Line → Type 0
 JoinsSuffice run = (guard : Guard) (thread place thing : ℕ) → IsLegalSoFar plain run → JoinsAll run guard thread place thing →
     NeverOverlaps run thing
+
+-- what is forced before a line stands before it in each order
+abbrev pub KeepsForcedOrder : List Line → List ℕ → List Step → Type 0
+KeepsForcedOrder run apart before = (step : Step) (first : ℕ) → IsLegalSoFar plain run → IsOrderOf run apart (step ∷ before) →
+    IsForced run first step.place → Stands before first
+
+-- a thing never overlaps if it is handed over from claim to claim
+abbrev pub HandingSuffices : List Line → Type 0
+HandingSuffices run = (thing : ℕ) → IsLegalSoFar plain run → HandsOver run thing → NeverOverlaps run thing

@@ -6,4 +6,5 @@ pub mod Holding
 pub mod Guards
 pub mod Forced
 pub mod Joins
+pub mod Handing
 pub mod Laws

@@ -1,7 +1,7 @@
 ghost use Rattle.std.specs.Prelude.{ℕ, List};
 ghost use Rattle.run_lines.specs.declared.line.Line.{Line};
 ghost use Rattle.run_orders.specs.declared.order.Step.{Step};
-ghost use Rattle.run_orders.specs.Laws.{GuardsSuffice, IsOrderOfItself, JoinsSuffice, KeepsForcedApart, KeepsGuardedApart, KeepsOneTreeApart};
+ghost use Rattle.run_orders.specs.Laws.{GuardsSuffice, HandingSuffices, IsOrderOfItself, JoinsSuffice, KeepsForcedApart, KeepsForcedOrder, KeepsGuardedApart, KeepsOneTreeApart};
 
 /// A legal run is an order of itself, with nothing set apart.
 pub fn runs_are_orders_of_themselves()
@@ -32,4 +32,16 @@ pub fn forced_claims_never_overlap()
 /// others, which its thread makes.
 pub fn joined_things_never_overlap()
     ensures { (run : List Line) → JoinsSuffice run }
+{}
+
+/// What is forced before a line stands before it in each order: its causes, and the ends of executions
+/// whose turn on a strand comes before the turn that this line begins.
+pub fn forced_lines_keep_their_order()
+    ensures { (run : List Line) (apart : List ℕ) (before : List Step) → KeepsForcedOrder run apart before }
+{}
+
+/// A thing never overlaps if each claim of it is given back before the next ones are made in each
+/// order.
+pub fn handed_things_never_overlap()
+    ensures { (run : List Line) → HandingSuffices run }
 {}

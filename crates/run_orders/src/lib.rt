@@ -10,7 +10,8 @@ mod order;
 
 pub use guard::Guard;
 pub use law::{
-    forced_claims_never_overlap, guarded_claims_never_overlap, guarded_things_never_overlap,
-    joined_things_never_overlap, runs_are_orders_of_themselves, trees_claim_on_one_thread,
+    forced_claims_never_overlap, forced_lines_keep_their_order, guarded_claims_never_overlap,
+    guarded_things_never_overlap, handed_things_never_overlap, joined_things_never_overlap,
+    runs_are_orders_of_themselves, trees_claim_on_one_thread,
 };
 pub use order::Step;

@@ -1,13 +1,12 @@
 -- What stands where its guards want it is guarded in each order.
-use Rattle.std.proofs.Common.{◌≡◌, ◌+◌, ℕ, ◌<◌, List, [], ◌∷◌, ◌++◌, refl, ap, sym, subst, ◌∙◌, inl, inr, ⊎_elim, length, arith, length-append}
-use Rattle.std.proofs.lemmas.Bool.{both_ways, eq-eqb, eqb-true, ne_eqb, or_cases}
-use Rattle.std.specs.Prelude.{Bool, true, false, ◌==◌, ◌⊎◌, Some}
+use Rattle.std.proofs.Common.{◌≡◌, ℕ, ◌<◌, List, [], ◌∷◌, ◌++◌, refl, ap, sym, subst, ◌∙◌, inl, inr, ⊎_elim, length, arith}
+use Rattle.std.proofs.lemmas.Bool.{both_ways, cases_Bool, eq-eqb, eqb-true, or_cases}
+use Rattle.std.specs.Prelude.{Bool, true, false, ◌⊎◌, Option, Some, None}
 use Rattle.std.specs.List.{list_any}
 use Rattle.run_lines.specs.declared.line.Doing.{Doing}
 use Rattle.run_lines.specs.declared.line.Doing.TheVariants as doing
 use Rattle.run_lines.specs.declared.line.Line.{Line}
 use Rattle.run_rules.specs.declared.frame.Frame.{Frame}
-use Rattle.run_rules.specs.declared.frame.Frame.TheVariants.{Execution, Outside}
 use Rattle.run_rules.specs.declared.taking.Resource.TheVariants.{Lock, Thing}
 use Rattle.run_rules.specs.declared.taking.Taking.{Taking}
 use Rattle.run_rules.specs.Calls.{begins, context_of}
@@ -17,53 +16,58 @@ use Rattle.run_rules.specs.Takings.{is_taken_by, same_taking, taken, taken_after
 use Rattle.run_rules.proofs.TakingLemmas.{any-without}
 use Rattle.run_orders.specs.declared.guard.Guard.{Guard}
 use Rattle.run_orders.specs.declared.guard.Guard.TheVariants as guard
-use Rattle.run_orders.specs.Guards.{GuardsAll, UnderLock}
+use Rattle.run_joins.specs.declared.joining.Joined.{Joined}
+use Rattle.run_joins.specs.Joining.{KeepsJoin, is_late}
+use Rattle.run_joins.proofs.JoiningLemmas.{behind_join, one_thread}
+use Rattle.run_joins.proofs.ReachingLemmas.{place_of}
+use Rattle.run_orders.specs.Guards.{Guards, UnderLock}
+use Rattle.run_orders.specs.Joins.{IsBehind, IsOverBefore}
+use Rattle.run_orders.proofs.JoinLemmas.{joins_suffice}
 use Rattle.run_orders.specs.Laws.{NeverOverlaps}
 use Rattle.run_orders.specs.Orders.{IsWorker, plain}
 use Rattle.run_orders.specs.Trees.{Spot, spot_at, writer}
 use Rattle.run_orders.proofs.TreeLemmas.{IsEnd, end_more, found, some_same, spot_of_end}
-use Rattle.run_orders.proofs.BeginLemmas.{begun_before, end_of_end, one_frame, shorter}
+use Rattle.run_orders.proofs.BeginLemmas.{end_of_end, shorter}
+use Rattle.run_orders.proofs.EndingLemmas.{nested}
 use Rattle.run_orders.proofs.GuardLemmas.{guards_suffice}
 use Rattle.run_orders.proofs.LockLemmas.{are_same, is_it, locked_by}
-use Rattle.run_orders.proofs.StandLemmas.{stack_of}
-use Rattle.run_orders.proofs.UnderLockLemmas.{outside_stack}
 use Rattle.run_overlaps.specs.declared.guards.Guards as kept
-use Rattle.run_overlaps.specs.Guarding.{AllKeep, IsGivenUp, KeepsGuards, guard_of, worker_of}
+use Rattle.run_overlaps.specs.Guarding.{AllKeep, IsExempt, IsGivenUp, IsGuardedBy, KeepsGuards, KeepsJoins, guard_of, worker_of}
 
 -- each line stands where the guards want it
 
-keep_end : (guards : kept.Guards) (later past : List Line) → AllKeep guards (later ++ past) → AllKeep guards past
-keep_end guards [] past all = all
-keep_end guards (line ∷ later) past all = keep_end guards later past all.0
+keep_end : (guards : kept.Guards) (joins : Option Joined) (later past : List Line) → AllKeep guards joins (later ++ past) → AllKeep guards joins past
+keep_end guards joins [] past all = all
+keep_end guards joins (line ∷ later) past all = keep_end guards joins later past all.0
 
-keep_at : (guards : kept.Guards) (run : List Line) → AllKeep guards run → (spot : Spot) → IsEnd run (spot.line ∷ spot.past)
-    → AllKeep guards (spot.line ∷ spot.past)
-keep_at guards run all spot (later, parted) =
-    keep_end guards later (spot.line ∷ spot.past) (subst (λ (l : List Line). AllKeep guards l) parted all)
+keep_at : (guards : kept.Guards) (joins : Option Joined) (run : List Line) → AllKeep guards joins run → (spot : Spot) → IsEnd run (spot.line ∷ spot.past)
+    → AllKeep guards joins (spot.line ∷ spot.past)
+keep_at guards joins run all spot (later, parted) =
+    keep_end guards joins later (spot.line ∷ spot.past) (subst (λ (l : List Line). AllKeep guards joins l) parted all)
 
-keeps : (guards : kept.Guards) (run : List Line) → AllKeep guards run → (place : ℕ) (spot : Spot) → spot_at run place ≡ Some spot
-    → (does : Doing) → spot.line.does ≡ does → KeepsGuards guards spot.past spot.line.thread does
-keeps guards run all place spot there does is =
-    subst (λ (d : Doing). KeepsGuards guards spot.past spot.line.thread d) is
-    (keep_at guards run all spot (found run place spot there).end).1
+keeps : (guards : kept.Guards) (joins : Option Joined) (run : List Line) → AllKeep guards joins run → (place : ℕ) (spot : Spot) → spot_at run place ≡ Some spot
+    → (does : Doing) → spot.line.does ≡ does → KeepsGuards guards joins spot.past spot.line.thread does
+keeps guards joins run all place spot there does is =
+    subst (λ (d : Doing). KeepsGuards guards joins spot.past spot.line.thread d) is
+    (keep_at guards joins run all spot (found run place spot there).end).1
 
 -- the one thread of a context
 
-begins_keep : (guards : kept.Guards) (past : List Line) (by op context thread : ℕ) (does : Doing) → KeepsGuards guards past by does
+begins_keep : (guards : kept.Guards) (joins : Option Joined) (past : List Line) (by op context thread : ℕ) (does : Doing) → KeepsGuards guards joins past by does
     → begins does op ≡ true → context_of past op ≡ Some context → worker_of guards context ≡ Some thread → by ≡ thread
-begins_keep guards past by op context thread (doing.Begin number code size) keep is at alone =
+begins_keep guards joins past by op context thread (doing.Begin number code size) keep is at alone =
     keep context thread (ap (λ (o : ℕ). context_of past o) (eqb-true number op is) ∙ at) alone
-begins_keep guards past by op context thread _ keep is at alone = cc
+begins_keep guards joins past by op context thread _ keep is at alone = cc
 
-alone_there : (guards : kept.Guards) (run : List Line) → AllKeep guards run → (context thread other : ℕ)
+alone_there : (guards : kept.Guards) (joins : Option Joined) (run : List Line) → AllKeep guards joins run → (context thread other : ℕ)
     → worker_of guards context ≡ Some thread → IsWorker run other context → other ≡ thread
-alone_there guards run all context thread other is worker =
+alone_there guards joins run all context thread other is worker =
     let spot = worker.spot in
     sym worker.same
     ∙ ⊎_elim (λ (works : spot.line.does ≡ doing.Work context).
-    keeps guards run all worker.place spot worker.there (doing.Work context) works thread is)
-    (λ begun. begins_keep guards spot.past spot.line.thread begun.0 context thread spot.line.does
-    (keeps guards run all worker.place spot worker.there spot.line.does refl) begun.1 begun.2 is) worker.works
+    keeps guards joins run all worker.place spot worker.there (doing.Work context) works thread is)
+    (λ begun. begins_keep guards joins spot.past spot.line.thread begun.0 context thread spot.line.does
+    (keeps guards joins run all worker.place spot worker.there spot.line.does refl) begun.1 begun.2 is) worker.works
 
 -- the lock that a frame has
 
@@ -130,13 +134,13 @@ last_or line past spot ([], parted) =
     inl (ap (λ (l : Line). spot_of l past) head ∙ ap (λ (p : List Line). spot_of spot.line p) tail)
 last_or line past spot (first ∷ later, parted) = let tail : past ≡ later ++ spot.line ∷ spot.past = cc in inr (later, tail)
 
-locked_since : (guards : kept.Guards) (past : List Line) → AllKeep guards past → (thread : ℕ) (who : Frame) (lock : ℕ)
+locked_since : (guards : kept.Guards) (joins : Option Joined) (past : List Line) → AllKeep guards joins past → (thread : ℕ) (who : Frame) (lock : ℕ)
     → is_taken_by past thread who (Lock lock) ≡ true → IsLockedSince past thread who lock
-locked_since guards [] all thread who lock is = cc
-locked_since guards (line ∷ past) all thread who lock is =
+locked_since guards joins [] all thread who lock is = cc
+locked_since guards joins (line ∷ past) all thread who lock is =
     ⊎_elim
     (λ before.
-    let was = locked_since guards past all.0 thread who lock before in
+    let was = locked_since guards joins past all.0 thread who lock before in
     record {
       locked = was.locked;
       end = (line ∷ was.end.0, ap (λ (l : List Line). line ∷ l) was.end.1);
@@ -167,37 +171,6 @@ locked_since guards (line ∷ past) all thread who lock is =
     })
     (comes line.thread (frame past line.thread) line.does (taken past) thread who lock is)
 
--- an earlier line of a run stands before a later one
-
-skip : (later past : List Line) (place : ℕ) → place < length past → spot_at (later ++ past) place ≡ spot_at past place
-skip [] past place less = refl
-skip (line ∷ later) past place less =
-    let long : length (later ++ past) ≡ length later + length past = length-append later past in
-    let apart : (length (later ++ past) == place) ≡ false =
-    ne_eqb (length (later ++ past)) place (λ e. omega arith) in
-    rw apart (skip later past place less)
-
-nested : (run : List Line) (one other : Spot) → IsEnd run (one.line ∷ one.past) → IsEnd run (other.line ∷ other.past)
-    → length other.past < length one.past → IsEnd one.past (other.line ∷ other.past)
-nested run one other end (more, parted) less =
-    let deep : IsEnd run one.past = end_more run one.line one.past end in
-    let there : spot_at one.past (length other.past) ≡ Some other =
-    sym (skip deep.0 one.past (length other.past) less) ∙ ap (λ (l : List Line). spot_at l (length other.past)) (sym deep.1)
-    ∙ spot_of_end run other.line other.past (more, parted) in
-    (found one.past (length other.past) other there).end
-
-one_thread : (run : List Line) → IsLegalSoFar plain run → (one other : Spot) → IsEnd run (one.line ∷ one.past)
-    → IsEnd run (other.line ∷ other.past) → writer one ≡ writer other → one.line.thread ≡ other.line.thread
-one_thread run legal one other end end_too same = by_writer (writer other) refl
-  where
-    by_writer : (who : Frame) → writer other ≡ who → one.line.thread ≡ other.line.thread
-    by_writer (Execution op) is =
-        (one_frame run one other op (begun_before run plain legal one end op (same ∙ is))
-        (begun_before run plain legal other end_too op is)).thread
-    by_writer (Outside by) is =
-        (outside_stack (stack_of one) one.line.thread by (same ∙ is)).1
-        ∙ sym (outside_stack (stack_of other) other.line.thread by is).1
-
 -- what wasn't there isn't there without something else
 gone_too : (it gone : Taking) (all : List Taking) → list_any (is_it it) all ≡ false → list_any (is_it it) (without gone all) ≡ false
 gone_too it gone all not = by_cases (list_any (is_it it) (without gone all)) refl
@@ -215,14 +188,14 @@ unlock_gone spot thread lock thing who is not =
     (gone_too (record { thread = thread; frame = who; resource = Thing thing })
     (locked_by spot.line.thread (frame spot.past spot.line.thread) lock) (taken spot.past) not)
 
-under_lock : (guards : kept.Guards) (run : List Line) → IsLegalSoFar plain run → AllKeep guards run → (thing lock place : ℕ)
+under_lock : (guards : kept.Guards) (joins : Option Joined) (run : List Line) → IsLegalSoFar plain run → AllKeep guards joins run → (thing lock place : ℕ)
     → guard_of guards thing ≡ Some (guard.Lock lock) → (claim : Spot) → spot_at run place ≡ Some claim
-    → claim.line.does ≡ doing.Claim thing → UnderLock run lock thing claim
-under_lock guards run legal all thing lock place is claim there claims =
+    → claim.line.does ≡ doing.Claim thing → is_taken_by claim.past claim.line.thread (writer claim) (Lock lock) ≡ true
+    → UnderLock run lock thing claim
+under_lock guards joins run legal all thing lock place is claim there claims held =
     let end = (found run place claim there).end in
     let deep : IsEnd run claim.past = end_more run claim.line claim.past end in
-    let held = keeps guards run all place claim there (doing.Claim thing) claims (guard.Lock lock) is in
-    let since = locked_since guards claim.past (keep_at guards run all claim end).0 claim.line.thread (writer claim) lock held in
+    let since = locked_since guards joins claim.past (keep_at guards joins run all claim end).0 claim.line.thread (writer claim) lock held in
     let locked = since.locked in
     let whole : IsEnd run (locked.line ∷ locked.past) = end_of_end run claim.past (locked.line ∷ locked.past) deep since.end in
     record {
@@ -243,7 +216,7 @@ under_lock guards run legal all thing lock place is claim there claims =
                 unlock_gone later claim.line.thread lock thing (writer claim) unlocks
                 (subst (λ (f : Frame). is_taken_by later.past claim.line.thread f (Thing thing) ≡ false) same
                 (subst (λ (t : ℕ). is_taken_by later.past t (writer later) (Thing thing) ≡ false) on
-                (keeps guards run all at later there_too (doing.Unlock lock) unlocks thing is)));
+                (keeps guards joins run all at later there_too (doing.Unlock lock) unlocks thing is)));
           })
           (λ rest. ⊎_elim
           (λ (before : length later.past < length claim.past).
@@ -259,25 +232,63 @@ under_lock guards run legal all thing lock place is claim there claims =
     three : (a b : ℕ) → (a < b) ⊎ ((b < a) ⊎ (b ≡ a))
     three a b = grind (arith)
 
-pub guards_all : (guards : kept.Guards) (run : List Line) → IsLegalSoFar plain run → AllKeep guards run → (thing : ℕ) (how : Guard)
-    → guard_of guards thing ≡ Some how → GuardsAll run how thing
-guards_all guards run legal all thing (guard.Strand strand) is place claim there claims =
-    let held = keeps guards run all place claim there (doing.Claim thing) claims (guard.Strand strand) is in
+-- a claim where its guard is
+guarded : (guards : kept.Guards) (joins : Option Joined) (run : List Line) → IsLegalSoFar plain run → AllKeep guards joins run
+    → (thing place : ℕ) (how : Guard) → guard_of guards thing ≡ Some how → (claim : Spot) → spot_at run place ≡ Some claim
+    → claim.line.does ≡ doing.Claim thing → IsGuardedBy guards claim.past claim.line.thread how → Guards run how thing claim
+guarded guards joins run legal all thing place (guard.Strand strand) is claim there claims held =
     record { op = held.0; claims = held.1; on = held.2 }
-guards_all guards run legal all thing (guard.Lock lock) is place claim there claims =
-    under_lock guards run legal all thing lock place is claim there claims
-guards_all guards run legal all thing (guard.Thread thread) is place claim there claims =
+guarded guards joins run legal all thing place (guard.Lock lock) is claim there claims held =
+    under_lock guards joins run legal all thing lock place is claim there claims held
+guarded guards joins run legal all thing place (guard.Thread thread) is claim there claims held =
     ⊎_elim (λ outside. inl outside)
-    (λ held. inr (record {
-      op = held.0;
-      context = held.1;
-      claims = held.2;
-      of_context = held.3;
-      alone = λ other worker. alone_there guards run all held.1 thread other held.4 worker;
-    }))
-    (keeps guards run all place claim there (doing.Claim thing) claims (guard.Thread thread) is)
+    (λ works. inr (record {
+      op = works.0;
+      context = works.1;
+      claims = works.2;
+      of_context = works.3;
+      alone = λ other worker. alone_there guards joins run all works.1 thread other works.4 worker;
+    })) held
 
-pub never_overlaps : (guards : kept.Guards) (run : List Line) → AllKeep guards run → IsLegalSoFar plain run → (thing : ℕ) (how : Guard)
-    → guard_of guards thing ≡ Some how → NeverOverlaps run thing
-never_overlaps guards run all legal thing how is =
-    guards_suffice run how thing legal (guards_all guards run legal all thing how is)
+claim_keeps : (guards : kept.Guards) (joins : Option Joined) (run : List Line) → AllKeep guards joins run → (thing place : ℕ) (how : Guard)
+    → guard_of guards thing ≡ Some how → (claim : Spot) → spot_at run place ≡ Some claim → claim.line.does ≡ doing.Claim thing
+    → IsGuardedBy guards claim.past claim.line.thread how ⊎ IsExempt joins claim.past claim.line.thread thing
+claim_keeps guards joins run all thing place how is claim there claims =
+    keeps guards joins run all place claim there (doing.Claim thing) claims how is
+
+-- where nothing is exempt, the guard suffices
+without_join : (guards : kept.Guards) (joins : Option Joined) (run : List Line) → IsLegalSoFar plain run → AllKeep guards joins run
+    → (thing : ℕ) (how : Guard) → guard_of guards thing ≡ Some how
+    → ((past : List Line) (by : ℕ) → IsExempt joins past by thing → ⊥) → NeverOverlaps run thing
+without_join guards joins run legal all thing how is none =
+    guards_suffice run how thing legal (λ place claim there claims.
+    ⊎_elim (λ held. guarded guards joins run legal all thing place how is claim there claims held)
+    (λ (exempt : IsExempt joins claim.past claim.line.thread thing). absurd (none claim.past claim.line.thread exempt))
+    (claim_keeps guards joins run all thing place how is claim there claims))
+
+with_join : (guards : kept.Guards) (joined : Joined) (run : List Line) → IsLegalSoFar plain run → AllKeep guards (Some joined) run
+    → KeepsJoin run joined → (thing : ℕ) (how : Guard) → guard_of guards thing ≡ Some how → is_late joined thing ≡ false
+    → NeverOverlaps run thing
+with_join guards joined run legal all join thing how is not =
+    joins_suffice run how joined.join.thread joined.join.place thing legal (λ at claim there claims.
+    ⊎_elim
+    (λ (held : IsGuardedBy guards claim.past claim.line.thread how). ⊎_elim
+    (λ (over : IsOverBefore run joined.join.place thing claim).
+    inl (guarded guards (Some joined) run legal all thing at how is claim there claims held, over))
+    (λ (behind : IsBehind run joined.join.thread joined.join.place at claim). inr behind)
+    (join.claims thing at claim not there claims))
+    (λ (exempt : IsExempt (Some joined) claim.past claim.line.thread thing).
+    inr (behind_join run joined.join join.joins at claim there thing claims exempt.1
+    (subst (λ (p : ℕ). joined.join.place < p) (place_of run at claim there) exempt.2)))
+    (claim_keeps guards (Some joined) run all thing at how is claim there claims))
+
+pub never_overlaps : (guards : kept.Guards) (joins : Option Joined) (run : List Line) → AllKeep guards joins run → IsLegalSoFar plain run
+    → KeepsJoins run joins → (thing : ℕ) (how : Guard) → guard_of guards thing ≡ Some how → NeverOverlaps run thing
+never_overlaps guards None run all legal join thing how is =
+    without_join guards None run legal all thing how is (λ past by exempt. exempt)
+never_overlaps guards (Some joined) run all legal join thing how is =
+    ⊎_elim
+    (λ (late : is_late joined thing ≡ true).
+    without_join guards (Some joined) run legal all thing how is (λ past by exempt. both_ways (is_late joined thing) exempt.0 late))
+    (λ (not : is_late joined thing ≡ false). with_join guards joined run legal all join thing how is not)
+    (cases_Bool (is_late joined thing))

@@ -1,5 +1,5 @@
 -- Where lines stand so that guards keep claims apart.
-use Rattle.std.specs.Prelude.{◌≡◌, ◌⊎◌, ℕ, List, [], ◌∷◌, true, false, Option, Some, nat_eq}
+use Rattle.std.specs.Prelude.{◌≡◌, ◌⊎◌, ◌<◌, ℕ, List, [], ◌∷◌, true, false, length, Option, Some, None, nat_eq}
 use Rattle.std.specs.HashMap.{get}
 use Rattle.std.specs.List.{Contains}
 use Rattle.run_lines.specs.declared.line.Doing.{Doing}
@@ -12,6 +12,8 @@ use Rattle.run_rules.specs.Stacks.{frame}
 use Rattle.run_rules.specs.Takings.{is_taken_by}
 use Rattle.run_orders.specs.declared.guard.Guard.{Guard}
 use Rattle.run_orders.specs.declared.guard.Guard.TheVariants as guard
+use Rattle.run_joins.specs.declared.joining.Joined.{Joined}
+use Rattle.run_joins.specs.Joining.{KeepsJoin, is_late}
 use Rattle.run_overlaps.specs.declared.guards.Guards.{Guards}
 use Rattle.run_overlaps.specs.declared.guards.UnderLock.{UnderLock}
 use Rattle.run_overlaps.specs.declared.watch.Watch.{Watch}
@@ -42,17 +44,29 @@ IsGuardedBy guards past by (guard.Thread thread) =
     (frame past by ≡ Outside thread) ⊎ ((op context : ℕ) × (frame past by ≡ Execution op) × (context_of past op ≡ Some context)
     × (worker_of guards context ≡ Some thread))
 
+-- what is known of the last join of a run, if there is one
+abbrev pub KeepsJoins : List Line → Option Joined → Type 0
+KeepsJoins run None = Unit {0}
+KeepsJoins run (Some joined) = KeepsJoin run joined
+
+-- who claims on a thread does so outside behind its join, and this thing isn't late
+abbrev pub IsExempt : Option Joined → List Line → ℕ → ℕ → Type 0
+IsExempt None past by thing = ⊥
+IsExempt (Some joined) past by thing =
+    (is_late joined thing ≡ false) × (frame past by ≡ Outside joined.join.thread) × (joined.join.place < length past)
+
 -- a line stands where the guards want it
-abbrev pub KeepsGuards : Guards → List Line → ℕ → Doing → Type 0
-KeepsGuards guards past by (doing.Claim thing) = (how : Guard) → guard_of guards thing ≡ Some how → IsGuardedBy guards past by how
+abbrev pub KeepsGuards : Guards → Option Joined → List Line → ℕ → Doing → Type 0
+KeepsGuards guards joins past by (doing.Claim thing) = (how : Guard) → guard_of guards thing ≡ Some how →
+    IsGuardedBy guards past by how ⊎ IsExempt joins past by thing
 -- what a mutex guards is given back before it is unlocked
-KeepsGuards guards past by (doing.Unlock lock) = (thing : ℕ) → guard_of guards thing ≡ Some (guard.Lock lock) →
+KeepsGuards guards joins past by (doing.Unlock lock) = (thing : ℕ) → guard_of guards thing ≡ Some (guard.Lock lock) →
     is_taken_by past by (frame past by) (Thing thing) ≡ false
 -- the handlers of a context that is said to have one thread are executed there
-KeepsGuards guards past by (doing.Work context) = (thread : ℕ) → worker_of guards context ≡ Some thread → by ≡ thread
-KeepsGuards guards past by (doing.Begin op code size) = (context thread : ℕ) → context_of past op ≡ Some context →
+KeepsGuards guards joins past by (doing.Work context) = (thread : ℕ) → worker_of guards context ≡ Some thread → by ≡ thread
+KeepsGuards guards joins past by (doing.Begin op code size) = (context thread : ℕ) → context_of past op ≡ Some context →
     worker_of guards context ≡ Some thread → by ≡ thread
-KeepsGuards guards past by _ = Unit {0}
+KeepsGuards guards joins past by _ = Unit {0}
 
 -- behind its unlock a frame has a mutex no more
 abbrev pub IsGivenUp : List Line → ℕ → Doing → Type 0
@@ -60,13 +74,13 @@ IsGivenUp behind by (doing.Unlock lock) = is_taken_by behind by (frame behind by
 IsGivenUp behind by _ = Unit {0}
 
 -- so do all lines
-abbrev pub AllKeep : Guards → List Line → Type 0
-AllKeep guards [] = Unit {0}
-AllKeep guards (line ∷ past) =
-    AllKeep guards past × KeepsGuards guards past line.thread line.does × IsGivenUp (line ∷ past) line.thread line.does
+abbrev pub AllKeep : Guards → Option Joined → List Line → Type 0
+AllKeep guards joins [] = Unit {0}
+AllKeep guards joins (line ∷ past) =
+    AllKeep guards joins past × KeepsGuards guards joins past line.thread line.does × IsGivenUp (line ∷ past) line.thread line.does
 
 -- these lines may come, and all stand where the guards want them
-pub record HasSeen (guards : Guards) (past : List Line) (watch : Watch) : Type 0 where
+pub record HasSeen (guards : Guards) (joins : Option Joined) (past : List Line) (watch : Watch) : Type 0 where
   pub watches : IsWatch past watch
   pub lists : lists_locked guards
-  pub keep : AllKeep guards past
+  pub keep : AllKeep guards joins past

@@ -1,2 +1,3 @@
 pub mod Watching
 pub mod Guarding
+pub mod Noting

@@ -33,17 +33,27 @@ fn claim_of(watch: &Watch, thread: u64, thing: u64) -> Claim {
     }
 }
 
-/// The claims of a run, in the order of its lines, as far as these may come.
-pub fn claims_of(alloc: Global, lines: &[Line]) -> Result<Vec<Claim>, AllocError> {
-    let mut claims = Vec::new(alloc);
-    let mut watch = Watch::new(alloc);
+/// Notes the claims of these lines, as far as they may come.
+fn note_claims(
+    claims: &mut Vec<Claim>,
+    watch: &mut Watch,
+    lines: &[Line],
+) -> Result<(), AllocError> {
     for line in lines {
         if let Doing::Claim { thing } = line.does {
-            claims.push(claim_of(&watch, line.thread, thing))?;
+            claims.push(claim_of(watch, line.thread, thing))?;
         }
         let Ok(()) = watch.follow(line) else {
             break;
         };
     }
+    Ok(())
+}
+
+/// The claims of a run, in the order of its lines, as far as these may come.
+pub fn claims_of(alloc: Global, lines: &[Line]) -> Result<Vec<Claim>, AllocError> {
+    let mut claims = Vec::new(alloc);
+    let mut watch = Watch::new(alloc);
+    note_claims(&mut claims, &mut watch, lines)?;
     Ok(claims)
 }

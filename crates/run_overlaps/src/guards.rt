@@ -1,4 +1,5 @@
 ghost use Rattle.std.specs.Prelude.{◌≡◌, ◌∷◌, ◌==◌, ℕ, IfOk, IsTrue, List, None, Option, Some, false, if◌then◌else◌};
+ghost use Rattle.run_joins.specs.declared.joining.Joined.{Joined};
 ghost use Rattle.run_lines.specs.declared.code.Code.{Code};
 ghost use Rattle.run_lines.specs.declared.line.Doing.{Doing};
 ghost use Rattle.run_lines.specs.declared.line.Line.{Line};
@@ -6,9 +7,11 @@ ghost use Rattle.run_orders.specs.declared.guard.Guard.{Guard};
 ghost use Rattle.run_rules.specs.declared.taking.Resource.{Resource};
 ghost use Rattle.run_rules.specs.Stacks.{frame};
 ghost use Rattle.run_rules.specs.Takings.{is_taken_by};
-ghost use Rattle.run_overlaps.specs.Guarding.{IsGivenBack};
+ghost use Rattle.run_overlaps.specs.Guarding.{IsExempt, IsGivenBack};
+ghost use Rattle.run_overlaps.specs.Watching.{IsWatch};
 
 use crate::watch::{Called, Watch};
+use run_joins::Joined;
 use run_lines::{Doing, Line};
 use run_orders::Guard;
 use run_rules::{Frame, Resource};
@@ -47,9 +50,26 @@ fn is_given_back(watch: &Watch, by: u64, lock: u64, under: UnderLock) -> bool
     under.lock != lock || !watch.is_taken_here(by, Resource::Thing { thing: under.thing })
 }
 
+/// Whether a thread claims outside, behind its join, what isn't late there.
+pub(crate) fn is_exempt(joins: &Option<Joined>, watch: &Watch, by: u64, thing: u64) -> bool
+    ensures { (past : List Line) → IsWatch past watch.now → IsTrue result → IsExempt joins.now past by thing }
+{
+    match joins {
+        Some(joined) => {
+            let outside = Frame::Outside {
+                thread: joined.join.thread,
+            };
+            !joined.is_late(thing)
+                && watch.frame(by) == outside
+                && watch.lines() > joined.join.place
+        }
+        None => false,
+    }
+}
+
 impl Guards {
     ghost use Rattle.run_overlaps.specs.Guarding.{IsGivenUp, IsGuardedBy, KeepsGuards, guard_of, lists_locked, worker_of};
-    ghost use Rattle.run_overlaps.specs.Watching.{IsWatch, called_of};
+    ghost use Rattle.run_overlaps.specs.Watching.{called_of};
 
     /// No guards.
     pub(crate) fn new(alloc: Global) -> Guards
@@ -127,12 +147,12 @@ impl Guards {
     }
 
     /// Whether a thread may claim a thing here, as far as its guard has a say.
-    fn allow_claim(&self, watch: &Watch, by: u64, thing: u64) -> bool
+    fn allow_claim(&self, joins: &Option<Joined>, watch: &Watch, by: u64, thing: u64) -> bool
         ensures { (past : List Line) → IsWatch past watch.now → IsTrue result →
-            KeepsGuards self.now past by (Doing.Claim thing) }
+            KeepsGuards self.now joins.now past by (Doing.Claim thing) }
     {
         match self.of(thing) {
-            Some(guard) => self.is_under(watch, by, guard),
+            Some(guard) => self.is_under(watch, by, guard) || is_exempt(joins, watch, by, thing),
             None => true,
         }
     }
@@ -140,8 +160,8 @@ impl Guards {
     /// Whether the frame that unlocks a mutex here has none of the things that it guards.
     #[tactic(auto, using(crate::proofs::UnlockLemmas::back_more, crate::proofs::UnlockLemmas::back_all))]
     fn allow_unlock(&self, watch: &Watch, by: u64, lock: u64) -> bool
-        ensures { (past : List Line) → IsWatch past watch.now → lists_locked self.now → IsTrue result →
-            KeepsGuards self.now past by (Doing.Unlock lock) }
+        ensures { (past : List Line) (joins : Option Joined) → IsWatch past watch.now → lists_locked self.now → IsTrue result →
+            KeepsGuards self.now joins past by (Doing.Unlock lock) }
     {
         for under in &self.locked {
             if !is_given_back(watch, by, lock, *under) {
@@ -153,8 +173,8 @@ impl Guards {
 
     /// Whether a handler of this context may begin on a thread.
     fn allow_begin(&self, watch: &Watch, by: u64, op: u64) -> bool
-        ensures { (past : List Line) (code : Code) (size : ℕ) → IsWatch past watch.now → IsTrue result →
-            KeepsGuards self.now past by (Doing.Begin op code size) }
+        ensures { (past : List Line) (joins : Option Joined) (code : Code) (size : ℕ) → IsWatch past watch.now → IsTrue result →
+            KeepsGuards self.now joins past by (Doing.Begin op code size) }
     {
         match watch.called(op) {
             Some(called) => is_or_unknown(self.worker(called.context), by),
@@ -163,12 +183,12 @@ impl Guards {
     }
 
     /// Whether a line stands where the guards want it.
-    pub(crate) fn allow(&self, watch: &Watch, line: &Line) -> bool
+    pub(crate) fn allow(&self, joins: &Option<Joined>, watch: &Watch, line: &Line) -> bool
         ensures { (past : List Line) → IsWatch past watch.now → lists_locked self.now → IsTrue result →
-            KeepsGuards self.now past line.now.thread line.now.does }
+            KeepsGuards self.now joins.now past line.now.thread line.now.does }
     {
         match line.does {
-            Doing::Claim { thing } => self.allow_claim(watch, line.thread, thing),
+            Doing::Claim { thing } => self.allow_claim(joins, watch, line.thread, thing),
             Doing::Unlock { lock } => self.allow_unlock(watch, line.thread, lock),
             Doing::Work { context } => is_or_unknown(self.worker(context), line.thread),
             Doing::Begin { op, .. } => self.allow_begin(watch, line.thread, op),

@@ -2,9 +2,10 @@ ghost use Rattle.std.specs.Prelude.{IfOk};
 ghost use Rattle.run_overlaps.specs.Guarding.{lists_locked};
 
 use crate::common::Common;
-use crate::guards::Guards;
+use crate::guards::{Guards, is_exempt};
 use crate::holds::Holds;
 use crate::watch::{Calls, Watch};
+use run_joins::Joined;
 use run_lines::{Doing, Line};
 use run_orders::Guard;
 use run_rules::Frame;
@@ -134,8 +135,18 @@ impl Claims {
         self.put(thing, seen)
     }
 
-    fn follow(&mut self, guards: &Guards, watch: &Watch, line: &Line) -> Result<(), AllocError> {
+    fn follow(
+        &mut self,
+        guards: &Guards,
+        joins: &Option<Joined>,
+        watch: &Watch,
+        line: &Line,
+    ) -> Result<(), AllocError> {
         match line.does {
+            // (what was claimed before a join needs no guard behind it)
+            Doing::Claim { thing }
+                if self.by_thing.contains_key(&thing)
+                    && is_exempt(joins, watch, line.thread, thing) => { Ok(()) }
             Doing::Claim { thing } => self.see(guards, watch, line.thread, thing),
             Doing::Lock { lock } => self.locks.put(line.thread, lock),
             Doing::Unlock { lock } => {
@@ -157,20 +168,37 @@ fn guard_by(seen: Seen) -> Option<Guard> {
     }
 }
 
+/// Follows these lines, as far as they may come.
+fn follow_all(
+    claims: &mut Claims,
+    guards: &Guards,
+    joins: &Option<Joined>,
+    watch: &mut Watch,
+    lines: &[Line],
+) -> Result<(), AllocError> {
+    for line in lines {
+        claims.follow(guards, joins, watch, line)?;
+        let Ok(()) = watch.follow(line) else {
+            break;
+        };
+    }
+    Ok(())
+}
+
 /// What the claims of each thing have in common.
-fn claims_of(alloc: Global, guards: &Guards, lines: &[Line]) -> Result<Claims, AllocError> {
+fn claims_of(
+    alloc: Global,
+    guards: &Guards,
+    joins: &Option<Joined>,
+    lines: &[Line],
+) -> Result<Claims, AllocError> {
     let mut claims = Claims {
         by_thing: HashMap::new(alloc),
         things: Vec::new(alloc),
         locks: Holds::new(alloc),
     };
     let mut watch = Watch::new(alloc);
-    for line in lines {
-        claims.follow(guards, &watch, line)?;
-        let Ok(()) = watch.follow(line) else {
-            break;
-        };
-    }
+    follow_all(&mut claims, guards, joins, &mut watch, lines)?;
     Ok(claims)
 }
 
@@ -187,13 +215,17 @@ fn put_guards(guards: &mut Guards, claims: &Claims) -> Result<(), AllocError>
 }
 
 /// What seems to guard the things of a run. Whether it does has to be seen.
-pub(crate) fn guess(alloc: Global, lines: &[Line]) -> Result<Guards, AllocError>
+pub(crate) fn guess(
+    alloc: Global,
+    joins: &Option<Joined>,
+    lines: &[Line],
+) -> Result<Guards, AllocError>
     ensures { IfOk result (λ guards. lists_locked guards) }
 {
     let mut guards = Guards::new(alloc);
     let workers = workers_of(alloc, lines)?;
     put_workers(&mut guards, &workers)?;
-    let claims = claims_of(alloc, &guards, lines)?;
+    let claims = claims_of(alloc, &guards, joins, lines)?;
     put_guards(&mut guards, &claims)?;
     Ok(guards)
 }

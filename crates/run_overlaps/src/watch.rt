@@ -1,4 +1,4 @@
-ghost use Rattle.std.specs.Prelude.{◌≡◌, ◌∷◌, [], ℕ, IfOk, IsTrue, List};
+ghost use Rattle.std.specs.Prelude.{◌≡◌, ◌∷◌, [], ℕ, IfOk, IsTrue, List, length};
 ghost use Rattle.run_lines.specs.declared.line.Line.{Line};
 ghost use Rattle.run_rules.specs.MayCome.{MayDo};
 ghost use Rattle.run_rules.specs.Stacks.{frame};
@@ -83,6 +83,13 @@ impl Watch {
             checker: Checker::new(alloc),
             calls: Calls::new(alloc),
         }
+    }
+
+    /// How many lines were followed.
+    pub(crate) fn lines(&self) -> u64
+        ensures { (past : List Line) → IsWatch past self.now → result ≡ length past }
+    {
+        self.checker.lines()
     }
 
     /// Who writes the next line of a thread.

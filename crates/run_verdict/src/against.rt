@@ -21,7 +21,7 @@ use run_lines::{Doing, Line};
 use run_rules::{Frame, Resource, Rule};
 
 /// A line that stands against another one.
-#[derive(Clone, Copy, Debug, PartialEq, Eq)]
+#[derive(Clone, Copy, PartialEq, Eq)]
 pub struct Against {
     /// Its number, from 1, with the header and the names.
     pub at: u64,

@@ -14,7 +14,7 @@ pub struct Owed {
 
 /// What came of reading a run to its end, or to the first line that can't stand. Lines are counted
 /// from 1, with the header and the names.
-#[derive(Clone, Copy, Debug, PartialEq, Eq)]
+#[derive(Clone, Copy, PartialEq, Eq)]
 pub enum Ending {
     /// Each line may come, and nothing is under way.
     Legal,

@@ -1,7 +1,7 @@
 -- What is known of one line more.
-use Rattle.std.proofs.Common.{◌≡◌, ◌+◌, ℕ, suc, List, [], ◌∷◌, ◌<◌, ◌≤◌, refl, ap, sym, subst, ◌∙◌, inl, inr, ⊎_elim, length, take, get_or, reverse, arith}
+use Rattle.std.proofs.Common.{◌≡◌, ◌+◌, ℕ, suc, List, [], ◌∷◌, ◌<◌, ◌≤◌, refl, ap, sym, subst, ◌∙◌, inl, inr, ⊎_elim, length, take, get_or, reverse, arith, ◌++◌, drop, Err}
 use Rattle.std.proofs.lemmas.Bool.{and_parts, cases_Bool, cond_both, eq-eqb, eqb-true, ne_eqb}
-use Rattle.std.proofs.lemmas.List.{reverse-append, take_all}
+use Rattle.std.proofs.lemmas.List.{reverse-append, take-append-drop, take_all}
 use Rattle.std.proofs.Math.Seq.{take-suc}
 use Rattle.std.specs.Prelude.{Bool, true, false, ◌==◌, ◌&&◌, ◌||◌, ◌⊎◌, ◌≢◌, if◌then◌else◌, IsTrue, Option, Some, None, nat_eq}
 use Rattle.std.specs.HashMap.{get}
@@ -11,16 +11,25 @@ use Rattle.run_lines.specs.declared.line.Doing.TheVariants as doing
 use Rattle.run_lines.specs.declared.line.Line.{Line}
 use Rattle.run_rules.specs.declared.frame.Frame.{Frame}
 use Rattle.run_rules.specs.Calls.{Calling, begins, call_of, context_of, done_of}
+use Rattle.run_rules.specs.Legal.{IsLegalSoFar}
 use Rattle.run_rules.specs.MayCome.{MayDo}
 use Rattle.run_rules.specs.Strict.{IsStrict}
 use Rattle.run_rules.specs.Takings.{is_taken_by}
 use Rattle.run_rules.specs.declared.taking.Resource.TheVariants.{Thing}
 use Rattle.run_rules.specs.Stacks.{first_of, stack, stack_after}
 use Rattle.run_check.specs.After.{IsAfter, loose, waiter_from, waiter_of}
+use Rattle.run_check.specs.Steps.{Steps}
+use Rattle.run_check.specs.declared.checker.Checker.{Checker}
+use Rattle.run_check.specs.declared.refusal.Refusal.{Refusal}
+use Rattle.run_check.specs.declared.refusal.Refusal.TheVariants as refusal
 use Rattle.run_check.specs.declared.waiting.Waiter.{Waiter}
 use Rattle.run_orders.specs.Orders.{IsWorker}
 use Rattle.run_orders.specs.Trees.{Spot, around_by, frame_by, root, spot_at, writer}
-use Rattle.run_orders.proofs.TreeLemmas.{some_same}
+use Rattle.run_orders.proofs.TreeLemmas.{legal_end, some_same}
+use Rattle.run_rules.proofs.VerdictLemmas.{broken_not}
+use Rattle.run_witness.specs.Faults.{fault_of}
+use Rattle.run_witness.specs.declared.fault.Fault.TheVariants as fault
+use Rattle.run_witness.proofs.PlacingLemmas.{begun_waiter}
 use Rattle.run_witness.specs.Facts.{IsFactBefore, IsSurvey, begun_by, ends_outside, fact_at, fact_of, is_work, root_after, tree_by, work_of, works}
 use Rattle.run_witness.specs.declared.facts.Fact.{Fact}
 use Rattle.run_witness.specs.declared.facts.Survey.{Survey}
@@ -131,6 +140,45 @@ worker_here past line context (doing.Begin op code size) is may works = record {
         ap (option_map (λ (c : Calling). c.context)) called ∙ sym (ap (option_map (λ (w : Waiter). w.context)) known) ∙ works
 worker_here past line context _ is may works = cc
 
+-- each worker is known
+works_so : (past : List Line) (thread context : ℕ) (does : Doing) → MayDo loose past thread does
+    → (does ≡ doing.Work context) ⊎ ((op : ℕ) × IsTrue (begins does op) × (context_of past op ≡ Some context))
+    → work_of does (begun_by past does) ≡ Some context
+works_so past thread context does may works =
+    ⊎_elim (λ (is : does ≡ doing.Work context). ap (λ (d : Doing). work_of d (begun_by past does)) is)
+    (λ begins_one. by_begin does begins_one.0 begins_one.1
+    (begun_waiter past thread begins_one.0 context does may begins_one.1 begins_one.2)) works
+  where
+    by_begin : (does : Doing) (op : ℕ) → begins does op ≡ true
+        → (waiter : Waiter) × (begun_by past does ≡ Some waiter) × (waiter.context ≡ context)
+        → work_of does (begun_by past does) ≡ Some context
+    by_begin (doing.Begin number code size) op begun waits =
+        ap (option_map (λ (w : Waiter). w.context)) waits.1 ∙ ap Some waits.2
+    by_begin _ op begun waits = cc
+
+worker_known : (past : List Line) (line : Line) (thread context : ℕ) (known : Bool) → MayDo loose past line.thread line.does
+    → (IsWorker past thread context → known ≡ true) → IsWorker (line ∷ past) thread context
+    → (is_work line.thread (work_of line.does (begun_by past line.does)) thread context || known) ≡ true
+worker_known past line thread context known may before worker =
+    cond_both (length past == worker.place) (Some (record { line = line; past = past })) (spot_at past worker.place)
+    (λ (o : Option Spot). o ≡ Some worker.spot
+    → (is_work line.thread (work_of line.does (begun_by past line.does)) thread context || known) ≡ true)
+    (λ here is.
+    let same : record { line = line; past = past } ≡ worker.spot = some_same (record { line = line; past = past }) worker.spot is in
+    let on : line.thread ≡ thread = ap (λ (s : Spot). s.line.thread) same ∙ worker.same in
+    let works : work_of line.does (begun_by past line.does) ≡ Some context =
+    works_so past line.thread context line.does may
+    (subst (λ (s : Spot). (s.line.does ≡ doing.Work context)
+    ⊎ ((op : ℕ) × IsTrue (begins s.line.does op) × (context_of s.past op ≡ Some context))) (sym same) worker.works) in
+    ap (λ (o : Option ℕ). is_work line.thread o thread context || known) works
+    ∙ rw (eq-eqb line.thread thread on, eq-eqb context context refl) refl)
+    (λ elsewhere is. or_true (is_work line.thread (work_of line.does (begun_by past line.does)) thread context) known
+    (before (record { place = worker.place; spot = worker.spot; there = is; same = worker.same; works = worker.works }))) worker.there
+  where
+    or_true : (a b : Bool) → b ≡ true → (a || b) ≡ true
+    or_true true b is = refl
+    or_true false b is = is
+
 not_strict : IsStrict loose → ⊥
 not_strict strict = cc
 
@@ -183,12 +231,16 @@ survey_next thing past line old new was notes = record {
         (λ (o : Option Spot). (if length past == place
         then Some (fact_of thing (record { line = line; past = past })) else fact_at old.facts place) ≡ option_map (fact_of thing) o)
         (λ here. rw here refl) (λ elsewhere. rw elsewhere (was.facts.lines place));
-    workers = λ thread context is. ⊎_elim
-        (λ here. subst (λ (t : ℕ). IsWorker (line ∷ past) t context) here.0
-        (worker_here past line context line.does refl notes.may here.1))
-        (λ before. worker_stays past line thread context (was.facts.workers thread context before))
-        (work_cases line.thread (work_of line.does (begun_by past line.does)) thread context (works old.facts thread context)
-        (sym (notes.workers thread context) ∙ is));
+    workers = λ thread context. (
+      λ is. ⊎_elim
+          (λ here. subst (λ (t : ℕ). IsWorker (line ∷ past) t context) here.0
+          (worker_here past line context line.does refl notes.may here.1))
+          (λ before. worker_stays past line thread context ((was.facts.workers thread context).0 before))
+          (work_cases line.thread (work_of line.does (begun_by past line.does)) thread context (works old.facts thread context)
+          (sym (notes.workers thread context) ∙ is)),
+      λ worker. notes.workers thread context
+          ∙ worker_known past line thread context (works old.facts thread context) notes.may (was.facts.workers thread context).1 worker,
+    );
   };
 }
 
@@ -216,3 +268,24 @@ seen_all thing lines at survey past was = subst (λ (xs : List Line). IsSurvey t
 pub or_is : (a b : Bool) → (if a then true else b) ≡ (a || b)
 or_is true b = refl
 or_is false b = refl
+
+-- a line that isn't followed breaks a rule, unless there is no room
+
+pub refused : (past : List Line) (line : Line) (old new : Checker) (why : Refusal) → Steps past line old new (Err why)
+    → fault_of why ≡ fault.Illegal → MayDo loose past line.thread line.does → ⊥
+refused past line old new (refusal.Broken rule) steps is may = broken_not loose past line.thread line.does rule steps.0 may
+refused past line old new refusal.NoRoom steps is may = cc
+
+-- the last lines of what is seen
+seen_end : (lines : List Line) (at : ℕ) → reverse lines ≡ reverse (drop at lines) ++ reverse (take at lines)
+seen_end lines at = ap reverse (sym (take-append-drop at lines)) ∙ reverse-append (take at lines) (drop at lines)
+
+pub seen_illegal : (lines : List Line) (at : ℕ) (line : Line) → at < length lines → line ≡ get_or lines at line
+    → (MayDo loose (reverse (take at lines)) line.thread line.does → ⊥) → IsLegalSoFar loose (reverse lines) → ⊥
+seen_illegal lines at line within is illegal legal =
+    let whole : IsLegalSoFar loose (reverse (drop (at + 1) lines) ++ reverse (take (at + 1) lines)) =
+    subst (IsLegalSoFar loose) (seen_end lines (at + 1)) legal in
+    let here : IsLegalSoFar loose (line ∷ reverse (take at lines)) =
+    subst (IsLegalSoFar loose) (seen_next lines at line within is)
+    (legal_end loose (reverse (drop (at + 1) lines)) (reverse (take (at + 1) lines)) whole) in
+    illegal here.1.rules

@@ -1,23 +1,25 @@
 -- An order that was judged good is one.
-use Rattle.std.proofs.Common.{◌≡◌, ◌+◌, ℕ, suc, List, [], ◌∷◌, ◌++◌, ◌<◌, ◌≤◌, refl, ap, sym, subst, ◌∙◌, inl, inr, ⊎_elim, length, take, get_or, reverse, arith, length-append, Result, Ok, Err}
+use Rattle.std.proofs.Common.{◌≡◌, ◌+◌, ℕ, suc, List, [], ◌∷◌, ◌++◌, ◌<◌, ◌≤◌, refl, ap, sym, subst, ◌∙◌, inl, inr, ⊎_elim, length, take, drop, get_or, reverse, arith, length-append, Result, Ok, Err}
 use Rattle.std.proofs.lemmas.Bool.{cond_both, eq-eqb, eqb-true, ne_eqb}
-use Rattle.std.proofs.lemmas.List.{reverse-append, take_all}
+use Rattle.std.proofs.lemmas.List.{reverse-append, take-append-drop, take_all}
 use Rattle.std.proofs.lemmas.List.Elements.{All-nil}
 use Rattle.std.proofs.Math.Seq.{take-suc}
-use Rattle.std.specs.Prelude.{true, false, ◌==◌, ◌⊎◌, ◌≢◌, IfOk, IfSome, IsSomeAnd, Option, Some, None}
+use Rattle.std.specs.Prelude.{Bool, true, false, ◌==◌, ◌⊎◌, ◌↔◌, ◌≢◌, IfOk, IsSomeAnd, IsTrue, Option, Some, None}
+use Rattle.run_lines.specs.declared.code.Code.{Code}
 use Rattle.run_lines.specs.declared.line.Doing.{Doing}
 use Rattle.run_lines.specs.declared.line.Doing.TheVariants as doing
 use Rattle.run_lines.specs.declared.line.Line.{Line}
 use Rattle.run_rules.specs.declared.frame.Frame.{Frame}
 use Rattle.run_rules.specs.declared.frame.Frame.TheVariants.{Execution, Outside}
-use Rattle.run_rules.specs.declared.level.Strictness.TheVariants.{Plain, Strict}
+use Rattle.run_rules.specs.declared.level.Strictness.TheVariants.{Loose, Plain, Strict}
 use Rattle.run_rules.specs.declared.taking.Resource.TheVariants.{Thing}
+use Rattle.run_rules.specs.Calls.{Waits}
 use Rattle.run_rules.specs.Legal.{IsLegalSoFar}
 use Rattle.run_rules.specs.MayCome.{MayCome, MayDo}
 use Rattle.run_rules.specs.Stacks.{frame_of, stack}
+use Rattle.run_rules.specs.Starting.{IsFirst}
 use Rattle.run_rules.specs.Takings.{is_taken_by}
 use Rattle.run_check.specs.After.{IsAfter, loose}
-use Rattle.run_check.specs.declared.checker.Checker.{Checker}
 use Rattle.run_orders.specs.declared.order.Step.{Step}
 use Rattle.run_orders.specs.Apart.{StandsAlone}
 use Rattle.run_orders.specs.Holding.{HoldsBoth, IsHeld}
@@ -27,7 +29,7 @@ use Rattle.run_orders.proofs.BeginLemmas.{begun_before, one_frame}
 use Rattle.run_orders.proofs.StandLemmas.{stands_step}
 use Rattle.run_orders.proofs.TreeLemmas.{found, some_same}
 use Rattle.run_witness.specs.Facts.{AreFacts, fact_of}
-use Rattle.run_witness.specs.Judging.{IsClaimAt, IsFirstIn, IsPutWhole, IsReplay, Keeps}
+use Rattle.run_witness.specs.Judging.{ArePlain, IsClaimAt, IsFirstIn, IsPutWhole, IsReplay, Keeps, KeepsAll}
 use Rattle.run_witness.specs.Placing.{EachIsPutWell, IsPlacing, IsPutWell, position, position_of, thread_of}
 use Rattle.run_witness.specs.Witness.{AreBehind, IsWitness}
 use Rattle.run_witness.specs.declared.facts.Fact.{Fact}
@@ -41,15 +43,19 @@ pub ok_more : {X E : Type 0} {P Q : X → Type 0} (answer : Result X E) → ((va
 ok_more (Ok value) more known = more value known
 ok_more (Err missing) more known = tt
 
-pub some_more : {X : Type 0} {P Q : X → Type 0} (answer : Option X) → ((value : X) → P value → Q value) → IfSome answer P
-    → IfSome answer Q
-some_more None more known = tt
-some_more (Some value) more known = more value known
+pub false_true : false ≡ true → ⊥
+false_true e = cc
+
+pub ok_both : {X E : Type 0} {P Q R : X → Type 0} (answer : Result X E) → ((value : X) → P value → Q value → R value) → IfOk answer P
+    → IfOk answer Q → IfOk answer R
+ok_both (Ok value) more first second = more value first second
+ok_both (Err missing) more first second = tt
+
+-- a test that failed
+pub refuted : {P : Type 0} → (P → false ≡ true) → IsTrue false ↔ P
+refuted not = (λ good. absurd (false_true good), not)
 
 -- the rules of runs
-
-false_true : false ≡ true → ⊥
-false_true e = cc
 
 may_plain : (past : List Line) (thread : ℕ) (does : Doing) → MayDo loose past thread does → IsFirstIn past does → MayDo plain past thread does
 may_plain past thread (doing.Call op word context strand thing) may first =
@@ -66,20 +72,36 @@ pub may_come : (past : List Line) (line : Line) → MayDo loose past line.thread
 may_come past line may first =
     record { rules = may_plain past line.thread line.does may first; strict = λ (strict : Plain ≡ Strict). cc }
 
-pub came : (past : List Line) (line : Line) (new : Checker) → MayDo loose past line.thread line.does × IsFirstIn past line.does
-    → (MayDo loose past line.thread line.does → IsAfter (line ∷ past) new) → IsAfter (line ∷ past) new × MayCome plain past line
-came past line new may follows = (follows may.0, may_come past line may.0 may.1)
+pub first_in : (past : List Line) (thread : ℕ) {op size : ℕ} {code : Code} (does : Doing) (good : Bool) → does ≡ doing.Begin op code size
+    → (Waits past op → IsTrue good ↔ IsFirst plain past op) → MayDo loose past thread does → IsTrue good ↔ IsFirstIn past does
+first_in past thread {op} {size} {code} does good is exact =
+    subst (λ (d : Doing). MayDo loose past thread d → IsTrue good ↔ IsFirstIn past d) (sym is) (λ may. exact may.waiting)
+
+pub may_loose : (past : List Line) (thread : ℕ) (does : Doing) → MayDo plain past thread does → MayDo loose past thread does
+may_loose past thread (doing.Call op word context strand thing) may =
+    record { is_new = may.is_new; single = λ stream other on. absurd (false_true on) }
+may_loose past thread (doing.Begin op code size) may = record {
+  waiting = may.waiting;
+  outcome = may.outcome;
+  free = may.free;
+  first = λ strand first (is : Loose ≡ Plain). cc;
+}
+may_loose past thread _ may = may
+
+pub first_plain : (past : List Line) (thread : ℕ) (does : Doing) → MayDo plain past thread does → IsFirstIn past does
+first_plain past thread (doing.Begin op code size) may = may.first
+first_plain past thread _ may = tt
 
 -- one line more is put
 
 pub replay_next : (run : List Line) (before : List Step) (step : Step) (old new : Replay) → IsReplay run before old
     → IsPlacing run (step ∷ before) new.placing × IsPutWell run before step
-    → IsAfter (step.line ∷ lines_of before) new.checker × MayCome plain (lines_of before) step.line
+    → IsAfter (step.line ∷ lines_of before) new.checker → MayCome plain (lines_of before) step.line
     → IsReplay run (step ∷ before) new
-replay_next run before step old new was put came = record {
+replay_next run before step old new was put after came = record {
   placing = put.0;
-  after = came.0;
-  legal = (was.legal, came.1);
+  after = after;
+  legal = (was.legal, came);
   well = (was.well, put.1);
 }
 
@@ -101,6 +123,21 @@ put_more run lines at line old new within is was puts =
 pub put_whole : (run : List Line) (lines : List Step) (at : ℕ) (replay : Replay) → length lines ≤ at
     → IsReplay run (reverse (take at lines)) replay → IsReplay run (reverse lines) replay
 put_whole run lines at replay past was = subst (λ (xs : List Step). IsReplay run (reverse xs) replay) (take_all at lines past) was
+
+-- the first lines of what may stand may stand
+
+plain_end : (run : List Line) (later before : List Step) → ArePlain run (later ++ before) → ArePlain run before
+plain_end run [] before plain_all = plain_all
+plain_end run (step ∷ later) before plain_all =
+    plain_end run later before (record { each = plain_all.each.0; legal = plain_all.legal.0 })
+
+pub plain_step : (run : List Line) (lines : List Step) (at : ℕ) (line : Step) → at < length lines → line ≡ get_or lines at line
+    → ArePlain run (reverse lines) → ArePlain run (line ∷ reverse (take at lines))
+plain_step run lines at line within is plain_all =
+    let cut : reverse lines ≡ reverse (drop (at + 1) lines) ++ reverse (take (at + 1) lines) =
+    ap reverse (sym (take-append-drop (at + 1) lines)) ∙ reverse-append (take (at + 1) lines) (drop (at + 1) lines) in
+    subst (ArePlain run) (steps_next lines at line within is)
+    (plain_end run (reverse (drop (at + 1) lines)) (reverse (take (at + 1) lines)) (subst (ArePlain run) cut plain_all))
 
 pub kept_more : (facts : Facts) (placing : Placing) (place : ℕ) (claim : Fact) (count : ℕ)
     → ((at : ℕ) → at < count → Keeps facts placing place claim at) → Keeps facts placing place claim count
@@ -149,7 +186,7 @@ joined : (a b c : List Step) → (a ++ b) ++ c ≡ a ++ (b ++ c)
 joined [] b c = refl
 joined (x ∷ a) b c = ap (λ (all : List Step). x ∷ all) (joined a b c)
 
-some_less : (o : Option ℕ) (bound : ℕ) → IsSomeAnd o (λ n. n < bound) → (n : ℕ) × (o ≡ Some n) × (n < bound)
+pub some_less : (o : Option ℕ) (bound : ℕ) → IsSomeAnd o (λ n. n < bound) → (n : ℕ) × (o ≡ Some n) × (n < bound)
 some_less None bound is = absurd is
 some_less (Some n) bound is = (n, refl, is)
 
@@ -223,7 +260,7 @@ outside_thread [] thread other is = cc
 outside_thread (op ∷ ops) thread other is = cc
 
 -- who writes two lines does so on one thread
-writer_thread : (run : List Line) → IsLegalSoFar loose run → (place other : ℕ) (one two : Spot) → spot_at run place ≡ Some one
+pub writer_thread : (run : List Line) → IsLegalSoFar loose run → (place other : ℕ) (one two : Spot) → spot_at run place ≡ Some one
     → spot_at run other ≡ Some two → writer one ≡ writer two → one.line.thread ≡ two.line.thread
 writer_thread run legal place other one two there too same = by_frame (writer two) refl
   where
@@ -235,13 +272,13 @@ writer_thread run legal place other one two there too same = by_frame (writer tw
         (one_frame run one two op (begun_before run loose legal one (found run place one there).end op (same ∙ is))
         (begun_before run loose legal two (found run other two too).end op is)).thread
 
-position_stands : (before : List Step) (place index : ℕ) → position before place ≡ Some index → Stands before place
+pub position_stands : (before : List Step) (place index : ℕ) → position before place ≡ Some index → Stands before place
 position_stands before place index is = stands_earlier [] before place index is (position_below before place index is)
 
 pub is_held : (run : List Line) (facts : Facts) (steps : List Step) (placing : Placing) (place thing thread index : ℕ) (claim : Fact)
     → AreFacts thing run facts → IsPlacing run steps placing → IsClaimAt facts place thing claim
     → position_of placing place ≡ Some index → thread_of placing claim.tree ≡ Some thread
-    → ((at : ℕ) → at < facts.lines → Keeps facts placing place claim at) → IsHeld run steps place thread thing
+    → KeepsAll facts placing place claim → IsHeld run steps place thread thing
 is_held run facts steps placing place thing thread index claim are kept claims put on keeps =
     let here = spot_of_fact thing run facts place claim are claims.there in
     let spot = here.0 in

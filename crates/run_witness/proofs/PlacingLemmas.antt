@@ -1,5 +1,5 @@
 -- One line more is put into an order.
-use Rattle.std.proofs.Common.{◌≡◌, ◌+◌, ℕ, suc, List, [], ◌∷◌, ◌++◌, ◌<◌, refl, ap, sym, subst, ◌∙◌, ⊎_elim, length, arith}
+use Rattle.std.proofs.Common.{◌≡◌, ◌+◌, ℕ, suc, List, [], ◌∷◌, ◌++◌, ◌<◌, refl, ap, sym, subst, ◌∙◌, inl, inr, ⊎_elim, length, arith}
 use Rattle.std.proofs.lemmas.Bool.{cases_Bool, cond_both, eq-eqb, eqb-true, ne_eqb}
 use Rattle.std.specs.Prelude.{Bool, true, false, ◌==◌, if◌then◌else◌, Option, Some, None, nat_eq}
 use Rattle.std.specs.Option.{option_eq, option_map, unwrap_or}
@@ -21,7 +21,7 @@ use Rattle.run_orders.specs.Trees.{Spot, spot_at, tree}
 use Rattle.run_orders.proofs.StandLemmas.{op_of_begin}
 use Rattle.run_orders.proofs.TreeLemmas.{found, legal_end, some_same}
 use Rattle.run_witness.specs.Facts.{AreFacts, begun_by, fact_at, fact_of}
-use Rattle.run_witness.specs.Placing.{BeginsIts, IsOrUnknown, IsPlacing, IsPutWell, MayPair, MayPut, NotesPair, NotesPut, Pairs, number_of, op_named, position, position_of, thread_of}
+use Rattle.run_witness.specs.Placing.{BeginsIts, IsOrUnknown, IsPlacing, IsPutWell, IsPutWith, NamesPair, MayPair, MayPut, NotesPair, NotesPut, Pairs, number_of, op_named, position, position_of, thread_of}
 use Rattle.run_witness.specs.declared.facts.Fact.{Fact}
 use Rattle.run_witness.specs.declared.facts.Facts.{Facts}
 use Rattle.run_witness.specs.declared.placing.Placing.{Placing}
@@ -207,8 +207,52 @@ put_well thing run facts before old step who fact spot are kept is there is_fact
           let waits = begun_waiter spot.past spot.line.thread op context spot.line.does (legal_at run step.place spot are.legal there)
           begun called in
           subst (λ (c : ℕ). IsWorker run step.line.thread c) waits.2
-          (are.workers step.line.thread (waits.0).context (may.worker waits.0 waits.1));
+          ((are.workers step.line.thread (waits.0).context).0 (may.worker waits.0 waits.1));
     }
+
+-- nothing else is noted
+
+with_more : (run : List Line) (before : List Step) (step : Step) (Has : Spot → Line → Type 0) → IsPutWith run before Has
+    → IsPutWith run (step ∷ before) Has
+with_more run before step Has was = record {
+  step = was.step;
+  first = was.first;
+  put = record { stands = inr was.put.stands; there = was.put.there };
+  has = was.has;
+}
+
+with_here : (run : List Line) (before : List Step) (step : Step) (spot : Spot) (Has : Spot → Line → Type 0)
+    → spot_at run step.place ≡ Some spot → Has spot step.line → IsPutWith run (step ∷ before) Has
+with_here run before step spot Has there has =
+    record { step = step; first = spot; put = record { stands = inl refl; there = there }; has = has }
+
+numbered_next : (run : List Line) (before : List Step) (old new : Placing) (step : Step) (spot : Spot) → IsPlacing run before old
+    → spot_at run step.place ≡ Some spot → (a b : Option ℕ) → op_of spot.line.does ≡ a → op_of step.line.does ≡ b
+    → NotesPair old new a b → MayPair old a b → (op number : ℕ) → number_of new op ≡ Some number
+    → IsPutWith run (step ∷ before) (NamesPair op number)
+numbered_next run before old new step spot kept there None b is_a is_b notes may op number is =
+    let was : number_of old op ≡ Some number = rw (← notes.0) is in
+    with_more run before step (NamesPair op number) (kept.numbered op number was)
+numbered_next run before old new step spot kept there (Some a) None is_a is_b notes may op number is = absurd may
+numbered_next run before old new step spot kept there (Some a) (Some b) is_a is_b notes may op number is =
+    cond_both (a == op) (Some b) (number_of old op) (λ (o : Option ℕ). o ≡ Some number → IsPutWith run (step ∷ before) (NamesPair op number))
+    (λ same e. with_here run before step spot (NamesPair op number) there
+    (is_a ∙ ap Some (eqb-true a op same), is_b ∙ e))
+    (λ elsewhere e. with_more run before step (NamesPair op number) (kept.numbered op number e)) (sym (notes.0 op) ∙ is)
+
+named_next : (run : List Line) (before : List Step) (old new : Placing) (step : Step) (spot : Spot) → IsPlacing run before old
+    → spot_at run step.place ≡ Some spot → (a b : Option ℕ) → op_of spot.line.does ≡ a → op_of step.line.does ≡ b
+    → NotesPair old new a b → MayPair old a b → (op number : ℕ) → op_named new number ≡ Some op
+    → IsPutWith run (step ∷ before) (NamesPair op number)
+named_next run before old new step spot kept there None b is_a is_b notes may op number is =
+    let was : op_named old number ≡ Some op = rw (← notes.1) is in
+    with_more run before step (NamesPair op number) (kept.named op number was)
+named_next run before old new step spot kept there (Some a) None is_a is_b notes may op number is = absurd may
+named_next run before old new step spot kept there (Some a) (Some b) is_a is_b notes may op number is =
+    cond_both (b == number) (Some a) (op_named old number) (λ (o : Option ℕ). o ≡ Some op → IsPutWith run (step ∷ before) (NamesPair op number))
+    (λ same e. with_here run before step spot (NamesPair op number) there
+    (is_a ∙ e, is_b ∙ ap Some (eqb-true b number same)))
+    (λ elsewhere e. with_more run before step (NamesPair op number) (kept.named op number e)) (sym (notes.1 number) ∙ is)
 
 -- and is noted
 pub put_next : (run : List Line) (before : List Step) (old new : Placing) (step : Step) (fact : Fact) (spot : Spot)
@@ -241,6 +285,19 @@ put_next run before old new step fact spot kept there is_line is_tree numbered t
           (pair_here old new (op_of fact.line.does) (op_of step.line.does) numbered notes.pairs)))
           (λ behind. pair_stays old new (op_of first.line.does) (op_of other.line.does) (op_of fact.line.does) (op_of step.line.does)
           (kept.numbers other first (record { stands = behind; there = put.there })) numbered notes.pairs) put.stands;
+      on = λ tree_of thread is.
+          cond_both (same_frame fact.tree tree_of) (Some step.line.thread) (thread_of old tree_of)
+          (λ (o : Option ℕ). o ≡ Some thread → IsPutWith run (step ∷ before) (λ one line. (tree [] one ≡ tree_of) × (line.thread ≡ thread)))
+          (λ same e. with_here run before step spot (λ one line. (tree [] one ≡ tree_of) × (line.thread ≡ thread)) there
+          (sym is_tree ∙ frame_is fact.tree tree_of same, some_same step.line.thread thread e))
+          (λ elsewhere e. with_more run before step (λ one line. (tree [] one ≡ tree_of) × (line.thread ≡ thread))
+          (kept.on tree_of thread e)) (sym (notes.threads tree_of) ∙ is);
+      numbered = λ op number is.
+          numbered_next run before old new step spot kept there (op_of fact.line.does) (op_of step.line.does)
+          (ap (λ (l : Line). op_of l.does) (sym is_line)) refl notes.pairs numbered op number is;
+      named = λ op number is.
+          named_next run before old new step spot kept there (op_of fact.line.does) (op_of step.line.does)
+          (ap (λ (l : Line). op_of l.does) (sym is_line)) refl notes.pairs numbered op number is;
     }
   where
     kept_thread : (b : Bool) → b ≡ b → (o : Option ℕ) (thread : ℕ) → o ≡ Some thread → (b ≡ true → thread ≡ step.line.thread)

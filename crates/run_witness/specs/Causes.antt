@@ -1,5 +1,5 @@
 -- What is kept of where the lines of a run stand in an order.
-use Rattle.std.specs.Prelude.{◌≡◌, ◌<◌, ℕ, List, [], ◌∷◌, ◌++◌, if◌then◌else◌, Option, Some, None, IsTrue, IsSomeAnd, nat_eq}
+use Rattle.std.specs.Prelude.{◌≡◌, ◌↔◌, ◌<◌, ◌+◌, ℕ, List, [], ◌∷◌, ◌++◌, Bool, if◌then◌else◌, length, Option, Some, None, IsTrue, IsSomeAnd, nat_eq}
 use Rattle.std.specs.List.{All, Contains}
 use Rattle.run_lines.specs.declared.code.Code.TheVariants as code
 use Rattle.run_lines.specs.declared.line.Doing.{Doing}
@@ -14,6 +14,7 @@ use Rattle.run_orders.specs.Trees.{Spot, spot_at, tree}
 use Rattle.run_witness.specs.Facts.{ends_outside}
 use Rattle.run_witness.specs.Placing.{position_of}
 use Rattle.run_witness.specs.Reached.{Covers, IsBefore, NotesAt, reached_at, reached_with}
+use Rattle.run_witness.specs.Witness.{IsLineBehind}
 use Rattle.run_witness.specs.declared.causes.Cancelled.{Cancelled}
 use Rattle.run_witness.specs.declared.causes.Causes.{Causes}
 use Rattle.run_witness.specs.declared.facts.Fact.{Fact}
@@ -79,6 +80,33 @@ pub record NotesLine (old new : Causes) (fact : Fact) (place : ℕ) (at : Option
   pub left : NotesAt (reached_at nat_eq old.left) (reached_at nat_eq new.left) (left_by fact) at
   pub cancelled : new.cancelled.items ≡ cancelled_with old.cancelled.items place at fact.line.does
 
+-- a line of the run before this place has this, and stands here in the order
+pub record IsNoted (run : List Line) (placing : Placing) (count : ℕ) (Has : Spot → Type 0) (at : Option ℕ) : Type 0 where
+  pub place : ℕ
+  pub first : Spot
+  pub before : place < count
+  pub there : spot_at run place ≡ Some first
+  pub here : position_of placing place ≡ at
+  pub has : Has first
+
+abbrev pub IsNotedCancel : List Line → Placing → ℕ → Cancelled → Type 0
+IsNotedCancel run placing count one =
+    IsNoted run placing count (λ first. (first.line.does ≡ doing.Cancel one.thing) × (length first.past ≡ one.place)) one.at
+
+-- nothing but the first lines of a run was noted
+pub record AreNoted (run : List Line) (placing : Placing) (count : ℕ) (kept : Causes) : Type 0 where
+  pub trees : (key : Frame) (at : Option ℕ) → reached_at same_frame kept.trees key ≡ Some at →
+      IsNoted run placing count (λ first. tree [] first ≡ key) at
+  pub called : (op : ℕ) (at : Option ℕ) → reached_at nat_eq kept.called op ≡ Some at →
+      IsNoted run placing count (λ first. called_by first.line.does ≡ Some op) at
+  pub completed : (op : ℕ) (at : Option ℕ) → reached_at nat_eq kept.completed op ≡ Some at →
+      IsNoted run placing count (λ first. completed_by first.line.does ≡ Some op) at
+  pub marked : (mark : ℕ) (at : Option ℕ) → reached_at nat_eq kept.marked mark ≡ Some at →
+      IsNoted run placing count (λ first. marked_by first.line.does ≡ Some mark) at
+  pub left : (thread : ℕ) (at : Option ℕ) → reached_at nat_eq kept.left thread ≡ Some at →
+      IsNoted run placing count (λ first. (first.line.thread ≡ thread) × IsTrue (ends_outside first)) at
+  pub cancelled : All (IsNotedCancel run placing count) kept.cancelled.items
+
 -- the first lines of a run were noted
 pub record AreCauses (run : List Line) (placing : Placing) (count : ℕ) (kept : Causes) : Type 0 where
   pub trees : (place : ℕ) (first : Spot) → place < count → spot_at run place ≡ Some first →
@@ -94,3 +122,9 @@ pub record AreCauses (run : List Line) (placing : Placing) (count : ℕ) (kept :
   pub cancelled : (place thing : ℕ) (first : Spot) → place < count → spot_at run place ≡ Some first →
       first.line.does ≡ doing.Cancel thing →
       Contains kept.cancelled.items (record { thing = thing; place = place; at = position_of placing place })
+  pub only : AreNoted run placing count kept
+
+-- the line at a place of a run is found good if it stands behind its causes, and is noted then
+pub record SeesLine (run : List Line) (placing : Placing) (place : ℕ) (new : Causes) (good : Bool) : Type 0 where
+  pub behind : IsTrue good ↔ IsLineBehind run (position_of placing) place
+  pub noted : IsTrue good → AreCauses run placing (place + 1) new

@@ -1,5 +1,5 @@
 -- What is known of the lines of a run.
-use Rattle.std.specs.Prelude.{◌≡◌, ◌≢◌, ℕ, List, [], ◌∷◌, Bool, false, ◌==◌, ◌&&◌, if◌then◌else◌, length, Option, Some, None, IsTrue, is_some, nat_eq}
+use Rattle.std.specs.Prelude.{◌≡◌, ◌↔◌, ◌≢◌, ℕ, List, [], ◌∷◌, Bool, false, ◌==◌, ◌&&◌, if◌then◌else◌, length, Option, Some, None, IsTrue, is_some, nat_eq}
 use Rattle.std.specs.HashMap.{get}
 use Rattle.std.specs.HashSet.{HashSet, contains}
 use Rattle.std.specs.Option.{is_none, option_map}
@@ -88,7 +88,7 @@ pub record AreFacts (thing : ℕ) (run : List Line) (facts : Facts) : Type 0 whe
   pub legal : IsLegalSoFar loose run
   pub counted : facts.lines ≡ length run
   pub lines : (place : ℕ) → fact_at facts place ≡ option_map (fact_of thing) (spot_at run place)
-  pub workers : (thread context : ℕ) → IsTrue (works facts thread context) → IsWorker run thread context
+  pub workers : (thread context : ℕ) → IsTrue (works facts thread context) ↔ IsWorker run thread context
 
 -- these lines were seen
 pub record IsSurvey (thing : ℕ) (past : List Line) (survey : Survey) : Type 0 where

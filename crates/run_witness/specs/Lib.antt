@@ -4,3 +4,4 @@ pub mod Reached
 pub mod Causes
 pub mod Witness
 pub mod Judging
+pub mod Faults

@@ -86,7 +86,18 @@ pub record NotesPut (old new : Placing) (fact : Fact) (step : Step) : Type 0 whe
       thread_of new other ≡ (if same_frame fact.tree other then Some step.line.thread else thread_of old other)
   pub pairs : NotesPair old new (op_of fact.line.does) (op_of step.line.does)
 
--- these lines were put
+-- some line of the run that was put has this, and so has the line of the order
+pub record IsPutWith (run : List Line) (before : List Step) (Has : Spot → Line → Type 0) : Type 0 where
+  pub step : Step
+  pub first : Spot
+  pub put : IsPut run before step first
+  pub has : Has first step.line
+
+-- two lines, of the run and of the order, name these operations
+abbrev pub NamesPair : ℕ → ℕ → Spot → Line → Type 0
+NamesPair op number first line = (op_of first.line.does ≡ Some op) × (op_of line.does ≡ Some number)
+
+-- these lines were put, and no others
 pub record IsPlacing (run : List Line) (before : List Step) (kept : Placing) : Type 0 where
   pub count : kept.count ≡ length before
   pub places : (place : ℕ) → position_of kept place ≡ position before place
@@ -94,6 +105,10 @@ pub record IsPlacing (run : List Line) (before : List Step) (kept : Placing) : T
       thread_of kept (tree [] first) ≡ Some other.line.thread
   pub numbers : (other : Step) (first : Spot) → IsPut run before other first →
       Pairs kept (op_of first.line.does) (op_of other.line.does)
+  pub on : (tree_of : Frame) (thread : ℕ) → thread_of kept tree_of ≡ Some thread →
+      IsPutWith run before (λ first line. (tree [] first ≡ tree_of) × (line.thread ≡ thread))
+  pub numbered : (op number : ℕ) → number_of kept op ≡ Some number → IsPutWith run before (NamesPair op number)
+  pub named : (op number : ℕ) → op_named kept number ≡ Some op → IsPutWith run before (NamesPair op number)
 
 -- a line of the run may stand behind these, but that nothing is said of its causes
 pub record IsPutWell (run : List Line) (before : List Step) (step : Step) : Type 0 where

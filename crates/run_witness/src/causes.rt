@@ -1,23 +1,22 @@
-ghost use Rattle.std.specs.Prelude.{◌≡◌, ◌<◌, ◌+◌, [], if◌then◌else◌, ℕ, List, Option, Some, IfOk, IsSomeAnd, IsTrue, nat_eq};
+ghost use Rattle.std.specs.Prelude.{◌≡◌, ◌↔◌, ◌<◌, ◌+◌, [], if◌then◌else◌, ℕ, List, Option, Some, IfOk, IsSomeAnd, IsTrue, nat_eq};
 ghost use Rattle.std.specs.List.{All};
 ghost use Rattle.run_lines.specs.declared.line.Line.{Line};
 ghost use Rattle.run_orders.specs.Causes.{IsCause};
 ghost use Rattle.run_orders.specs.Trees.{Spot, spot_at};
 ghost use Rattle.run_rules.specs.Stacks.{same_frame};
 ghost use Rattle.run_rules.specs.declared.frame.Frame.{Frame};
-ghost use Rattle.run_witness.specs.Causes.{AbortsBefore, AreCauses, IsBehind, IsBehindIfPut, IsHarmless, NamesBefore, NotesLine, cancelled_with, left_by};
+ghost use Rattle.run_witness.specs.Causes.{AbortsBefore, AreCauses, IsBehindIfPut, IsHarmless, NamesBefore, NotesLine, SeesLine, cancelled_with, left_by};
 ghost use Rattle.run_witness.specs.Facts.{AreFacts, fact_at, fact_of};
 ghost use Rattle.run_witness.specs.Placing.{position_of};
 ghost use Rattle.run_witness.specs.Reached.{IsBefore, reached_at, reached_with};
 ghost use Rattle.run_witness.specs.declared.placing.Placing.{Placing};
-ghost use Rattle.run_witness.specs.Witness.{AreBehind, IsLineBehind};
+ghost use Rattle.run_witness.specs.Witness.{AreBehind};
 
 use crate::facts::{Fact, Facts};
-use crate::fault::Fault;
 use crate::placing::Placing;
 use crate::reached::{Reached, note_at};
 use crate::spelling::{called_by, completed_by, marked_by};
-use run_check::Waiter;
+use run_check::{NoRoom, Waiter};
 use run_lines::{Code, Doing};
 use run_rules::Frame;
 use std::alloc::Global;
@@ -43,7 +42,7 @@ pub(crate) struct Causes {
 
 /// Whether a line stands before a place.
 fn stands_before(at: Option<u64>, bound: u64) -> bool
-    ensures { IsTrue result → IsSomeAnd at (λ here. here < bound) }
+    ensures { IsTrue result ↔ IsSomeAnd at (λ here. here < bound) }
 {
     match at {
         Some(at) => at < bound,
@@ -53,7 +52,7 @@ fn stands_before(at: Option<u64>, bound: u64) -> bool
 
 /// Whether this line doesn't abort what was called so, or stands before a place.
 fn is_harmless(cancelled: Cancelled, waiter: &Waiter, bound: u64) -> bool
-    ensures { IsTrue result → IsHarmless waiter.now bound cancelled }
+    ensures { IsTrue result ↔ IsHarmless waiter.now bound cancelled }
 {
     match waiter.thing {
         Some(thing) => {
@@ -82,7 +81,7 @@ fn note_cancel(
     place: u64,
     at: Option<u64>,
     does: &Doing,
-) -> Result<(), Fault>
+) -> Result<(), NoRoom>
     ensures { IfOk result (λ _. cancelled.new.items ≡ cancelled_with cancelled.old.items place at does.now) }
 {
     if let Doing::Cancel { thing } = *does {
@@ -92,7 +91,7 @@ fn note_cancel(
 }
 
 /// Notes where a line of this tree stands.
-fn note_tree(trees: &mut Reached<Frame>, tree: Frame, at: Option<u64>) -> Result<(), Fault>
+fn note_tree(trees: &mut Reached<Frame>, tree: Frame, at: Option<u64>) -> Result<(), NoRoom>
     ensures { IfOk result (λ _. (other : Frame) → reached_at same_frame trees.new other
         ≡ (if same_frame tree other then Some (reached_with (reached_at same_frame trees.old tree) at) else reached_at same_frame trees.old other)) }
 {
@@ -115,7 +114,7 @@ impl Causes {
 
     /// Whether all lines of a tree that were noted stand before a place.
     fn is_behind_tree(&self, tree: Frame, bound: u64) -> bool
-        ensures { IsTrue result → IsBefore (reached_at same_frame self.now.trees tree) bound }
+        ensures { IsTrue result ↔ IsBefore (reached_at same_frame self.now.trees tree) bound }
     {
         self.trees.is_before(tree, bound)
     }
@@ -123,7 +122,7 @@ impl Causes {
     /// Whether all lines that abort what was called so stand before a place.
     #[tactic(auto, using(crate::proofs::CausesLemmas::harmless_more, crate::proofs::CausesLemmas::harmless_all))]
     fn is_behind_cancels(&self, waiter: &Waiter, bound: u64) -> bool
-        ensures { IsTrue result → All (IsHarmless waiter.now bound) self.now.cancelled.items }
+        ensures { IsTrue result ↔ All (IsHarmless waiter.now bound) self.now.cancelled.items }
     {
         for cancelled in &self.cancelled {
             if !is_harmless(*cancelled, waiter, bound) {
@@ -135,7 +134,7 @@ impl Causes {
 
     /// Whether what aborts an operation that begins stands before a place.
     fn is_behind_aborts(&self, fact: &Fact, bound: u64) -> bool
-        ensures { IsTrue result → AbortsBefore self.now fact.now bound }
+        ensures { IsTrue result ↔ AbortsBefore self.now fact.now bound }
     {
         match (fact.line.does, fact.begun) {
             (
@@ -151,8 +150,8 @@ impl Causes {
 
     /// Whether what a thread does outside stands before the execution that it then begins.
     fn is_led(&self, fact: &Fact, op: u64, bound: u64) -> bool
-        ensures { IsTrue result → fact.now.tree ≡ Frame.Execution op →
-            IsBefore (reached_at same_frame self.now.trees (Frame.Outside fact.now.line.thread)) bound }
+        ensures { IsTrue result ↔ (fact.now.tree ≡ Frame.Execution op →
+            IsBefore (reached_at same_frame self.now.trees (Frame.Outside fact.now.line.thread)) bound) }
     {
         let outside = Frame::Outside {
             thread: fact.line.thread,
@@ -162,7 +161,7 @@ impl Causes {
 
     /// Whether what a line names stands before a place.
     fn is_behind_named(&self, fact: &Fact, bound: u64) -> bool
-        ensures { IsTrue result → NamesBefore self.now fact.now bound fact.now.line.does }
+        ensures { IsTrue result ↔ NamesBefore self.now fact.now bound fact.now.line.does }
     {
         match fact.line.does {
             Doing::Begin { op, .. } => {
@@ -179,7 +178,7 @@ impl Causes {
 
     /// Whether the executions of a thread have ended before what it does outside.
     fn is_behind_ends(&self, fact: &Fact, bound: u64) -> bool
-        ensures { IsTrue result → (thread : ℕ) → fact.now.tree ≡ Frame.Outside thread → IsBefore (reached_at nat_eq self.now.left thread) bound }
+        ensures { IsTrue result ↔ ((thread : ℕ) → fact.now.tree ≡ Frame.Outside thread → IsBefore (reached_at nat_eq self.now.left thread) bound) }
     {
         match fact.tree {
             Frame::Outside { thread } => self.left.is_before(thread, bound),
@@ -189,7 +188,7 @@ impl Causes {
 
     /// Whether all causes of a line stand before its place, if it stands.
     fn is_behind(&self, fact: &Fact, at: Option<u64>) -> bool
-        ensures { IsTrue result → IsBehindIfPut self.now fact.now at }
+        ensures { IsTrue result ↔ IsBehindIfPut self.now fact.now at }
     {
         match at {
             Some(bound) => {
@@ -208,7 +207,7 @@ impl Causes {
     }
 
     /// Notes what a line is a cause of, which is at this place in the run, and stands here.
-    pub(crate) fn note(&mut self, fact: &Fact, place: u64, at: Option<u64>) -> Result<(), Fault>
+    pub(crate) fn note(&mut self, fact: &Fact, place: u64, at: Option<u64>) -> Result<(), NoRoom>
         ensures { IfOk result (λ _. NotesLine self.old self.new fact.now place at) }
     {
         let does = &fact.line.does;
@@ -221,10 +220,9 @@ impl Causes {
     }
 
     /// Whether the line at this place stands behind its causes, if it stands; and notes it.
-    fn see(&mut self, facts: &Facts, placing: &Placing, place: u64) -> Result<bool, Fault>
+    fn see(&mut self, facts: &Facts, placing: &Placing, place: u64) -> Result<bool, NoRoom>
         ensures { IfOk result (λ good. (thing : ℕ) (run : List Line) → AreFacts thing run facts.now →
-            AreCauses run placing.now place self.old → IsTrue good →
-            AreCauses run placing.now (place + 1) self.new × IsLineBehind run (position_of placing.now) place) }
+            place < facts.now.lines → AreCauses run placing.now place self.old → SeesLine run placing.now place self.new good) }
     {
         let stands = placing.position(place);
         match facts.at(place) {
@@ -242,9 +240,9 @@ impl Causes {
 }
 
 /// Whether each line of a run stands behind its causes, if it stands.
-pub(crate) fn are_behind(alloc: Global, facts: &Facts, placing: &Placing) -> Result<bool, Fault>
-    ensures { IfOk result (λ good. (thing : ℕ) (run : List Line) → AreFacts thing run facts.now → IsTrue good →
-        AreBehind run (position_of placing.now)) }
+pub(crate) fn are_behind(alloc: Global, facts: &Facts, placing: &Placing) -> Result<bool, NoRoom>
+    ensures { IfOk result (λ good. (thing : ℕ) (run : List Line) → AreFacts thing run facts.now →
+        IsTrue good ↔ AreBehind run (position_of placing.now)) }
 {
     let mut causes = Causes::new(alloc);
     for place in 0..facts.lines {

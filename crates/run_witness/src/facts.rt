@@ -1,15 +1,18 @@
-ghost use Rattle.std.specs.Prelude.{◌≡◌, ◌&&◌, ◌||◌, ◌+◌, ◌==◌, ◌∷◌, [], if◌then◌else◌, IfOk, ℕ, List, Option, Some, None, IsTrue, nat_eq, reverse};
+ghost use Rattle.std.specs.Prelude.{◌≡◌, ◌&&◌, ◌||◌, ◌+◌, ◌==◌, ◌∷◌, [], if◌then◌else◌, IfOk, IsErrOf, ℕ, List, Option, Some, None, IsTrue, nat_eq, reverse};
 ghost use Rattle.std.specs.HashMap.{get};
-ghost use Rattle.run_check.specs.After.{IsAfter};
+ghost use Rattle.run_check.specs.After.{IsAfter, loose};
 ghost use Rattle.run_lines.specs.declared.line.Line.{Line};
+ghost use Rattle.run_rules.specs.Legal.{IsLegalSoFar};
+ghost use Rattle.run_rules.specs.MayCome.{MayDo};
 ghost use Rattle.run_witness.specs.Facts.{AreFacts, IsFactBefore, IsSurvey, begun_by, ends_outside, fact_at, fact_of, is_work, root_after, tree_by, work_of, works, works_in};
+ghost use Rattle.run_witness.specs.declared.fault.Fault.{Fault};
 
 use crate::fault::Fault;
 use crate::spelling::is_end;
-use run_check::{Checker, Outcome, Waiter};
+use run_check::{Checker, NoRoom, Outcome, Waiter};
 use run_lines::{Code, Doing, Line, Word};
 use run_rules::{Frame, Resource};
-use std::alloc::{AllocError, Global};
+use std::alloc::Global;
 use std::collections::{HashMap, HashSet};
 use std::hash::Hash;
 
@@ -52,7 +55,7 @@ fn put<K: Eq + Hash + Drop, V: Drop>(
     table: &mut HashMap<K, V>,
     key: K,
     value: V,
-) -> Result<(), AllocError>
+) -> Result<(), NoRoom>
     ensures { IfOk result
         (λ _. (other : K) → get K.eq table.new other ≡ (if K.eq key other then Some value else get K.eq table.old other)) }
 {
@@ -96,7 +99,7 @@ fn note_root(
     roots: &mut HashMap<u64, u64>,
     line: &Line,
     innermost: Option<u64>,
-) -> Result<(), Fault>
+) -> Result<(), NoRoom>
     ensures { IfOk result (λ _. (thread : ℕ) → get nat_eq roots.new thread
         ≡ root_after innermost line.now.thread line.now.does thread (get nat_eq roots.old thread)) }
 {
@@ -110,7 +113,7 @@ fn note_root(
 }
 
 /// Keeps that a thread executes handlers of a context.
-fn put_work(workers: &mut HashSet<(u64, u64)>, thread: u64, context: u64) -> Result<(), Fault>
+fn put_work(workers: &mut HashSet<(u64, u64)>, thread: u64, context: u64) -> Result<(), NoRoom>
     ensures { IfOk result (λ _. (by to : ℕ) → works_in workers.new by to ≡ ((thread == by && context == to) || works_in workers.old by to)) }
 {
     workers.insert((thread, context))?;
@@ -122,7 +125,7 @@ fn note_work(
     workers: &mut HashSet<(u64, u64)>,
     thread: u64,
     context: Option<u64>,
-) -> Result<(), Fault>
+) -> Result<(), NoRoom>
     ensures { IfOk result (λ _. (by to : ℕ) → works_in workers.new by to ≡ (is_work thread context by to || works_in workers.old by to)) }
 {
     match context {
@@ -146,17 +149,17 @@ impl Facts {
     }
 
     /// Keeps how many lines there are.
-    fn count(&mut self, place: u64) -> Result<(), Fault>
+    fn count(&mut self, place: u64) -> Result<(), NoRoom>
         ensures counted { IfOk result (λ _. self.new.lines ≡ place + 1) }
         ensures lines { IfOk result (λ _. self.new.by_place ≡ self.old.by_place) }
         ensures workers { IfOk result (λ _. self.new.workers ≡ self.old.workers) }
     {
-        self.lines = place.checked_add(1).ok_or(Fault::NoRoom)?;
+        self.lines = place.checked_add(1).ok_or(NoRoom)?;
         Ok(())
     }
 
     /// Keeps what is known of the line at a place.
-    fn note(&mut self, place: u64, fact: Fact) -> Result<(), AllocError>
+    fn note(&mut self, place: u64, fact: Fact) -> Result<(), NoRoom>
         ensures lines { IfOk result (λ _. (other : ℕ) →
             fact_at self.new other ≡ (if place == other then Some fact else fact_at self.old other)) }
         ensures counted { IfOk result (λ _. self.new.lines ≡ self.old.lines) }
@@ -246,7 +249,9 @@ impl Survey {
 
     /// Follows a line, if it may come, and keeps what is known of it.
     pub(crate) fn see(&mut self, line: &Line, thing: u64) -> Result<(), Fault>
-        ensures { IfOk result (λ _. (past : List Line) → IsSurvey thing past self.old → IsSurvey thing (line.now ∷ past) self.new) }
+        ensures seen { IfOk result (λ _. (past : List Line) → IsSurvey thing past self.old → IsSurvey thing (line.now ∷ past) self.new) }
+        ensures illegal { IsErrOf result Fault.Illegal → (past : List Line) → IsSurvey thing past self.old →
+            ¬ (MayDo loose past line.now.thread line.now.does) }
     {
         let thread = line.thread;
         let place = self.checker.lines();
@@ -266,7 +271,8 @@ impl Survey {
 /// Sees all these lines.
 #[tactic(auto, using(crate::proofs::FactsLemmas::seen_more, crate::proofs::FactsLemmas::seen_all))]
 fn see_all(survey: &mut Survey, lines: &[Line], thing: u64) -> Result<(), Fault>
-    ensures { IfOk result (λ _. IsSurvey thing [] survey.old → IsSurvey thing (reverse lines.now) survey.new) }
+    ensures seen { IfOk result (λ _. IsSurvey thing [] survey.old → IsSurvey thing (reverse lines.now) survey.new) }
+    ensures illegal { IsErrOf result Fault.Illegal → IsSurvey thing [] survey.old → ¬ (IsLegalSoFar loose (reverse lines.now)) }
 {
     for line in lines {
         survey.see(line, thing)?;
@@ -276,7 +282,8 @@ fn see_all(survey: &mut Survey, lines: &[Line], thing: u64) -> Result<(), Fault>
 
 /// What is known of the lines of a run, each of which may come.
 pub(crate) fn facts_of(alloc: Global, run: &[Line], thing: u64) -> Result<Facts, Fault>
-    ensures { IfOk result (λ facts. AreFacts thing (reverse run.now) facts) }
+    ensures known { IfOk result (λ facts. AreFacts thing (reverse run.now) facts) }
+    ensures illegal { IsErrOf result Fault.Illegal → ¬ (IsLegalSoFar loose (reverse run.now)) }
 {
     let mut survey = Survey::new(alloc);
     see_all(&mut survey, run, thing)?;

@@ -1,5 +1,4 @@
 use run_check::{NoRoom, Refusal};
-use std::alloc::{AllocError, AllocFailed};
 
 /// Why an order isn't judged.
 #[derive(Clone, Copy, Debug, PartialEq, Eq)]
@@ -11,24 +10,22 @@ pub enum Fault {
 }
 
 impl From<NoRoom> for Fault {
+    ghost use Rattle.std.specs.Prelude.{◌≡◌};
+    ghost use Rattle.run_witness.specs.declared.fault.Fault.{Fault};
+
+    ghost from_gives = { λ _ fault. fault ≡ Fault.NoRoom };
+
     fn from(_error: NoRoom) -> Self {
         Fault::NoRoom
     }
 }
 
-impl From<AllocError> for Fault {
-    fn from(_error: AllocError) -> Self {
-        Fault::NoRoom
-    }
-}
-
-impl<T: Drop> From<AllocFailed<T>> for Fault {
-    fn from(_error: AllocFailed<T>) -> Self {
-        Fault::NoRoom
-    }
-}
-
 impl From<Refusal> for Fault {
+    ghost use Rattle.std.specs.Prelude.{◌≡◌};
+    ghost use Rattle.run_witness.specs.Faults.{fault_of};
+
+    ghost from_gives = { λ refusal fault. fault ≡ fault_of refusal };
+
     fn from(refusal: Refusal) -> Self {
         match refusal {
             Refusal::Broken { .. } => Fault::Illegal,

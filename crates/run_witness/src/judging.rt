@@ -1,21 +1,23 @@
-ghost use Rattle.std.specs.Prelude.{◌≡◌, ◌<◌, ◌∷◌, [], ℕ, List, Option, Some, None, IfOk, IfSome, IsTrue, reverse};
+ghost use Rattle.std.specs.Prelude.{◌≡◌, ◌↔◌, ◌∷◌, [], ℕ, List, Some, IfOk, OnOk, IsErrOf, IsTrue, reverse};
 ghost use Rattle.run_check.specs.After.{IsAfter, loose};
 ghost use Rattle.run_lines.specs.declared.line.Line.{Line};
 ghost use Rattle.run_orders.specs.declared.order.Step.{Step};
 ghost use Rattle.run_orders.specs.Holding.{HoldsBoth, IsHeld};
-ghost use Rattle.run_orders.specs.Orders.{plain};
+ghost use Rattle.run_orders.specs.Orders.{EachMayStand, lines_of, plain};
 ghost use Rattle.run_rules.specs.Legal.{IsLegalSoFar};
 ghost use Rattle.run_rules.specs.MayCome.{MayCome, MayDo};
-ghost use Rattle.run_witness.specs.Facts.{AreFacts, fact_at};
-ghost use Rattle.run_witness.specs.Placing.{EachIsPutWell, IsPlacing, IsPutWell, position_of, thread_of};
-ghost use Rattle.run_witness.specs.Judging.{IsClaimAt, IsFirstIn, IsPutWhole, IsReplay, Keeps};
+ghost use Rattle.run_witness.specs.Facts.{AreFacts};
+ghost use Rattle.run_witness.specs.Placing.{IsPlacing, IsPutWell, position_of, thread_of};
+ghost use Rattle.run_witness.specs.declared.facts.Fact.{Fact};
+ghost use Rattle.run_witness.specs.declared.fault.Fault.{Fault};
+ghost use Rattle.run_witness.specs.Judging.{ArePlain, IsClaimAt, IsFirstIn, IsPutWhole, IsReplay, Keeps, KeepsAll};
 ghost use Rattle.run_witness.specs.Witness.{AreBehind, IsWitness};
 
 use crate::causes::are_behind;
 use crate::facts::{Fact, Facts, facts_of};
 use crate::fault::Fault;
 use crate::placing::Placing;
-use run_check::Checker;
+use run_check::{Checker, NoRoom};
 use run_lines::{Doing, Line};
 use run_orders::Step;
 use run_rules::Frame;
@@ -23,7 +25,7 @@ use std::alloc::Global;
 
 /// Whether what a line begins is the first of its strand.
 fn is_first(checker: &Checker, does: &Doing) -> bool
-    ensures { (past : List Line) (thread : ℕ) → IsAfter past checker.now → MayDo loose past thread does.now → IsTrue result →
+    ensures { (past : List Line) (thread : ℕ) → IsAfter past checker.now → MayDo loose past thread does.now → IsTrue result ↔
         IsFirstIn past does.now }
 {
     match *does {
@@ -34,8 +36,7 @@ fn is_first(checker: &Checker, does: &Doing) -> bool
 
 /// Whether a line of an order may come.
 fn may_come(checker: &Checker, line: &Line) -> bool
-    ensures { (past : List Line) → IsAfter past checker.now → IsTrue result →
-        MayDo loose past line.now.thread line.now.does × IsFirstIn past line.now.does }
+    ensures { (past : List Line) → IsAfter past checker.now → IsTrue result ↔ MayCome plain past line.now }
 {
     match checker.may_come(line) {
         Ok(()) => is_first(checker, &line.does),
@@ -44,10 +45,10 @@ fn may_come(checker: &Checker, line: &Line) -> bool
 }
 
 /// Follows a line of an order, if it may come.
-#[tactic(auto, using(crate::proofs::JudgingLemmas::came))]
-fn follow(checker: &mut Checker, line: &Line) -> Result<bool, Fault>
-    ensures { IfOk result (λ good. (past : List Line) → IsAfter past checker.old → IsTrue good →
-        IsAfter (line.now ∷ past) checker.new × MayCome plain past line.now) }
+fn follow(checker: &mut Checker, line: &Line) -> Result<bool, NoRoom>
+    ensures exact { IfOk result (λ good. (past : List Line) → IsAfter past checker.old → IsTrue good ↔ MayCome plain past line.now) }
+    ensures followed { IfOk result (λ good. (past : List Line) → IsAfter past checker.old → IsTrue good →
+        IsAfter (line.now ∷ past) checker.new) }
 {
     if may_come(checker, line) {
         checker.follow(line)?;
@@ -95,9 +96,11 @@ impl Replay {
     }
 
     /// Puts a line of the run behind these, if it may stand there and come.
-    pub(crate) fn put(&mut self, facts: &Facts, step: &Step) -> Result<bool, Fault>
-        ensures { IfOk result (λ good. (thing : ℕ) (run : List Line) (before : List Step) → AreFacts thing run facts.now →
+    pub(crate) fn put(&mut self, facts: &Facts, step: &Step) -> Result<bool, NoRoom>
+        ensures good { IfOk result (λ good. (thing : ℕ) (run : List Line) (before : List Step) → AreFacts thing run facts.now →
             IsReplay run before self.old → IsTrue good → IsReplay run (step.now ∷ before) self.new) }
+        ensures bad { IfOk result (λ good. (thing : ℕ) (run : List Line) (before : List Step) → AreFacts thing run facts.now →
+            IsReplay run before self.old → ArePlain run (step.now ∷ before) → IsTrue good) }
     {
         let who = self.checker.frame(step.line.thread);
         if self.placing.put(facts, step, who)? {
@@ -108,9 +111,11 @@ impl Replay {
     }
 
     /// Puts all these lines.
-    fn put_all(&mut self, facts: &Facts, steps: &[Step]) -> Result<bool, Fault>
-        ensures { IfOk result (λ good. (thing : ℕ) (run : List Line) → AreFacts thing run facts.now →
+    fn put_all(&mut self, facts: &Facts, steps: &[Step]) -> Result<bool, NoRoom>
+        ensures good { IfOk result (λ good. (thing : ℕ) (run : List Line) → AreFacts thing run facts.now →
             IsReplay run [] self.old → IsTrue good → IsReplay run (reverse steps.now) self.new) }
+        ensures bad { IfOk result (λ good. (thing : ℕ) (run : List Line) → AreFacts thing run facts.now →
+            IsReplay run [] self.old → ArePlain run (reverse steps.now) → IsTrue good) }
     {
         for step in steps {
             if !self.put(facts, step)? {
@@ -121,19 +126,24 @@ impl Replay {
     }
 
     /// Puts the last line of an order, of which only its own rules aren't asked.
-    fn put_last(&mut self, facts: &Facts, last: &Step) -> Result<bool, Fault>
-        ensures { IfOk result (λ good. (thing : ℕ) (run : List Line) (before : List Step) → AreFacts thing run facts.now →
+    fn put_last(&mut self, facts: &Facts, last: &Step) -> Result<bool, NoRoom>
+        ensures good { IfOk result (λ good. (thing : ℕ) (run : List Line) (before : List Step) → AreFacts thing run facts.now →
             IsReplay run before self.old → IsTrue good →
             IsPlacing run (last.now ∷ before) self.new.placing × IsPutWell run before last.now) }
+        ensures bad { IfOk result (λ good. (thing : ℕ) (run : List Line) (before : List Step) → AreFacts thing run facts.now →
+            IsReplay run before self.old → EachMayStand run [] (last.now ∷ before) → IsTrue good) }
     {
         let who = self.checker.frame(last.line.thread);
         self.placing.put(facts, last, who)
     }
 
     /// Puts all lines of an order.
-    fn put_order(&mut self, facts: &Facts, steps: &[Step], last: &Step) -> Result<bool, Fault>
-        ensures { IfOk result (λ good. (thing : ℕ) (run : List Line) → AreFacts thing run facts.now →
+    fn put_order(&mut self, facts: &Facts, steps: &[Step], last: &Step) -> Result<bool, NoRoom>
+        ensures good { IfOk result (λ good. (thing : ℕ) (run : List Line) → AreFacts thing run facts.now →
             IsReplay run [] self.old → IsTrue good → IsPutWhole run (reverse steps.now) last.now self.new.placing) }
+        ensures bad { IfOk result (λ good. (thing : ℕ) (run : List Line) → AreFacts thing run facts.now →
+            IsReplay run [] self.old → EachMayStand run [] (last.now ∷ reverse steps.now) →
+            IsLegalSoFar plain (lines_of (reverse steps.now)) → IsTrue good) }
     {
         if self.put_all(facts, steps)? {
             self.put_last(facts, last)
@@ -145,7 +155,7 @@ impl Replay {
 
 /// The line of the run by which a thing is claimed.
 fn claim_at(facts: &Facts, place: u64, thing: u64) -> Option<Fact>
-    ensures { IfSome result (λ claim. IsClaimAt facts.now place thing claim) }
+    ensures { (claim : Fact) → (result ≡ Some claim) ↔ IsClaimAt facts.now place thing claim }
 {
     let fact = facts.at(place)?;
     match fact.line.does {
@@ -156,7 +166,7 @@ fn claim_at(facts: &Facts, place: u64, thing: u64) -> Option<Fact>
 
 /// Whether a line that stands doesn't give back what this one claims.
 fn keeps(facts: &Facts, placing: &Placing, place: u64, claim: &Fact, at: u64) -> bool
-    ensures { IsTrue result → Keeps facts.now placing.now place claim.now at }
+    ensures { IsTrue result ↔ Keeps facts.now placing.now place claim.now at }
 {
     match facts.at(at) {
         Some(fact) => {
@@ -169,7 +179,7 @@ fn keeps(facts: &Facts, placing: &Placing, place: u64, claim: &Fact, at: u64) ->
 /// Whether no line stands by which a claim is given back.
 #[tactic(auto, using(crate::proofs::JudgingLemmas::kept_more))]
 fn is_kept(facts: &Facts, placing: &Placing, place: u64, claim: &Fact) -> bool
-    ensures { IsTrue result → (at : ℕ) → at < facts.now.lines → Keeps facts.now placing.now place claim.now at }
+    ensures { IsTrue result ↔ KeepsAll facts.now placing.now place claim.now }
 {
     for at in 0..facts.lines {
         if !keeps(facts, placing, place, claim, at) {
@@ -181,8 +191,8 @@ fn is_kept(facts: &Facts, placing: &Placing, place: u64, claim: &Fact) -> bool
 
 /// The thread that holds a thing by this claim, which stands, at the end of an order.
 fn keeper(facts: &Facts, placing: &Placing, place: u64, claim: &Fact) -> Option<u64>
-    ensures { IfSome result (λ thread. (thread_of placing.now claim.now.tree ≡ Some thread)
-        × ((at : ℕ) → at < facts.now.lines → Keeps facts.now placing.now place claim.now at)) }
+    ensures { (thread : ℕ) → (result ≡ Some thread)
+        ↔ ((thread_of placing.now claim.now.tree ≡ Some thread) × KeepsAll facts.now placing.now place claim.now) }
 {
     if is_kept(facts, placing, place, claim) {
         placing.thread(claim.tree)
@@ -193,8 +203,8 @@ fn keeper(facts: &Facts, placing: &Placing, place: u64, claim: &Fact) -> Option<
 
 /// The thread that holds a thing by the claim at this place at the end of an order.
 fn holder(facts: &Facts, placing: &Placing, place: u64, thing: u64) -> Option<u64>
-    ensures { IfSome result (λ held. (run : List Line) (steps : List Step) → AreFacts thing run facts.now →
-        IsPlacing run steps placing.now → IsHeld run steps place held thing) }
+    ensures { (run : List Line) (steps : List Step) → AreFacts thing run facts.now → IsPlacing run steps placing.now →
+        (thread : ℕ) → (result ≡ Some thread) ↔ IsHeld run steps place thread thing }
 {
     match (claim_at(facts, place, thing), placing.position(place)) {
         (Some(claim), Some(_)) => keeper(facts, placing, place, &claim),
@@ -204,8 +214,8 @@ fn holder(facts: &Facts, placing: &Placing, place: u64, thing: u64) -> Option<u6
 
 /// Whether two threads hold a thing by these claims at the end of an order.
 fn hold_both(facts: &Facts, placing: &Placing, thing: u64, one: u64, other: u64) -> bool
-    ensures { IsTrue result → (run : List Line) (steps : List Step) → AreFacts thing run facts.now →
-        IsPlacing run steps placing.now → HoldsBoth run steps thing one other }
+    ensures { (run : List Line) (steps : List Step) → AreFacts thing run facts.now → IsPlacing run steps placing.now →
+        IsTrue result ↔ HoldsBoth run steps thing one other }
 {
     match (
         holder(facts, placing, one, thing),
@@ -224,10 +234,10 @@ fn is_shown(
     thing: u64,
     one: u64,
     other: u64,
-) -> Result<bool, Fault>
+) -> Result<bool, NoRoom>
     ensures { IfOk result (λ good. (run : List Line) (steps : List Step) → AreFacts thing run facts.now →
-        IsPlacing run steps placing.now → IsTrue good →
-        AreBehind run (position_of placing.now) × HoldsBoth run steps thing one other) }
+        IsPlacing run steps placing.now →
+        IsTrue good ↔ (AreBehind run (position_of placing.now) × HoldsBoth run steps thing one other)) }
 {
     if are_behind(alloc, facts, placing)? {
         Ok(hold_both(facts, placing, thing, one, other))
@@ -244,9 +254,9 @@ pub(crate) fn judge_by(
     last: &Step,
     thing: u64,
     claim: u64,
-) -> Result<bool, Fault>
-    ensures { IfOk result (λ good. (run : List Line) → AreFacts thing run facts.now → IsTrue good →
-        IsWitness run (reverse steps.now) last.now thing claim) }
+) -> Result<bool, NoRoom>
+    ensures { IfOk result (λ good. (run : List Line) → AreFacts thing run facts.now →
+        IsTrue good ↔ IsWitness run (reverse steps.now) last.now thing claim) }
 {
     let mut replay = Replay::new(alloc);
     if replay.put_order(facts, steps, last)? {
@@ -257,7 +267,8 @@ pub(crate) fn judge_by(
 }
 
 /// Whether these lines are an order of a run: `steps`, in their order, and behind them `last`, by
-/// which `thing` is claimed while another thread holds it by the claim at place `claim`.
+/// which `thing` is claimed while another thread holds it by the claim at place `claim`. All lines but
+/// the last keep the rules of runs. A run that breaks a rule itself has no orders: `Illegal`.
 pub fn judge(
     alloc: Global,
     run: &[Line],
@@ -266,8 +277,10 @@ pub fn judge(
     thing: u64,
     claim: u64,
 ) -> Result<bool, Fault>
-    ensures { IfOk result (λ good. IsTrue good → IsWitness (reverse run.now) (reverse steps.now) last.now thing claim) }
+    ensures exact { IfOk result (λ good. IsTrue good ↔ IsWitness (reverse run.now) (reverse steps.now) last.now thing claim) }
+    ensures legal { OnOk result (IsLegalSoFar loose (reverse run.now)) }
+    ensures illegal { IsErrOf result Fault.Illegal → ¬ (IsLegalSoFar loose (reverse run.now)) }
 {
     let facts = facts_of(alloc, run, thing)?;
-    judge_by(alloc, &facts, steps, last, thing, claim)
+    Ok(judge_by(alloc, &facts, steps, last, thing, claim)?)
 }

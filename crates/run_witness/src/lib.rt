@@ -1,6 +1,6 @@
-//! The judge of other orders of a recorded run. It promises that an order that it accepts is an order
-//! of the run, in which all lines but the last keep the rules of runs, and that ends as two threads
-//! come to hold one thing. Programs that show overlaps stand on it.
+//! The judge of other orders of a recorded run. It promises that it accepts exactly the orders of the
+//! run with no execution set apart in which all lines but the last keep the rules of runs, and that end
+//! as two threads come to hold one thing. Programs that show overlaps stand on it.
 #![tactic(auto)]
 
 mod causes;

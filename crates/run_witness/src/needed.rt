@@ -1,6 +1,5 @@
 use crate::facts::{Fact, Facts};
-use crate::fault::Fault;
-use run_check::Waiter;
+use run_check::{NoRoom, Waiter};
 use run_lines::{Code, Doing};
 use run_rules::Frame;
 use std::alloc::Global;
@@ -33,7 +32,7 @@ pub(crate) struct StrandsOfOps {
 
 impl StrandsOfOps {
     /// The strands of the operations that a run calls.
-    pub(crate) fn of(alloc: Global, facts: &Facts) -> Result<StrandsOfOps, Fault> {
+    pub(crate) fn of(alloc: Global, facts: &Facts) -> Result<StrandsOfOps, NoRoom> {
         let mut strands = HashMap::new(alloc);
         for place in 0..facts.lines {
             if let Some(fact) = facts.at(place) {
@@ -109,7 +108,7 @@ impl Wants {
     }
 
     /// Wants what aborts an operation.
-    fn want_aborts(&mut self, waiter: &Waiter) -> Result<(), Fault> {
+    fn want_aborts(&mut self, waiter: &Waiter) -> Result<(), NoRoom> {
         if let Some(thing) = waiter.thing {
             self.aborts.push(Abort {
                 thing,
@@ -120,7 +119,7 @@ impl Wants {
     }
 
     /// Wants what has to stand before a handler begins.
-    fn want_begin(&mut self, fact: &Fact, op: u64, code: Code) -> Result<(), Fault> {
+    fn want_begin(&mut self, fact: &Fact, op: u64, code: Code) -> Result<(), NoRoom> {
         self.called.insert(op)?;
         self.completed.insert(op)?;
         if fact.tree == (Frame::Execution { op }) {
@@ -137,7 +136,7 @@ impl Wants {
     }
 
     /// Wants the executions that went before one on its strand.
-    fn want_strand(&mut self, fact: &Fact) -> Result<(), Fault> {
+    fn want_strand(&mut self, fact: &Fact) -> Result<(), NoRoom> {
         if let Some(waiter) = fact.begun {
             if let Some(strand) = waiter.strand {
                 self.strands.insert(strand)?;
@@ -147,7 +146,7 @@ impl Wants {
     }
 
     /// Wants the causes of a line.
-    fn want(&mut self, fact: &Fact) -> Result<(), Fault> {
+    fn want(&mut self, fact: &Fact) -> Result<(), NoRoom> {
         self.trees.insert(fact.tree)?;
         if let Frame::Outside { thread } = fact.tree {
             self.left.insert(thread)?;
@@ -175,7 +174,7 @@ fn want_trees(
     facts: &Facts,
     before: &[u64],
     pair: (Frame, Frame),
-) -> Result<(), Fault> {
+) -> Result<(), NoRoom> {
     for place in before {
         if let Some(fact) = facts.at(*place) {
             let other = fact.tree != pair.0 && fact.tree != pair.1;
@@ -196,7 +195,7 @@ fn needed_with(
     pair: (u64, u64),
     whole: bool,
     mut wants: Wants,
-) -> Result<Vec<u64>, Fault> {
+) -> Result<Vec<u64>, NoRoom> {
     let mut all = Vec::new(alloc);
     for index in 0..facts.lines {
         let place = facts.lines.saturating_sub(index).saturating_sub(1);
@@ -221,7 +220,7 @@ pub(crate) fn needed(
     strands: &StrandsOfOps,
     pair: (u64, u64),
     whole: bool,
-) -> Result<Vec<u64>, Fault> {
+) -> Result<Vec<u64>, NoRoom> {
     let mut all = needed_with(alloc, facts, strands, pair, whole, Wants::new(alloc))?;
     let (Some(one), Some(other)) = (facts.at(pair.0), facts.at(pair.1)) else {
         return Ok(all);

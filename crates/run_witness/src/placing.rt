@@ -3,7 +3,7 @@ ghost use Rattle.std.specs.Option.{unwrap_or};
 ghost use Rattle.run_check.specs.declared.waiting.Waiter.{Waiter};
 ghost use Rattle.run_lines.specs.declared.line.Line.{Line};
 ghost use Rattle.run_orders.specs.declared.order.Step.{Step};
-ghost use Rattle.run_orders.specs.Orders.{lines_of, renumbered};
+ghost use Rattle.run_orders.specs.Orders.{EachMayStand, lines_of, renumbered};
 ghost use Rattle.run_rules.specs.Against.{op_of};
 ghost use Rattle.run_rules.specs.Stacks.{frame, same_frame};
 ghost use Rattle.run_rules.specs.declared.frame.Frame.{Frame};
@@ -11,9 +11,8 @@ ghost use Rattle.run_witness.specs.Facts.{AreFacts, works};
 ghost use Rattle.run_witness.specs.Placing.{BeginsIts, IsOrUnknown, IsPlacing, IsPutWell, MayPair, MayPut, NotesPut, number_of, op_named, position_of, thread_of};
 
 use crate::facts::{Fact, Facts};
-use crate::fault::Fault;
 use crate::spelling::{is_copy, op_of};
-use run_check::Checker;
+use run_check::{Checker, NoRoom};
 use run_lines::{Doing, Line};
 use run_orders::Step;
 use run_rules::Frame;
@@ -22,7 +21,7 @@ use std::collections::HashMap;
 
 /// Whether what is known is this.
 fn is_or_unknown(known: Option<u64>, number: u64) -> bool
-    ensures { IsTrue result → IsOrUnknown known number }
+    ensures { IsTrue result ↔ IsOrUnknown known number }
 {
     match known {
         Some(other) => other == number,
@@ -32,7 +31,7 @@ fn is_or_unknown(known: Option<u64>, number: u64) -> bool
 
 /// Whether an outside line stands on its own thread.
 fn is_at_home(fact: &Fact, step: &Step) -> bool
-    ensures { IsTrue result → (thread : ℕ) → fact.now.tree ≡ Frame.Outside thread → thread ≡ step.now.line.thread }
+    ensures { IsTrue result ↔ ((thread : ℕ) → fact.now.tree ≡ Frame.Outside thread → thread ≡ step.now.line.thread) }
 {
     match fact.tree {
         Frame::Outside { thread } => thread == step.line.thread,
@@ -42,7 +41,7 @@ fn is_at_home(fact: &Fact, step: &Step) -> bool
 
 /// Whether a line is the first of the tree of an execution, or no execution is round it.
 fn begins_tree(fact: &Fact) -> bool
-    ensures { BeginsIts fact.now.line.does fact.now.tree → IsTrue result }
+    ensures { IsTrue result ↔ BeginsIts fact.now.line.does fact.now.tree }
 {
     match fact.tree {
         Frame::Outside { .. } => true,
@@ -55,7 +54,7 @@ fn begins_tree(fact: &Fact) -> bool
 
 /// Whether a handler is begun by a thread that executes handlers of its context.
 fn is_by_worker(facts: &Facts, fact: &Fact, step: &Step) -> bool
-    ensures { IsTrue result → (waiter : Waiter) → fact.now.begun ≡ Some waiter → IsTrue (works facts.now step.now.line.thread waiter.context) }
+    ensures { IsTrue result ↔ ((waiter : Waiter) → fact.now.begun ≡ Some waiter → IsTrue (works facts.now step.now.line.thread waiter.context)) }
 {
     match fact.begun {
         Some(waiter) => facts.works(step.line.thread, waiter.context),
@@ -65,7 +64,7 @@ fn is_by_worker(facts: &Facts, fact: &Fact, step: &Step) -> bool
 
 /// Whether nothing executes where a tree begins.
 fn is_idle(fact: &Fact, step: &Step, frame: Frame) -> bool
-    ensures { IsTrue result → BeginsIts fact.now.line.does fact.now.tree → frame ≡ Frame.Outside step.now.line.thread }
+    ensures { IsTrue result ↔ (BeginsIts fact.now.line.does fact.now.tree → frame ≡ Frame.Outside step.now.line.thread) }
 {
     let thread = step.line.thread;
     !begins_tree(fact) || frame == Frame::Outside { thread }
@@ -125,7 +124,7 @@ impl Placing {
 
     /// Whether operations are numbered one to one, with these two.
     fn is_one_to_one(&self, op: Option<u64>, number: Option<u64>) -> bool
-        ensures { IsTrue result → MayPair self.now op number }
+        ensures { IsTrue result ↔ MayPair self.now op number }
     {
         match (op, number) {
             (Some(op), Some(number)) => {
@@ -138,7 +137,7 @@ impl Placing {
 
     /// Whether the caller of a line is the same, where this frame writes it.
     fn is_by_same(&self, fact: &Fact, frame: Frame) -> bool
-        ensures { IsTrue result → (op number : ℕ) → fact.now.writer ≡ Frame.Execution op → number_of self.now op ≡ Some number → frame ≡ Frame.Execution number }
+        ensures { IsTrue result ↔ ((op number : ℕ) → fact.now.writer ≡ Frame.Execution op → number_of self.now op ≡ Some number → frame ≡ Frame.Execution number) }
     {
         match fact.writer {
             Frame::Execution { op } => match self.number(op) {
@@ -151,7 +150,7 @@ impl Placing {
 
     /// Whether a line of the run may be put behind these, as this frame's next one.
     fn may_put(&self, facts: &Facts, fact: &Fact, step: &Step, frame: Frame) -> bool
-        ensures { IsTrue result → MayPut self.now facts.now fact.now step.now frame }
+        ensures { IsTrue result ↔ MayPut self.now facts.now fact.now step.now frame }
     {
         self.position(step.place).is_none()
             && is_copy(fact.line.does, step.line.does)
@@ -163,7 +162,7 @@ impl Placing {
             && is_by_worker(facts, fact, step)
     }
 
-    fn note_place(&mut self, place: u64) -> Result<(), Fault>
+    fn note_place(&mut self, place: u64) -> Result<(), NoRoom>
         ensures counted { IfOk result (λ _. self.new.count ≡ self.old.count + 1) }
         ensures places { IfOk result (λ _. (other : ℕ) →
             position_of self.new other ≡ (if place == other then Some self.old.count else position_of self.old other)) }
@@ -172,12 +171,12 @@ impl Placing {
         ensures ops { IfOk result (λ _. self.new.ops ≡ self.old.ops) }
     {
         let at = self.count;
-        self.count = at.checked_add(1).ok_or(Fault::NoRoom)?;
+        self.count = at.checked_add(1).ok_or(NoRoom)?;
         self.places.insert(place, at)?;
         Ok(())
     }
 
-    fn note_thread(&mut self, tree: Frame, thread: u64) -> Result<(), Fault>
+    fn note_thread(&mut self, tree: Frame, thread: u64) -> Result<(), NoRoom>
         ensures threads { IfOk result (λ _. (other : Frame) →
             thread_of self.new other ≡ (if same_frame tree other then Some thread else thread_of self.old other)) }
         ensures counted { IfOk result (λ _. self.new.count ≡ self.old.count) }
@@ -189,7 +188,7 @@ impl Placing {
         Ok(())
     }
 
-    fn note_pair(&mut self, op: u64, number: u64) -> Result<(), Fault>
+    fn note_pair(&mut self, op: u64, number: u64) -> Result<(), NoRoom>
         ensures numbers { IfOk result (λ _. (other : ℕ) →
             number_of self.new other ≡ (if op == other then Some number else number_of self.old other)) }
         ensures ops { IfOk result (λ _. (other : ℕ) →
@@ -204,7 +203,7 @@ impl Placing {
     }
 
     /// Notes that a line of the run is this one of the order, which may be put.
-    fn note(&mut self, fact: &Fact, step: &Step) -> Result<(), Fault>
+    fn note(&mut self, fact: &Fact, step: &Step) -> Result<(), NoRoom>
         ensures { IfOk result (λ _. NotesPut self.old self.new fact.now step.now) }
     {
         self.note_place(step.place)?;
@@ -216,10 +215,13 @@ impl Placing {
     }
 
     /// Puts a line of the run behind these, if it may stand there as this frame's next one.
-    pub(crate) fn put(&mut self, facts: &Facts, step: &Step, who: Frame) -> Result<bool, Fault>
-        ensures { IfOk result (λ good. (thing : ℕ) (run : List Line) (before : List Step) → AreFacts thing run facts.now →
+    pub(crate) fn put(&mut self, facts: &Facts, step: &Step, who: Frame) -> Result<bool, NoRoom>
+        ensures good { IfOk result (λ good. (thing : ℕ) (run : List Line) (before : List Step) → AreFacts thing run facts.now →
             IsPlacing run before self.old → who ≡ frame (lines_of before) step.now.line.thread → IsTrue good →
             IsPlacing run (step.now ∷ before) self.new × IsPutWell run before step.now) }
+        ensures bad { IfOk result (λ good. (thing : ℕ) (run : List Line) (before : List Step) → AreFacts thing run facts.now →
+            IsPlacing run before self.old → who ≡ frame (lines_of before) step.now.line.thread →
+            EachMayStand run [] (step.now ∷ before) → IsTrue good) }
     {
         match facts.at(step.place) {
             Some(fact) => {

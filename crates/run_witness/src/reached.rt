@@ -1,7 +1,7 @@
-ghost use Rattle.std.specs.Prelude.{◌≡◌, if◌then◌else◌, IfOk, IsTrue, Some, None, nat_eq};
+ghost use Rattle.std.specs.Prelude.{◌≡◌, ◌↔◌, if◌then◌else◌, IfOk, IsTrue, Some, None, nat_eq};
 ghost use Rattle.run_witness.specs.Reached.{IsBefore, NotesAt, later_of, reached_at, reached_with};
 
-use crate::fault::Fault;
+use run_check::NoRoom;
 use std::alloc::Global;
 use std::collections::HashMap;
 use std::hash::Hash;
@@ -44,7 +44,7 @@ impl<K: Eq + Hash + Copy> Reached<K> {
 
     /// Whether all lines that were noted at this key stand before a place.
     pub(crate) fn is_before(&self, key: K, bound: u64) -> bool
-        ensures { IsTrue result → IsBefore (reached_at K.eq self.now key) bound }
+        ensures { IsTrue result ↔ IsBefore (reached_at K.eq self.now key) bound }
     {
         match self.places.get(&key).copied() {
             Some(Some(place)) => place < bound,
@@ -54,7 +54,7 @@ impl<K: Eq + Hash + Copy> Reached<K> {
     }
 
     /// Notes where a line stands.
-    pub(crate) fn note(&mut self, key: K, place: Option<u64>) -> Result<(), Fault>
+    pub(crate) fn note(&mut self, key: K, place: Option<u64>) -> Result<(), NoRoom>
         ensures { IfOk result (λ _. (other : K) → reached_at K.eq self.new other
             ≡ (if K.eq key other then Some (reached_with (reached_at K.eq self.old key) place) else reached_at K.eq self.old other)) }
     {
@@ -69,7 +69,7 @@ pub(crate) fn note_at(
     table: &mut Reached<u64>,
     key: Option<u64>,
     place: Option<u64>,
-) -> Result<(), Fault>
+) -> Result<(), NoRoom>
     ensures { IfOk result (λ _. NotesAt (reached_at nat_eq table.old) (reached_at nat_eq table.new) key place) }
 {
     match key {

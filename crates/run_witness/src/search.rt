@@ -1,7 +1,10 @@
-ghost use Rattle.std.specs.Prelude.{ℕ, List, IfOk, IfSome, reverse};
+ghost use Rattle.std.specs.Prelude.{ℕ, List, IfOk, IfSome, OnOk, IsErrOf, reverse};
+ghost use Rattle.run_check.specs.After.{loose};
 ghost use Rattle.run_lines.specs.declared.line.Line.{Line};
+ghost use Rattle.run_rules.specs.Legal.{IsLegalSoFar};
 ghost use Rattle.run_witness.specs.Facts.{AreFacts};
 ghost use Rattle.run_witness.specs.Witness.{IsWitness};
+ghost use Rattle.run_witness.specs.declared.fault.Fault.{Fault};
 
 use crate::causes::Causes;
 use crate::facts::{Fact, Facts, facts_of};
@@ -9,6 +12,7 @@ use crate::fault::Fault;
 use crate::judging::{Replay, judge_by};
 use crate::needed::{StrandsOfOps, needed};
 use crate::spelling::{op_of, renumbered};
+use run_check::NoRoom;
 use run_lines::{Code, Doing, Line, Word};
 use run_orders::Step;
 use run_rules::Frame;
@@ -57,7 +61,7 @@ struct Attempt {
 }
 
 /// Keeps a line of an order.
-fn keep(steps: &mut Vec<Step>, step: Step) -> Result<(), Fault> {
+fn keep(steps: &mut Vec<Step>, step: Step) -> Result<(), NoRoom> {
     // the borrow checker's plan has to be told of the types within
     let _word: Option<Word> = None;
     let _code: Option<Code> = None;
@@ -94,7 +98,7 @@ impl Attempt {
         place: u64,
         fact: &Fact,
         thread: u64,
-    ) -> Result<bool, Fault> {
+    ) -> Result<bool, NoRoom> {
         let Some(number) = self.number(&fact.line.does) else {
             return Ok(false);
         };
@@ -120,7 +124,7 @@ impl Attempt {
         place: u64,
         fact: &Fact,
         threads: &[u64],
-    ) -> Result<bool, Fault> {
+    ) -> Result<bool, NoRoom> {
         if self.put_on(facts, place, fact, fact.line.thread)? {
             return Ok(true);
         }
@@ -139,7 +143,7 @@ impl Attempt {
         place: u64,
         fact: &Fact,
         threads: &[u64],
-    ) -> Result<bool, Fault> {
+    ) -> Result<bool, NoRoom> {
         match self.replay.thread(fact.tree) {
             Some(thread) => self.put_on(facts, place, fact, thread),
             None => match fact.tree {
@@ -158,7 +162,7 @@ impl Attempt {
         all: &[u64],
         threads: &[u64],
         apart: (Option<Frame>, u64),
-    ) -> Result<bool, Fault> {
+    ) -> Result<bool, NoRoom> {
         let mut causes = Causes::new(alloc);
         let mut moved = false;
         for place in all.iter().rev() {
@@ -182,7 +186,7 @@ impl Attempt {
         all: &[u64],
         threads: &[u64],
         apart: (Option<Frame>, u64),
-    ) -> Result<(), Fault> {
+    ) -> Result<(), NoRoom> {
         for _ in 0..all.len() {
             if !self.pass(alloc, facts, all, threads, apart)? {
                 return Ok(());
@@ -193,7 +197,7 @@ impl Attempt {
 }
 
 /// The threads that lines of a run are on.
-fn threads_of(alloc: Global, facts: &Facts) -> Result<Vec<u64>, Fault> {
+fn threads_of(alloc: Global, facts: &Facts) -> Result<Vec<u64>, NoRoom> {
     let mut threads: Vec<u64> = Vec::new(alloc);
     for place in 0..facts.lines {
         if let Some(fact) = facts.at(place) {
@@ -206,7 +210,7 @@ fn threads_of(alloc: Global, facts: &Facts) -> Result<Vec<u64>, Fault> {
 }
 
 /// The places of the claims of a thing.
-fn claims_of(alloc: Global, facts: &Facts, thing: u64) -> Result<Vec<u64>, Fault> {
+fn claims_of(alloc: Global, facts: &Facts, thing: u64) -> Result<Vec<u64>, NoRoom> {
     let mut claims = Vec::new(alloc);
     for place in 0..facts.lines {
         if let Some(fact) = facts.at(place) {
@@ -228,7 +232,7 @@ struct Search {
 
 impl Search {
     /// The lines of an order by this plan, as far as they could be put.
-    fn attempt(&self, alloc: Global, plan: Plan, held: &Fact) -> Result<Attempt, Fault> {
+    fn attempt(&self, alloc: Global, plan: Plan, held: &Fact) -> Result<Attempt, NoRoom> {
         let pair = (plan.held, plan.last);
         let all = needed(alloc, &self.facts, &self.strands, pair, plan.whole)?;
         let mut attempt = Attempt::new(alloc);
@@ -241,7 +245,7 @@ impl Search {
     }
 
     /// An order by this plan, if one was found and is one.
-    fn find_by(&self, alloc: Global, thing: u64, plan: Plan) -> Result<Option<Witness>, Fault>
+    fn find_by(&self, alloc: Global, thing: u64, plan: Plan) -> Result<Option<Witness>, NoRoom>
         ensures { IfOk result (λ found. IfSome found (λ witness. (run : List Line) → AreFacts thing run self.now.facts →
             IsWitness run (reverse witness.steps.items) witness.last thing witness.claim)) }
     {
@@ -278,7 +282,7 @@ impl Search {
         thing: u64,
         held: u64,
         last: u64,
-    ) -> Result<Option<Witness>, Fault>
+    ) -> Result<Option<Witness>, NoRoom>
         ensures { IfOk result (λ found. IfSome found (λ witness. (run : List Line) → AreFacts thing run self.now.facts →
             IsWitness run (reverse witness.steps.items) witness.last thing witness.claim)) }
     {
@@ -315,7 +319,7 @@ impl Search {
         thing: u64,
         one: u64,
         other: u64,
-    ) -> Result<Option<Witness>, Fault>
+    ) -> Result<Option<Witness>, NoRoom>
         ensures { IfOk result (λ found. IfSome found (λ witness. (run : List Line) → AreFacts thing run self.now.facts →
             IsWitness run (reverse witness.steps.items) witness.last thing witness.claim)) }
     {
@@ -331,7 +335,7 @@ impl Search {
         alloc: Global,
         thing: u64,
         pairs: &[(u64, u64)],
-    ) -> Result<Option<Witness>, Fault>
+    ) -> Result<Option<Witness>, NoRoom>
         ensures { IfOk result (λ found. IfSome found (λ witness. (run : List Line) → AreFacts thing run self.now.facts →
             IsWitness run (reverse witness.steps.items) witness.last thing witness.claim)) }
     {
@@ -349,7 +353,7 @@ impl Search {
         pairs: &mut Vec<(u64, u64)>,
         before: &[u64],
         claim: u64,
-    ) -> Result<(), Fault> {
+    ) -> Result<(), NoRoom> {
         let mut tried = 0;
         for other in before.iter().rev() {
             if tried < BEFORE_EACH && !self.are_apart(*other, claim) {
@@ -361,7 +365,7 @@ impl Search {
     }
 
     /// The pairs of claims that are tried.
-    fn pairs(&self, alloc: Global, claims: &[u64]) -> Result<Vec<(u64, u64)>, Fault> {
+    fn pairs(&self, alloc: Global, claims: &[u64]) -> Result<Vec<(u64, u64)>, NoRoom> {
         let mut pairs = Vec::new(alloc);
         for index in 0..claims.len() {
             if let (Some(before), Some(claim)) = (claims.get(..index), claims.get(index)) {
@@ -377,8 +381,10 @@ impl Search {
 /// An order of a run that ends as a second thread claims a thing that another one holds, if one was
 /// found. Nothing is promised where none was. A few pairs of claims of the thing are tried.
 pub fn find_witness(alloc: Global, run: &[Line], thing: u64) -> Result<Option<Witness>, Fault>
-    ensures { IfOk result (λ found. IfSome found (λ witness.
+    ensures found { IfOk result (λ found. IfSome found (λ witness.
         IsWitness (reverse run.now) (reverse witness.steps.items) witness.last thing witness.claim)) }
+    ensures legal { OnOk result (IsLegalSoFar loose (reverse run.now)) }
+    ensures illegal { IsErrOf result Fault.Illegal → ¬ (IsLegalSoFar loose (reverse run.now)) }
 {
     let facts = facts_of(alloc, run, thing)?;
     let claims = claims_of(alloc, &facts, thing)?;
@@ -388,5 +394,5 @@ pub fn find_witness(alloc: Global, run: &[Line], thing: u64) -> Result<Option<Wi
         facts,
     };
     let pairs = search.pairs(alloc, &claims)?;
-    search.find_among(alloc, thing, &pairs)
+    Ok(search.find_among(alloc, thing, &pairs)?)
 }

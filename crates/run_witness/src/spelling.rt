@@ -1,4 +1,4 @@
-ghost use Rattle.std.specs.Prelude.{◌≡◌, ℕ, IsTrue, is_some};
+ghost use Rattle.std.specs.Prelude.{◌≡◌, ◌↔◌, ℕ, IsTrue, is_some};
 ghost use Rattle.std.specs.Option.{unwrap_or};
 ghost use Rattle.run_check.specs.Called.{called_by};
 ghost use Rattle.run_witness.specs.Causes.{completed_by, marked_by};
@@ -63,7 +63,7 @@ pub(crate) fn renumbered(number: u64, does: &Doing) -> Doing
 
 /// Whether a call is made by this word, to this context and strand, on this thing.
 fn is_call(copy: Doing, word: Word, context: u64, strand: Option<u64>, thing: Option<u64>) -> bool
-    ensures { IsTrue result → (op : ℕ) → copy ≡ renumbered (unwrap_or (op_of copy) 0) (Doing.Call op word context strand thing) }
+    ensures { (op : ℕ) → IsTrue result ↔ (copy ≡ renumbered (unwrap_or (op_of copy) 0) (Doing.Call op word context strand thing)) }
 {
     match copy {
         Doing::Call {
@@ -79,7 +79,7 @@ fn is_call(copy: Doing, word: Word, context: u64, strand: Option<u64>, thing: Op
 
 /// Whether an operation completes with this outcome.
 fn is_done(copy: Doing, code: Code, size: u64) -> bool
-    ensures { IsTrue result → (op : ℕ) → copy ≡ renumbered (unwrap_or (op_of copy) 0) (Doing.Done op code size) }
+    ensures { (op : ℕ) → IsTrue result ↔ (copy ≡ renumbered (unwrap_or (op_of copy) 0) (Doing.Done op code size)) }
 {
     match copy {
         Doing::Done {
@@ -93,7 +93,7 @@ fn is_done(copy: Doing, code: Code, size: u64) -> bool
 
 /// Whether an operation begins with this outcome.
 fn is_begin(copy: Doing, code: Code, size: u64) -> bool
-    ensures { IsTrue result → (op : ℕ) → copy ≡ renumbered (unwrap_or (op_of copy) 0) (Doing.Begin op code size) }
+    ensures { (op : ℕ) → IsTrue result ↔ (copy ≡ renumbered (unwrap_or (op_of copy) 0) (Doing.Begin op code size)) }
 {
     match copy {
         Doing::Begin {
@@ -105,28 +105,9 @@ fn is_begin(copy: Doing, code: Code, size: u64) -> bool
     }
 }
 
-/// Whether a line takes, gives, marks or tells the same, where it speaks of no operation.
-fn is_plain_copy(does: Doing, copy: Doing) -> bool
-    ensures { IsTrue result → copy ≡ renumbered (unwrap_or (op_of copy) 0) does }
-{
-    match (does, copy) {
-        (Doing::Claim { thing }, Doing::Claim { thing: other }) => thing == other,
-        (Doing::Release { thing }, Doing::Release { thing: other }) => thing == other,
-        (Doing::Lock { lock }, Doing::Lock { lock: other }) => lock == other,
-        (Doing::Unlock { lock }, Doing::Unlock { lock: other }) => lock == other,
-        (Doing::Mark { mark }, Doing::Mark { mark: other }) => mark == other,
-        (Doing::After { mark }, Doing::After { mark: other }) => mark == other,
-        (Doing::Cancel { thing }, Doing::Cancel { thing: other }) => thing == other,
-        (Doing::Work { context }, Doing::Work { context: other }) => context == other,
-        (Doing::Stop { context }, Doing::Stop { context: other }) => context == other,
-        (Doing::Restart { context }, Doing::Restart { context: other }) => context == other,
-        _ => false,
-    }
-}
-
 /// Whether a line does the same as another one, but for the number of its operation.
 pub(crate) fn is_copy(does: Doing, copy: Doing) -> bool
-    ensures { IsTrue result → copy ≡ renumbered (unwrap_or (op_of copy) 0) does }
+    ensures { IsTrue result ↔ (copy ≡ renumbered (unwrap_or (op_of copy) 0) does) }
 {
     match does {
         Doing::Call {
@@ -142,7 +123,20 @@ pub(crate) fn is_copy(does: Doing, copy: Doing) -> bool
         Doing::End { .. } => matches!(copy, Doing::End { .. }),
         Doing::Throw { .. } => matches!(copy, Doing::Throw { .. }),
         Doing::Drop { .. } => matches!(copy, Doing::Drop { .. }),
-        _ => is_plain_copy(does, copy),
+        Doing::Claim { thing } => matches!(copy, Doing::Claim { thing: other } if other == thing),
+        Doing::Release { thing } =>
+            matches!(copy, Doing::Release { thing: other } if other == thing),
+        Doing::Lock { lock } => matches!(copy, Doing::Lock { lock: other } if other == lock),
+        Doing::Unlock { lock } => matches!(copy, Doing::Unlock { lock: other } if other == lock),
+        Doing::Mark { mark } => matches!(copy, Doing::Mark { mark: other } if other == mark),
+        Doing::After { mark } => matches!(copy, Doing::After { mark: other } if other == mark),
+        Doing::Cancel { thing } => matches!(copy, Doing::Cancel { thing: other } if other == thing),
+        Doing::Work { context } =>
+            matches!(copy, Doing::Work { context: other } if other == context),
+        Doing::Stop { context } =>
+            matches!(copy, Doing::Stop { context: other } if other == context),
+        Doing::Restart { context } =>
+            matches!(copy, Doing::Restart { context: other } if other == context),
     }
 }
 

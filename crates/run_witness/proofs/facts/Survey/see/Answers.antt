@@ -7,8 +7,8 @@ use Rattle.run_witness.specs.declared.facts.Survey.{Survey}
 use Rattle.run_witness.proofs.FactsLemmas.{survey_next}
 use Rattle.run_witness.proofs.facts.Survey.see.Goals as goal
 
-pub returns : goal.returns
-returns c = λ past was.
+pub returns-clause-seen : goal.returns-clause-seen
+returns-clause-seen c = λ past was.
     let line = c.args.line.now in
     let old = c.args.self.now in
     let new : Survey = record { checker = c.step.new.self; roots = c.note_root.new.roots; facts = c.note.new.self } in

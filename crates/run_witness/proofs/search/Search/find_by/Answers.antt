@@ -8,4 +8,4 @@ returns-then-branch c = λ run are.
     let step : Step =
     record { place = c.args.plan.last; line = record { thread = c.unwrap_or-thread.result; does = c.in-Some-Some.last.line.does } } in
     subst (λ (xs : List Step). IsWitness run (reverse xs) step c.args.thing c.args.plan.held) c.deref.ensures.value
-    (c.in_ok-judge_by.ensures run are c.if-branch.true)
+    ((c.in_ok-judge_by.ensures run are).0 c.if-branch.true)

@@ -1,0 +1,3 @@
+pub mod ReachingLemmas
+pub mod JoiningLemmas
+pub mod HandingLemmas

@@ -1,0 +1,4 @@
+pub mod Notes
+pub mod Reaching
+pub mod Joining
+pub mod Handing
