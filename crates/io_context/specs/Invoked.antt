@@ -16,9 +16,9 @@ pub record IsHandlerOf {H S : Type 0} (marks : H → Marks) (runs : Execution) (
 
 -- what a handler may do with a strand's state, or without one
 abbrev pub IsInvoked : {H S : Type 0} →
-    (H → Completion → S → S → Initiated H → Initiated H → Type 0) →
-    (H → Completion → Initiated H → Initiated H → Type 0) →
-    H → Completion → Option S → Option S → Initiated H → Initiated H → Type 0
+    (H → Completion → S → S → Initiated H S → Initiated H S → Type 0) →
+    (H → Completion → Initiated H S → Initiated H S → Type 0) →
+    H → Completion → Option S → Option S → Initiated H S → Initiated H S → Type 0
 IsInvoked may may_free handler done (Some old) (Some new) before behind = may handler done old new before behind
 IsInvoked may may_free handler done None None before behind = may_free handler done before behind
 IsInvoked may may_free handler done (Some old) None before behind = ⊥

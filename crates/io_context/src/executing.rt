@@ -1,12 +1,12 @@
-ghost use Rattle.std.specs.Prelude.{◌≡◌, ◌+◌};
+ghost use Rattle.std.specs.Prelude.{◌≡◌, ◌+◌, []};
 
 use crate::context::Context;
-use crate::invocation::{Invocation, Looks, Next, Pause, invoke};
+use crate::invocation::{Freed, Invocation, Looks, Next, Pause, invoke};
 use crate::shared::Shared;
 use crate::sockets::close_those;
 use crate::system_call::{SystemCall, close, make_all};
 use crate::worker::Worker;
-use io_handlers::Handler;
+use io_handlers::{Handler, Staging};
 use io_history::Named;
 use io_reactor::Reactor;
 use std::sync::atomic::Ordering;
@@ -25,6 +25,19 @@ pub(crate) struct Rhythm {
 
 /// With the lock of what a context keeps, what a worker does next.
 type Locked<'a, H, C, S> = (MutexGuard<'a, Shared<H, C, S>>, Next<H, C, S>);
+
+/// Retires all states that are to be, and this one.
+fn retire_those<H: Handler>(state: Option<H::State>, staging: &mut Staging<H, H::State>)
+    ensures { staging.new ≡ record staging.old { retired = [] } }
+{
+    'states: while let Some(state) = staging.next_retired() {
+        H::retire(state);
+    }
+    match state {
+        None => {}
+        Some(state) => H::retire(state),
+    }
+}
 
 impl<H: Handler, C: Named, W: Reactor> Context<H, C, W> {
     /// How a worker looks for what is next that has read the clock.
@@ -82,12 +95,35 @@ impl<H: Handler, C: Named, W: Reactor> Context<H, C, W> {
         };
         let mut shared = self.enter(rt);
         let by = &mut worker.share;
-        let next = shared.end(&self.table, running, state, mark, &mut staging, by, looks);
+        let ended = shared.end(&self.table, running, state, mark, &mut staging, by, looks);
+        let (shared, next) = match ended {
+            Ok(next) => (shared, next),
+            Err(freed) => self.retire(rt, shared, freed, &mut staging, rhythm.waits),
+        };
         match worker.staging.replace(staging) {
             None => {}
             Some(_) => unreachable!(),
         }
         self.go_on(rt, shared, next, rhythm.waits)
+    }
+
+    /// Retires the states of strands that are forgotten, with the lock free; what is next then.
+    #[inline(never)]
+    fn retire<'a, R: Wait>(
+        &'a self,
+        rt: &R,
+        shared: MutexGuard<'a, Shared<H, C, W::Socket>>,
+        freed: Freed<H::State>,
+        staging: &mut Staging<H, H::State>,
+        waits: bool,
+    ) -> Locked<'a, H, C, W::Socket>
+        ensures { staging.new ≡ record staging.old { retired = [] } }
+    {
+        let Freed { state, wake } = freed;
+        drop(shared);
+        self.wake(wake);
+        retire_those::<H>(state, staging);
+        self.begin_again(rt, waits)
     }
 
     /// What the clock shows, if it is to be read.
@@ -185,7 +221,7 @@ impl<H: Handler, C: Named, W: Reactor> Context<H, C, W> {
         &'a self,
         rt: &R,
         shared: MutexGuard<'a, Shared<H, C, W::Socket>>,
-        pause: Pause<H::State, W::Socket>,
+        pause: Pause<W::Socket>,
         waits: bool,
     ) -> Option<Locked<'a, H, C, W::Socket>> {
         match pause {
@@ -193,12 +229,6 @@ impl<H: Handler, C: Named, W: Reactor> Context<H, C, W> {
                 drop(shared);
                 self.wake(wake);
                 None
-            }
-            Pause::Retire(state, wake) => {
-                drop(shared);
-                self.wake(wake);
-                H::retire(state);
-                Some(self.begin_again(rt, waits))
             }
             Pause::Call(closing, calls, wake) => {
                 drop(shared);
@@ -237,7 +267,7 @@ impl<H: Handler, C: Named, W: Reactor> Context<H, C, W> {
         &'a self,
         rt: &R,
         shared: MutexGuard<'a, Shared<H, C, W::Socket>>,
-        pause: Pause<H::State, W::Socket>,
+        pause: Pause<W::Socket>,
         waits: bool,
     ) -> Option<Invocation<H, C>> {
         let mut shared = shared;

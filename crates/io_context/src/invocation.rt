@@ -36,19 +36,17 @@ pub(crate) enum Next<H: Handler, C: Named, S> {
     /// It invokes a handler.
     Invoke(Invocation<H, C>, Wake),
     /// No handler begins.
-    Pause(Pause<H::State, S>),
+    Pause(Pause<S>),
 }
 
 /// What a worker does where no handler begins.
-pub(crate) enum Pause<T, S> {
+pub(crate) enum Pause<S> {
     /// It closes this socket, if there is one, and makes these system calls.
     Call(Option<S>, Vec<SystemCall<S>>, Wake),
     /// It closes sockets. These system calls have returned.
     Close(Leaving<S>, Vec<SystemCall<S>>, Wake),
     /// It looks again, since other workers have all lists of system calls.
     Again(Wake),
-    /// It retires the state of a strand that is gone.
-    Retire(T, Wake),
     /// It sleeps.
     Rest(Wake),
     /// It waits for the outside until this time.
@@ -57,6 +55,13 @@ pub(crate) enum Pause<T, S> {
     Nothing(Wake),
     /// Nothing more: its call of `run` returns.
     Over(Wake),
+}
+
+/// States of strands that are forgotten when a handler has ended, to be retired with the lock free: that of its
+/// own strand, if so, beside those that are staged to be.
+pub(crate) struct Freed<T> {
+    pub(crate) state: Option<T>,
+    pub(crate) wake: Wake,
 }
 
 /// How a worker looks for what is to be done next.
@@ -112,7 +117,7 @@ fn take_rest<H: Handler, C: Named, S>(
     table: &HistoryTable,
     waits: bool,
     listed: bool,
-) -> Pause<H::State, S>
+) -> Pause<S>
     requires table { table.now ≡ C.table }
     ensures sleepers { SleepWhileIdle sleepers.new scheduler.new listed }
 {
@@ -135,7 +140,7 @@ fn take_calls<H: Handler, C: Named, S>(
     sleepers: &mut Sleepers,
     set: &mut SocketSet<S>,
     table: &HistoryTable,
-) -> Option<Pause<H::State, S>>
+) -> Option<Pause<S>>
     requires table { table.now ≡ C.table }
     ensures sleepers { IfSome result (λ _. SleepWhileIdle sleepers.new scheduler.new (is_any_listed set.new)) }
 {
@@ -169,7 +174,7 @@ fn take_pause<H: Handler, C: Named, S>(
     set: &mut SocketSet<S>,
     table: &HistoryTable,
     waits: bool,
-) -> Pause<H::State, S>
+) -> Pause<S>
     requires table { table.now ≡ C.table }
     ensures sleepers { SleepWhileIdle sleepers.new scheduler.new (is_any_listed set.new) }
 {
@@ -228,7 +233,7 @@ pub(crate) fn invoke<H: Handler>(
     handler: H,
     done: Completion,
     state: Option<H::State>,
-    io: &mut Initiator<H>,
+    io: &mut Initiator<H, H::State>,
 ) -> (u64, Option<H::State>)
     ensures mark { result.0 ≡ (H.marks handler).run }
     ensures state { is_some result.1 ≡ is_some state }

@@ -60,7 +60,7 @@ impl<H: Handler, C: Named, W: Reactor> Context<H, C, W> {
 }
 
 /// Gives the memory of all workers back, and their shares to this one.
-fn destroy_all<H, C: Named>(workers: Vec<Worker<H, C>>, share: &mut Share<C>)
+fn destroy_all<H: Handler, C: Named>(workers: Vec<Worker<H, C>>, share: &mut Share<C>)
     ensures amount { share.old.amount ≤ share.new.amount }
     ensures parts { share.new.parts ≡ share.old.parts + vec_len workers }
 {

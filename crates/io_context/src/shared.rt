@@ -1,4 +1,4 @@
-ghost use Rattle.std.specs.Prelude.{◌≡◌, ◌<◌, ◌+◌, nat_lt, [], false, true, IfErr, IfOk, IfSome, None, OnErr, Some};
+ghost use Rattle.std.specs.Prelude.{◌≡◌, ◌<◌, ◌+◌, nat_lt, [], false, true, IfErr, IfOk, IfSome, None, OnErr, OnOk, Some};
 ghost use Rattle.std.specs.Option.{is_some};
 ghost use Rattle.io_rules.specs.declared.control.Control.TheVariants as control;
 ghost use Rattle.io_rules.specs.declared.event.Event.TheVariants as event;
@@ -21,7 +21,7 @@ ghost use Rattle.io_scheduler.specs.Tallied.{is_at_rest};
 ghost use Rattle.io_scheduler.specs.Timing.{control_of};
 ghost use Rattle.io_scheduler.specs.Transferred.{is_transfer, settled_at_once, transfers};
 
-use crate::invocation::{Looks, Next, Pause, take_next};
+use crate::invocation::{Freed, Looks, Next, Pause, take_next};
 use crate::refused::{Refused, refuse, refuse_strand, refuse_transfer, refuse_wait};
 use crate::sleepers::{Sleepers, Wake};
 use crate::sockets::{Leaving, SocketSet};
@@ -182,10 +182,10 @@ impl<H: Handler, C: Named, S> Shared<H, C, S> {
         running: Running<C>,
         state: Option<H::State>,
         mark: u64,
-        staging: &mut Staging<H>,
+        staging: &mut Staging<H, H::State>,
         by: &mut Share<C>,
         looks: Looks,
-    ) -> Next<H, C, S>
+    ) -> Result<Next<H, C, S>, Freed<H::State>>
         requires table { table.now ≡ C.table }
         requires mark { mark_of running.held ≡ Some mark }
         requires state { is_some state ≡ is_strand running.lane }
@@ -194,7 +194,8 @@ impl<H: Handler, C: Named, S> Shared<H, C, S> {
         requires part { 0 < by.old.parts }
         ensures counted { by.new.amount ≡ by.old.amount + 1 }
         ensures parts { by.new.parts ≡ by.old.parts }
-        ensures taken { staging.new ≡ with_none staging.old }
+        ensures taken { staging.new ≡ with_none staging.new.retired staging.old }
+        ensures none { OnOk result (staging.new.retired ≡ []) }
     {
         let closed = self.set.touch(staging);
         let retired = self
@@ -204,17 +205,18 @@ impl<H: Handler, C: Named, S> Shared<H, C, S> {
             self.set.list_listeners(&self.scheduler);
         }
         match retired {
-            Some(state) => {
-                let listed = self.set.is_any_listed();
-                Next::Pause(Pause::Retire(state, self.sleepers.call(&self.scheduler, listed)))
-            }
-            None => take_next(
+            None if !staging.retires() => Ok(take_next(
                 &mut self.scheduler,
                 &mut self.sleepers,
                 &mut self.set,
                 table,
                 looks,
-            ),
+            )),
+            state => {
+                let listed = self.set.is_any_listed();
+                let wake = self.sleepers.call(&self.scheduler, listed);
+                Err(Freed { state, wake })
+            }
         }
     }
 

@@ -214,7 +214,7 @@ impl<S> SocketSet<S> {
     }
 
     /// What a handler staged for streams is to be looked at.
-    pub(crate) fn touch<H: Handler>(&mut self, staging: &Staging<H>) -> bool {
+    pub(crate) fn touch<H: Handler>(&mut self, staging: &Staging<H, H::State>) -> bool {
         let mut closed = false;
         for index in 0..staging.calls() {
             match staging.touched(index) {

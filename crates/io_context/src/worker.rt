@@ -1,7 +1,7 @@
 ghost use Rattle.std.specs.Prelude.{◌≡◌, ◌<◌, ◌+◌, [], IfOk, OnErr};
 
 use asio_types::NoMemory;
-use io_handlers::Staging;
+use io_handlers::{Handler, Staging};
 use io_history::Named;
 use std::alloc::Global;
 use std::marker::Model;
@@ -9,13 +9,13 @@ use std::sync::ledger::Share;
 
 /// What a thread calls `run` with: room for what the handlers that it executes initiate, and its share of
 /// them. Each thread has its own. Contracts see how many handlers it has executed.
-pub struct Worker<H, C: Named> {
+pub struct Worker<H: Handler, C: Named> {
     // here while no handler executes
-    pub(crate) staging: Option<Staging<H>>,
+    pub(crate) staging: Option<Staging<H, H::State>>,
     pub(crate) share: Share<C>,
 }
 
-impl<H, C: Named> Model for Worker<H, C> {
+impl<H: Handler, C: Named> Model for Worker<H, C> {
     ghost use Rattle.std.specs.Prelude.{◌≡◌, [], Some};
     ghost use Rattle.std.specs.Option.{option_map};
     ghost use Rattle.io_handlers.specs.Initiated.{Initiated};
@@ -25,11 +25,12 @@ impl<H, C: Named> Model for Worker<H, C> {
 
     ghost view = { λ w. record { executed = w.share.amount } };
 
-    ghost invariant = { λ w. (option_map (λ (i : Initiated H). i.staged) w.staging ≡ Some [])
+    ghost invariant = { λ w. (option_map (λ (i : Initiated H H.State). i.staged) w.staging ≡ Some [])
+        × (option_map (λ (i : Initiated H H.State). i.retired) w.staging ≡ Some [])
         × (w.share.parts ≡ 1) };
 }
 
-impl<H, C: Named> Worker<H, C> {
+impl<H: Handler, C: Named> Worker<H, C> {
     /// Room for so many calls of a handler, and one part of a share. Takes memory for all of them;
     /// `NoMemory` where it is refused.
     pub(crate) fn with_room(

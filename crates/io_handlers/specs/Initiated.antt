@@ -22,9 +22,9 @@ use Rattle.io_handlers.specs.declared.staged.Initiating.{Initiating}
 use Rattle.io_handlers.specs.declared.staged.Staged.{Staged}
 use Rattle.io_handlers.specs.declared.staged.Staged.TheVariants as staged
 
-pub record Initiated (H : Type 0) : Type 0 where
+pub record Initiated (H S : Type 0) : Type 0 where
   -- the calls so far, in order
-  pub staged : List (Staged H)
+  pub staged : List (Staged H S)
   -- how many operations it may initiate in all
   pub granted : ℕ
   -- how many it may still
@@ -41,17 +41,19 @@ pub record Initiated (H : Type 0) : Type 0 where
   pub spares : Spares
   -- whether a call counts from when it has returned
   pub delays : Bool
+  -- states of strands that its calls freed and that are forgotten, to be retired
+  pub retired : List S
 
 -- the first operation has room of its own
 abbrev pub IsRoomFor : Bool → ℕ → Type 0
 IsRoomFor first room = (first || nat_lt 0 room) ≡ true
 
 -- one of the granted operations is left, and room for a call
-pub record MayInitiate {H : Type 0} (i : Initiated H) : Type 0 where
+pub record MayInitiate {H S : Type 0} (i : Initiated H S) : Type 0 where
   pub places : 0 < i.places
   pub room : IsRoomFor i.first i.room
 
-abbrev pub MayChange : {H : Type 0} → Initiated H → Type 0
+abbrev pub MayChange : {H S : Type 0} → Initiated H S → Type 0
 MayChange i = 0 < i.room
 
 -- it leaves the other room as it is
@@ -59,7 +61,7 @@ abbrev pub room_after : Bool → ℕ → ℕ
 room_after true room = room
 room_after false room = room - 1
 
-abbrev pub called : {H : Type 0} → Initiating H → Initiated H → Initiated H
+abbrev pub called : {H S : Type 0} → Initiating H → Initiated H S → Initiated H S
 called call i = record i {
   staged = i.staged ++ staged.Called call ∷ [];
   places = i.places - 1;
@@ -76,18 +78,26 @@ abbrev pub spares_made : Control → Spares → Spares
 spares_made (control.Make kind name) spares = without_spare kind spares
 spares_made _ spares = spares
 
-abbrev pub changed : {H : Type 0} → Control → Initiated H → Initiated H
+abbrev pub changed : {H S : Type 0} → Control → Initiated H S → Initiated H S
 changed change i = record i {
   staged = i.staged ++ staged.Changed change ∷ [];
   room = i.room - 1;
   spares = spares_made change i.spares;
 }
 
+-- a strand is made under a name that is kept for it
+abbrev pub made_strand : {H S : Type 0} → Name → S → Initiated H S → Initiated H S
+made_strand name state i = record i {
+  staged = i.staged ++ staged.MadeStrand name state ∷ [];
+  room = i.room - 1;
+  spares = without_spare kind.Strand i.spares;
+}
+
 -- so many nanoseconds, at most as many as there are
 abbrev pub delay_of : Duration → ℕ
 delay_of after = min (as_nanos after) 18446744073709551615
 
-abbrev pub delayed : {H : Type 0} → Name → ℕ → Initiated H → Initiated H
+abbrev pub delayed : {H S : Type 0} → Name → ℕ → Initiated H S → Initiated H S
 delayed timer after i = record i {
   staged = i.staged ++ staged.ExpiresAfter timer after ∷ [];
   room = i.room - 1;
@@ -102,7 +112,7 @@ transferring lane kind buffer handler =
 abbrev pub initiating : {H : Type 0} → Lane → Operation → H → Initiating H
 initiating lane kind handler = transferring lane kind None handler
 
-abbrev pub new_initiated : {H : Type 0} → ℕ → Initiated H
+abbrev pub new_initiated : {H S : Type 0} → ℕ → Initiated H S
 new_initiated most = record {
   staged = [];
   granted = 0;
@@ -113,10 +123,11 @@ new_initiated most = record {
   kept = no_spares;
   spares = no_spares;
   delays = false;
+  retired = [];
 }
 
 -- a handler begins, and may initiate so many, and make something under these names
-abbrev pub renewed : {H : Type 0} → ℕ → Spares → Initiated H → Initiated H
+abbrev pub renewed : {H S : Type 0} → ℕ → Spares → Initiated H S → Initiated H S
 renewed places spares i = record i {
   granted = places;
   places = places;
@@ -127,13 +138,14 @@ renewed places spares i = record i {
   delays = false;
 }
 
-abbrev pub operations_of : {H : Type 0} → Staged H → ℕ
+abbrev pub operations_of : {H S : Type 0} → Staged H S → ℕ
 operations_of (staged.Called call) = 1
 operations_of (staged.Changed change) = 0
 operations_of (staged.ExpiresAfter timer after) = 0
+operations_of (staged.MadeStrand name state) = 0
 
 -- how many operations are initiated by these calls
-abbrev pub operations_in : {H : Type 0} → List (Staged H) → ℕ
+abbrev pub operations_in : {H S : Type 0} → List (Staged H S) → ℕ
 operations_in [] = 0
 operations_in (call ∷ calls) = operations_of call + operations_in calls
 
@@ -164,15 +176,16 @@ abbrev pub is_timer : Kind → Bool
 is_timer kind.Timer = true
 is_timer _ = false
 
--- a timer, a stream or a listener
+-- a strand, a timer, a stream or a listener
 abbrev pub is_freed : Kind → Bool
+is_freed kind.Strand = true
 is_freed kind.Timer = true
 is_freed kind.Stream = true
 is_freed kind.Listener = true
 is_freed _ = false
 
--- a stop, what is done with a timer, which is made, gets a new expiry, is cancelled or freed, or that a stream or a
--- listener is closed
+-- a stop, what is done with a timer, which is made, gets a new expiry, is cancelled or freed, or that a strand is
+-- freed, or a stream or a listener closed
 abbrev pub is_offered_change : Control → Bool
 is_offered_change (control.Make of name) = is_timer of
 is_offered_change control.Stop = true
@@ -182,42 +195,59 @@ is_offered_change (control.CancelOne timer) = true
 is_offered_change (control.Free of name) = is_freed of
 is_offered_change _ = false
 
-abbrev pub IsOffered : {H : Type 0} → Staged H → Type 0
+abbrev pub IsOffered : {H S : Type 0} → Staged H S → Type 0
 IsOffered (staged.Called call) = IsOfferedCall call
 IsOffered (staged.Changed change) = is_offered_change change ≡ true
 IsOffered (staged.ExpiresAfter timer after) = Unit {0}
+IsOffered (staged.MadeStrand name state) = Unit {0}
 
-abbrev pub AreOffered : {H : Type 0} → List (Staged H) → Type 0
+abbrev pub AreOffered : {H S : Type 0} → List (Staged H S) → Type 0
 AreOffered [] = Unit {0}
 AreOffered (call ∷ calls) = IsOffered call × AreOffered calls
 
 -- what this call makes has one of these names
-abbrev pub IsMade : {H : Type 0} → Staged H → Spares → Type 0
+abbrev pub IsMade : {H S : Type 0} → Staged H S → Spares → Type 0
 IsMade (staged.Changed change) kept = IsMadeOf change kept
+IsMade (staged.MadeStrand name state) kept = kept.strand ≡ Some name
 IsMade _ kept = Unit {0}
 
 -- those that are left behind it
-abbrev pub left_by : {H : Type 0} → Staged H → Spares → Spares
+abbrev pub left_by : {H S : Type 0} → Staged H S → Spares → Spares
 left_by (staged.Changed change) kept = spares_made change kept
+left_by (staged.MadeStrand name state) kept = without_spare kind.Strand kept
 left_by _ kept = kept
 
 -- likewise of these calls, one after another
-abbrev pub AreMade : {H : Type 0} → List (Staged H) → Spares → Type 0
+abbrev pub AreMade : {H S : Type 0} → List (Staged H S) → Spares → Type 0
 AreMade [] kept = Unit {0}
 AreMade (call ∷ calls) kept = IsMade call kept × AreMade calls (left_by call kept)
 
-abbrev pub left_by_all : {H : Type 0} → List (Staged H) → Spares → Spares
+abbrev pub left_by_all : {H S : Type 0} → List (Staged H S) → Spares → Spares
 left_by_all [] kept = kept
 left_by_all (call ∷ calls) kept = left_by_all calls (left_by call kept)
 
--- all calls have taken effect
-abbrev pub with_none : {H : Type 0} → Initiated H → Initiated H
-with_none i = record i { staged = []; kept = left_by_all i.staged i.kept }
+-- all calls have taken effect, and these states are to be retired
+abbrev pub with_none : {H S : Type 0} → List S → Initiated H S → Initiated H S
+with_none states i = record i { staged = []; kept = left_by_all i.staged i.kept; retired = states }
 
--- the memory of this capacity has room for all that it may still take, here and when it begins anew
-pub record HasRoom {H : Type 0} (capacity : ℕ) (i : Initiated H) : Type 0 where
-  pub calls : length i.staged + i.room + one_if i.first ≤ capacity
+-- the state of a strand that was freed is to be retired
+abbrev pub retiring : {H S : Type 0} → S → Initiated H S → Initiated H S
+retiring state i = record i { retired = i.retired ++ state ∷ [] }
+
+-- a state for each call that was taken, and for each that may still be made
+abbrev pub states_in : {H S : Type 0} → Initiated H S → ℕ
+states_in i = length i.retired + length i.staged + i.room + one_if i.first
+
+-- there is room for one more
+abbrev pub MayRetire : {H S : Type 0} → Initiated H S → Type 0
+MayRetire i = states_in i ≤ i.most
+
+-- the memory of this capacity has room for all that it may still take, here and when it begins anew; that of the
+-- other one for a state that is to be retired for each call
+pub record HasRoom {H S : Type 0} (capacity states : ℕ) (i : Initiated H S) : Type 0 where
+  pub calls : states_in i ≤ i.most + 1
   pub anew : i.most + 1 ≤ capacity
+  pub retiring : i.most + 1 ≤ states
   pub granted : operations_in i.staged + i.places ≤ i.granted
   pub offered : AreOffered i.staged
   pub made : AreMade i.staged i.kept

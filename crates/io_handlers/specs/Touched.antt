@@ -27,12 +27,13 @@ closed_by (control.Free kind.Stream name) = Some (touched.Closed name)
 closed_by (control.Free kind.Listener name) = Some (touched.Closed name)
 closed_by _ = None
 
-abbrev pub touched_of : {H : Type 0} → Staged H → Option Touched
+abbrev pub touched_of : {H S : Type 0} → Staged H S → Option Touched
 touched_of (staged.Called call) = touched_by call.kind
 touched_of (staged.Changed change) = closed_by change
 touched_of (staged.ExpiresAfter timer after) = None
+touched_of (staged.MadeStrand name state) = None
 
 -- what this call does, if there is one
-abbrev pub touched_in : {H : Type 0} → Option (Staged H) → Option Touched
+abbrev pub touched_in : {H S : Type 0} → Option (Staged H S) → Option Touched
 touched_in None = None
 touched_in (Some call) = touched_of call

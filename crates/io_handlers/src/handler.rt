@@ -17,20 +17,26 @@ pub trait Handler: Sized {
     ghost marks: { Self → Marks };
 
     /// What it may do on a strand: to the strand's state, and what it may initiate.
-    ghost may: { Self → Completion → Self.State → Self.State → Initiated Self → Initiated Self → Type 0 };
+    ghost may: { Self → Completion → Self.State → Self.State →
+        Initiated Self Self.State → Initiated Self Self.State → Type 0 };
 
     /// What it may initiate where it executes on no strand.
-    ghost may_free: { Self → Completion → Initiated Self → Initiated Self → Type 0 };
+    ghost may_free: { Self → Completion → Initiated Self Self.State → Initiated Self Self.State → Type 0 };
 
     /// Executes it on its strand, and answers its run mark.
-    fn call(self, done: Completion, state: &mut Self::State, io: &mut Initiator<Self>) -> u64
+    fn call(
+        self,
+        done: Completion,
+        state: &mut Self::State,
+        io: &mut Initiator<Self, Self::State>,
+    ) -> u64
         ensures may { may self done state.old state.new io.old io.new }
         ensures grant { io.new.granted ≡ io.old.granted }
         ensures kept { io.new.kept ≡ io.old.kept }
         ensures mark { result ≡ (marks self).run };
 
     /// Executes it on no strand, and answers its run mark.
-    fn call_free(self, done: Completion, io: &mut Initiator<Self>) -> u64
+    fn call_free(self, done: Completion, io: &mut Initiator<Self, Self::State>) -> u64
         ensures may { may_free self done io.old io.new }
         ensures grant { io.new.granted ≡ io.old.granted }
         ensures kept { io.new.kept ≡ io.old.kept }

@@ -1,9 +1,9 @@
-ghost use Rattle.std.specs.Prelude.{◌≡◌, ◌<◌, ◌&&◌, if◌then◌else◌, false, nat_lt, IfErr, IfNone, IfSome, OnErr, OnOk, Some};
+ghost use Rattle.std.specs.Prelude.{◌≡◌, ◌<◌, ◌&&◌, if◌then◌else◌, false, nat_lt, IfErr, IfNone, IfOk, IfSome, OnErr, OnOk, Some};
 ghost use Rattle.std.specs.Option.{is_some};
 ghost use Rattle.io_rules.specs.declared.control.Control.TheVariants as control;
 ghost use Rattle.io_rules.specs.declared.name.Kind.TheVariants as kind;
 ghost use Rattle.io_rules.specs.declared.operation.Operation.TheVariants as operation;
-ghost use Rattle.io_handlers.specs.Initiated.{MayInitiate, called, changed, delay_of, delayed, initiating};
+ghost use Rattle.io_handlers.specs.Initiated.{MayInitiate, called, changed, delay_of, delayed, initiating, made_strand};
 
 use crate::staged::{Full, Initiating};
 use crate::staging::Staging;
@@ -13,14 +13,14 @@ use std::time::Duration;
 
 /// What a handler that executes initiates operations with. What it takes is accepted, and takes effect in
 /// order when the handler has returned. Contracts see what is staged, and for how much more there is room.
-pub struct Initiator<H> {
-    pub(crate) staging: Staging<H>,
+pub struct Initiator<H, S> {
+    pub(crate) staging: Staging<H, S>,
 }
 
-impl<H> Model for Initiator<H> {
+impl<H, S> Model for Initiator<H, S> {
     ghost use Rattle.io_handlers.specs.Initiated.{Initiated};
 
-    ghost Value = { Initiated H };
+    ghost Value = { Initiated H S };
 
     ghost view = { λ i. i.staging };
 }
@@ -32,7 +32,7 @@ fn delay_of(after: Duration) -> u64
     u64::try_from(after.as_nanos()).unwrap_or(u64::MAX)
 }
 
-impl<H> Initiator<H> {
+impl<H, S> Initiator<H, S> {
     /// `post`: a handler that is ready behind all others there. `Full` gives it back where no place or no
     /// room is left, and then nothing has changed.
     pub fn post(&mut self, lane: Lane, handler: H) -> Result<(), Full<H>>
@@ -189,8 +189,44 @@ impl<H> Initiator<H> {
         })
     }
 
+    /// Makes a strand (`make_strand`) with this state, under a name that is kept for the handler: it can be
+    /// named at once, also in what the handler initiates. `Full` gives the state back where no name is left, or
+    /// no room for the call, and then nothing has changed.
+    pub fn make_strand(&mut self, state: S) -> Result<Name, Full<S>>
+        ensures kept { IfOk result (λ name. self.old.spares.strand ≡ Some name) }
+        ensures room { OnOk result (0 < self.old.room) }
+        ensures made { IfOk result (λ name. self.new ≡ made_strand name state self.old) }
+        ensures refused { OnErr result ((nat_lt 0 self.old.room && is_some self.old.spares.strand) ≡ false) }
+        ensures same { OnErr result (self.new ≡ self.old) }
+        ensures back { IfErr result (λ full. full.0 ≡ state) }
+    {
+        match self.staging.spares().strand {
+            None => Err(Full(state)),
+            Some(name) => {
+                if !self.staging.has_room() {
+                    return Err(Full(state));
+                }
+                self.staging.make_strand(name, state);
+                Ok(name)
+            }
+        }
+    }
+
+    /// Frees a strand: its name is gone, and nothing more is accepted on it. What it has still executes there,
+    /// and then its state is retired; no effect where its name is gone. Answers whether there was room for the
+    /// call, and where not nothing has changed.
+    pub fn free_strand(&mut self, strand: Name) -> bool
+        ensures room { result ≡ nat_lt 0 self.old.room }
+        ensures changed { self.new ≡ (if result then changed (control.Free kind.Strand strand) self.old else self.old) }
+    {
+        self.staging.change(Control::Free {
+            kind: Kind::Strand,
+            name: strand,
+        })
+    }
+
     /// Its handler has returned: what it staged is to take effect.
-    pub fn returned(self) -> Staging<H>
+    pub fn returned(self) -> Staging<H, S>
         ensures { result ≡ self }
     {
         let Initiator { staging } = self;

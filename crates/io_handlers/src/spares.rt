@@ -42,11 +42,12 @@ fn spares_made(change: Control, spares: Spares) -> Spares
 }
 
 /// The names that are left behind a call.
-pub(crate) fn left_by<H>(call: &Staged<H>, kept: Spares) -> Spares
+pub(crate) fn left_by<H, S>(call: &Staged<H, S>, kept: Spares) -> Spares
     ensures { result ≡ left_by call.now kept }
 {
     match call {
         Staged::Changed(change) => spares_made(*change, kept),
+        Staged::MadeStrand { name: _, state: _ } => without_spare(Kind::Strand, kept),
         _ => kept,
     }
 }

@@ -15,7 +15,7 @@ pub struct Initiating<H> {
 }
 
 /// What a handler has called while it executes; it takes effect when the handler has returned.
-pub enum Staged<H> {
+pub enum Staged<H, S> {
     /// An initiating function.
     Called(Initiating<H>),
     /// A function that changes the context at once, and has no handler.
@@ -23,10 +23,13 @@ pub enum Staged<H> {
     /// `basic_waitable_timer::expires_after`: the timer expires so many nanoseconds after its handler has
     /// returned.
     ExpiresAfter { timer: Name, after: u64 },
+    /// `make_strand`: a strand under a name that is kept for the handler, with its state.
+    MadeStrand { name: Name, state: S },
 }
 
-/// No place is left for one more operation: its handler comes back.
-pub struct Full<H>(pub H);
+/// No place is left for one more operation, or no name for one more strand: its handler, or its state, comes
+/// back.
+pub struct Full<T>(pub T);
 
 /// Likewise of a read or a write: its buffer comes back too.
 pub struct FullTransfer<H> {

@@ -1,21 +1,21 @@
 ghost use Rattle.std.specs.Bool.{OnFalse, OnTrue};
-ghost use Rattle.std.specs.Prelude.{◌≡◌, ◌≤◌, ◌+◌, if◌then◌else◌, [], ◌∷◌, nat_lt, true, IfErr, IfNone, IfOk, IfSome, OnErr, OnOk};
-ghost use Rattle.io_handlers.specs.Initiated.{IsMade, IsMadeOf, IsOffered, IsOfferedCall, IsRoomFor, MayInitiate, called, changed, delayed, is_offered_change, left_by, new_initiated, operations_in, renewed, room_after};
+ghost use Rattle.std.specs.Prelude.{◌≡◌, ◌<◌, ◌≤◌, ◌+◌, if◌then◌else◌, [], ◌∷◌, nat_lt, true, IfErr, IfNone, IfOk, IfSome, OnErr, OnOk, Some};
+ghost use Rattle.io_handlers.specs.Initiated.{IsMade, IsMadeOf, IsOffered, IsOfferedCall, IsRoomFor, MayInitiate, MayRetire, called, changed, delayed, is_offered_change, left_by, made_strand, new_initiated, operations_in, renewed, retiring, room_after};
 
 use crate::initiator::Initiator;
-use crate::spares::{left_by, no_spares};
+use crate::spares::{left_by, no_spares, without_spare};
 use crate::staged::{Full, Initiating, Staged};
 use asio_types::NoMemory;
-use io_rules::{Control, Name, Spares};
+use io_rules::{Control, Kind, Name, Spares};
 use std::alloc::Global;
 use std::collections::VecDeque;
 use std::marker::Model;
 
 /// Where what a handler initiates is kept till it takes effect; a context's own. Contracts see what is
 /// staged, and for how much more there is room.
-pub struct Staging<H> {
+pub struct Staging<H, S> {
     // in the order of the calls
-    pub(crate) staged: VecDeque<Staged<H>>,
+    pub(crate) staged: VecDeque<Staged<H, S>>,
     // how many operations the handler was granted, its own place too
     granted: u64,
     // how many of these it may still initiate
@@ -32,13 +32,15 @@ pub struct Staging<H> {
     spares: Spares,
     // whether a call counts from when the handler has returned
     delays: bool,
+    // states of strands that were freed and are forgotten, to be retired
+    retired: VecDeque<S>,
 }
 
-impl<H> Model for Staging<H> {
+impl<H, S> Model for Staging<H, S> {
     ghost use Rattle.std.specs.VecDeque.{deque_capacity};
     ghost use Rattle.io_handlers.specs.Initiated.{HasRoom, Initiated};
 
-    ghost Value = { Initiated H };
+    ghost Value = { Initiated H S };
 
     ghost view = { λ i. record {
       staged = i.staged.items;
@@ -50,9 +52,10 @@ impl<H> Model for Staging<H> {
       kept = i.kept;
       spares = i.spares;
       delays = i.delays;
+      retired = i.retired.items;
     } };
 
-    ghost invariant = { λ i. HasRoom (deque_capacity i.staged) (record {
+    ghost invariant = { λ i. HasRoom (deque_capacity i.staged) (deque_capacity i.retired) (record {
       staged = i.staged.items;
       granted = i.granted;
       places = i.places;
@@ -62,6 +65,7 @@ impl<H> Model for Staging<H> {
       kept = i.kept;
       spares = i.spares;
       delays = i.delays;
+      retired = i.retired.items;
     }) };
 }
 
@@ -73,31 +77,39 @@ fn room_after(first: bool, room: usize) -> usize
     if first { room } else { room - 1 }
 }
 
-impl<H> Staging<H> {
+impl<H, S> Staging<H, S> {
     /// Room for so many calls beside the first operation's. Takes memory for all of them, and nothing takes
     /// memory later; `NoMemory` where it is refused. Nothing is granted yet.
-    pub fn with_room(alloc: Global, most: u32) -> Result<Staging<H>, NoMemory>
+    pub fn with_room(alloc: Global, most: u32) -> Result<Staging<H, S>, NoMemory>
         ensures { IfOk result (λ made. made ≡ new_initiated most) }
     {
         let most = most as usize;
         let staged = VecDeque::with_capacity(alloc, most + 1)?;
-        Ok(Staging {
-            staged,
-            granted: 0,
-            places: 0,
-            first: false,
-            room: 0,
-            most,
-            kept: no_spares(),
-            spares: no_spares(),
-            delays: false,
-        })
+        match VecDeque::with_capacity(alloc, most + 1) {
+            Err(refused) => {
+                staged.destroy_empty();
+                Err(refused.into())
+            }
+            Ok(retired) => Ok(Staging {
+                staged,
+                granted: 0,
+                places: 0,
+                first: false,
+                room: 0,
+                most,
+                kept: no_spares(),
+                spares: no_spares(),
+                delays: false,
+                retired,
+            }),
+        }
     }
 
     /// A handler begins, and may initiate so many operations, and make something under these names. What was
     /// staged before has taken effect.
-    pub fn begin(self, places: u64, spares: Spares) -> Initiator<H>
-        requires { self.staged ≡ [] }
+    pub fn begin(self, places: u64, spares: Spares) -> Initiator<H, S>
+        requires staged { self.staged ≡ [] }
+        requires retired { self.retired ≡ [] }
         ensures { result ≡ renewed places spares self }
     {
         let mut staging = self;
@@ -154,6 +166,25 @@ impl<H> Staging<H> {
         self.staged.push_back_reserved(Staged::Called(call));
     }
 
+    /// Whether there is room for one more call that has no handler.
+    pub(crate) fn has_room(&self) -> bool
+        ensures { result ≡ nat_lt 0 self.now.room }
+    {
+        self.room > 0
+    }
+
+    /// A strand is made under the name that is kept for it, with this state.
+    pub(crate) fn make_strand(&mut self, name: Name, state: S)
+        requires room { 0 < self.old.room }
+        requires kept { self.old.spares.strand ≡ Some name }
+        ensures { self.new ≡ made_strand name state self.old }
+    {
+        self.room -= 1;
+        self.spares = without_spare(Kind::Strand, self.spares);
+        self.staged
+            .push_back_reserved(Staged::MadeStrand { name, state });
+    }
+
     /// A call that has no handler, as far as there is room for it; answers whether there is.
     pub(crate) fn change(&mut self, change: Control) -> bool
         requires offered { is_offered_change change ≡ true }
@@ -208,11 +239,12 @@ impl<H> Staging<H> {
     }
 
     /// The oldest call that is staged, to take effect; `None` exactly where none is.
-    pub fn next(&mut self) -> Option<Staged<H>>
+    pub fn next(&mut self) -> Option<Staged<H, S>>
         ensures first { IfSome result (λ call. self.old.staged ≡ call ∷ self.new.staged) }
         ensures offered { IfSome result IsOffered }
         ensures made { IfSome result (λ call. IsMade call self.old.kept) }
         ensures none { IfNone result (self.old.staged ≡ []) }
+        ensures room { IfSome result (λ call. MayRetire self.new) }
         ensures rest { IfSome result (λ call. self.new
             ≡ record self.old { staged = self.new.staged; kept = left_by call self.old.kept }) }
         ensures same { IfNone result (self.new ≡ self.old) }
@@ -226,9 +258,35 @@ impl<H> Staging<H> {
         }
     }
 
-    /// Ends its use; what was staged has taken effect.
+    /// A call that was taken has freed a strand, which is forgotten: its state is to be retired.
+    pub fn retire(&mut self, state: S)
+        requires { MayRetire self.old }
+        ensures { self.new ≡ retiring state self.old }
+    {
+        self.retired.push_back_reserved(state);
+    }
+
+    /// Whether states are to be retired.
+    pub fn retires(&self) -> bool
+        ensures { OnFalse result (self.now.retired ≡ []) }
+    {
+        !self.retired.is_empty()
+    }
+
+    /// The next state that is to be retired; `None` exactly where none is.
+    pub fn next_retired(&mut self) -> Option<S>
+        ensures first { IfSome result (λ state. self.old.retired ≡ state ∷ self.new.retired) }
+        ensures rest { IfSome result (λ state. self.new ≡ record self.old { retired = self.new.retired }) }
+        ensures none { IfNone result (self.old.retired ≡ []) }
+        ensures same { IfNone result (self.new ≡ self.old) }
+    {
+        self.retired.pop_front()
+    }
+
+    /// Ends its use; what was staged has taken effect, and no state is to be retired.
     pub fn destroy(self)
-        requires { self.staged ≡ [] }
+        requires staged { self.staged ≡ [] }
+        requires retired { self.retired ≡ [] }
     {
         let Staging {
             staged,
@@ -240,7 +298,9 @@ impl<H> Staging<H> {
             kept: _,
             spares: _,
             delays: _,
+            retired,
         } = self;
         staged.destroy_empty();
+        retired.destroy_empty();
     }
 }

@@ -46,7 +46,7 @@ fn closed_by(change: Control) -> Option<Touched>
     }
 }
 
-impl<H> Staging<H> {
+impl<H, S> Staging<H, S> {
     /// How many calls are staged.
     pub fn calls(&self) -> usize
         ensures { result ≡ length self.now.staged }
@@ -64,6 +64,7 @@ impl<H> Staging<H> {
             Some(Staged::Called(call)) => touched_by(call.kind),
             Some(Staged::Changed(change)) => closed_by(*change),
             Some(Staged::ExpiresAfter { timer: _, after: _ }) => None,
+            Some(Staged::MadeStrand { name: _, state: _ }) => None,
         }
     }
 }

@@ -8,7 +8,7 @@ use crate::initiator::Initiator;
 use crate::staged::{Full, FullTransfer, Initiating};
 use io_rules::{Control, Kind, Lane, Name, Operation};
 
-impl<H> Initiator<H> {
+impl<H, S> Initiator<H, S> {
     /// `basic_stream_socket::async_read_some`: a handler that is ready once some bytes have come, at most as
     /// many as this buffer holds, or the peer has ended. Where the stream or the strand is gone by then, it
     /// completes at once with bad_descriptor, without a strand where that one is gone. `FullTransfer` gives

@@ -193,7 +193,7 @@ alive_again : {H S : Type 0} (cells : List (Cell H S)) (s : ContextState) (name 
 alive_again cells s name it =
     ap (λ b. b && is_living (place_at s.names.strands name.place).life) it.current ∙ it.living
 
-abbrev freed_with : Bool → Bool → Name → List ℕ → List Wait → ContextState → ContextState
+abbrev pub freed_with : Bool → Bool → Name → List ℕ → List Wait → ContextState → ContextState
 freed_with there kept name settled waits s = record s {
   settled = settled;
   waits = waits;

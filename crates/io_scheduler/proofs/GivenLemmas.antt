@@ -1,5 +1,5 @@
 -- A handler that executes gives a place to what it initiates: what is kept shows the state behind that.
-use Rattle.std.proofs.Common.{arith, ap, refl, sym, ◌∙◌}
+use Rattle.std.proofs.Common.{arith, ap, refl, subst, sym, ◌∙◌}
 use Rattle.std.proofs.lemmas.Bool.{ltb-false, ltb-true, true≢false}
 use Rattle.std.specs.Prelude.{◌≡◌, ◌<◌, ℕ, ◌+◌, ◌-◌, ◌&&◌, nat_lt, Bool, true, false, List, Some, sum_by, if◌then◌else◌}
 use Rattle.io_rules.specs.declared.event.Event.{Event}
@@ -7,6 +7,7 @@ use Rattle.io_rules.specs.declared.limits.Limits.{Limits}
 use Rattle.io_rules.specs.declared.op.Op.{Op}
 use Rattle.io_rules.specs.declared.op.Phase.{Phase}
 use Rattle.io_rules.specs.declared.op.Phase.TheVariants as phase
+use Rattle.io_rules.specs.declared.place.Place.{Place}
 use Rattle.io_rules.specs.declared.request.Marks.{Marks}
 use Rattle.io_rules.specs.declared.spares.Spares.{Spares}
 use Rattle.io_rules.specs.Executions.{spares_in}
@@ -26,7 +27,7 @@ use Rattle.io_strands.specs.Cell.{Cell}
 use Rattle.io_jobs.specs.Listed.{JobList}
 use Rattle.io_scheduler.specs.declared.counts.Counts.{Counts}
 use Rattle.io_scheduler.specs.Ready.{own_ops}
-use Rattle.io_scheduler.specs.Shown.{Shows, ShowsCell, cell_at, lane_of_place, waits_own, waits_own_on}
+use Rattle.io_scheduler.specs.Shown.{IsUnusedSpare, Shows, ShowsCell, cell_at, lane_of_place, waits_own, waits_own_on}
 use Rattle.io_scheduler.proofs.BegunLemmas.{below_begun}
 use Rattle.io_scheduler.proofs.ReadyLemmas.{Keeps, ready-kept}
 use Rattle.io_scheduler.proofs.SpaceLemmas.{HasSpace}
@@ -71,11 +72,12 @@ given_state by s = record s {
 abbrev pub counts_given : Counts → Counts
 counts_given c = record c { promised = c.promised - 1; room = c.room + 1 }
 
--- the phase of one operation changes, and not whether it is ready, nor the name of a strand that is kept for it
+-- the phase of one operation changes, and not whether it is ready; no other name of a strand is kept for it
 pub record KeepsReady (g : Op → Phase) : Type 0 where
   pub ready : (op : Op) → is_ready (g op) ≡ is_ready op.phase
   pub same : (op : Op) → is_ready op.phase ≡ true → g op ≡ op.phase
-  pub strand : (op : Op) → (spares_in (g op)).strand ≡ (spares_in op.phase).strand
+  pub strand : (places : List Place) (op : Op) → IsUnusedSpare places (spares_in op.phase).strand →
+      IsUnusedSpare places (spares_in (g op)).strand
 
 keeps_rephased : (by : ℕ) (g : Op → Phase) (ops : List Op) → KeepsReady g → Keeps ops (phase_changed by g ops)
 keeps_rephased by g ops keeps n op is ready = at-changed by n g ops op (λ here. keeps.same op ready) is
@@ -107,7 +109,7 @@ shows_rephased marks limits counts names cells jobs s by g keeps shows = record 
   counts_are = shows.counts_are;
   names_are = shows.names_are;
   below = below_begun s.next by g s.ops shows.below;
-  spares = spares_kept s.names.strands by g keeps.strand s.ops shows.spares;
+  spares = spares_kept s.names.strands by g (keeps.strand s.names.strands) s.ops shows.spares;
   strands = shows.strands;
   there = shows.there;
   rooms = shows.rooms;
@@ -124,7 +126,8 @@ given_keeps : KeepsReady (λ o. place_given o.phase)
 given_keeps = record {
   ready = λ op. given_ready op.phase;
   same = λ op is. ready_stays op.phase is;
-  strand = λ op. ap (λ (spares : Spares). spares.strand) (given_spares op.phase);
+  strand = λ places op unused.
+      subst (λ (spares : Spares). IsUnusedSpare places spares.strand) (sym (given_spares op.phase)) unused;
 }
 
 pub shows_given : {H S : Type 0} (marks : H → Marks) (limits : Limits) (counts : Counts) (names : Names)

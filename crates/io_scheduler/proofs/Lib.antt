@@ -32,6 +32,7 @@ pub mod GoneLemmas
 pub mod HandedLemmas
 pub mod IdleLemmas
 pub mod KeptNamesLemmas
+pub mod KeptStrandLemmas
 pub mod KnownCalledLemmas
 pub mod KnownLemmas
 pub mod KnownStillLemmas
@@ -69,6 +70,7 @@ pub mod SpaceLemmas
 pub mod SpareLemmas
 pub mod StagedLemmas
 pub mod StayedLemmas
+pub mod StrandMadeLemmas
 pub mod StreamedLemmas
 pub mod StreamingLemmas
 pub mod TakenLemmas

@@ -13,10 +13,12 @@ use Rattle.io_rules.specs.declared.name.Kind.TheVariants as kind
 use Rattle.io_rules.specs.declared.name.Lane.TheVariants as lane
 use Rattle.io_rules.specs.declared.name.Name.{Name}
 use Rattle.io_rules.specs.declared.op.Op.{Op}
+use Rattle.io_rules.specs.declared.op.Wait.{Wait}
 use Rattle.io_rules.specs.declared.place.Life.{Life}
 use Rattle.io_rules.specs.declared.place.Life.TheVariants as life
 use Rattle.io_rules.specs.declared.place.Place.{Place}
 use Rattle.io_rules.specs.declared.request.Marks.{Marks}
+use Rattle.io_rules.specs.Cancelling.{cancelled}
 use Rattle.io_rules.specs.Executions.{spares_in}
 use Rattle.io_rules.specs.Legal.{IsLegal, after, state_of}
 use Rattle.io_rules.specs.Names.{Names, is_current, is_free, is_unused, no_place, place_at, with_life}
@@ -99,28 +101,29 @@ lane_made places name k =
 abbrev strands_made : Name → Names → Names
 strands_made name names = record names { strands = with_life life.Alive name names.strands }
 
-pub shows_made : {H S : Type 0} (marks : H → Marks) (limits : Limits) (past : List Event) (counts : Counts)
-    (names : Names) (cells : List (Cell H S)) (jobs : JobList (ReadyOp H)) (name : Name) (state : S) →
-    IsLegal limits past → is_free names.strands name ≡ true →
-    Shows marks limits counts names cells jobs (state_of limits past) →
+-- it is made at a place where none is, and of which no handler has a name
+pub shows_opened : {H S : Type 0} (marks : H → Marks) (limits : Limits) (counts : Counts) (names : Names)
+    (cells : List (Cell H S)) (jobs : JobList (ReadyOp H)) (s : ContextState) (name : Name) (state : S)
+    (settled : List ℕ) (waits : List Wait) → settled ≡ [] → MayOpen name.place cells →
+    total (weighed (spared name.place)) s.ops ≡ 0 → Shows marks limits counts names cells jobs s →
     Shows marks limits counts (record names { strands = with_life life.Alive name names.strands })
     (opened_cells name.place state cells) jobs
-    (after (event.Changed None (control.Make kind.Strand name)) (state_of limits past))
-shows_made marks limits past counts names cells jobs name state legal may shows =
-    let s = state_of limits past in
+    (record s {
+      settled = settled;
+      waits = waits;
+      names = record s.names { strands = with_life life.Alive name s.names.strands };
+    })
+shows_opened marks limits counts names cells jobs s name state settled waits none there unspared shows =
     let places = s.names.strands in
-    let new = with_life life.Alive name places in
     let p = name.place in
     let old = cell_at cells p in
     let cell : Cell _ _ = record old { state = Some state } in
-    let free = free_shown marks limits counts names cells jobs s name may shows in
-    let there = may_open cells places name shows.there free in
     record {
       limits_are = shows.limits_are;
       counts_are = shows.counts_are;
       names_are = ap (strands_made name) shows.names_are;
       below = shows.below;
-      spares = spares_made places name s.ops (unspared limits past legal p (unused_of places name free)) shows.spares;
+      spares = spares_made places name s.ops unspared shows.spares;
       strands = map-set_same numbered cells p cell (vacant 0) refl ∙ shows.strands;
       there =
           map-set is_there cells p cell ∙ ap (λ xs. slice_set xs p true) shows.there
@@ -146,6 +149,20 @@ shows_made marks limits past counts names cells jobs name state legal may shows 
       own = shows.own;
       own_all = shows.own_all;
       own_room = shows.own_room;
-      settled = ap (λ xs. xs ++ []) shows.settled;
+      settled = none;
       going = shows.going;
     }
+
+pub shows_made : {H S : Type 0} (marks : H → Marks) (limits : Limits) (past : List Event) (counts : Counts)
+    (names : Names) (cells : List (Cell H S)) (jobs : JobList (ReadyOp H)) (name : Name) (state : S) →
+    IsLegal limits past → is_free names.strands name ≡ true →
+    Shows marks limits counts names cells jobs (state_of limits past) →
+    Shows marks limits counts (record names { strands = with_life life.Alive name names.strands })
+    (opened_cells name.place state cells) jobs
+    (after (event.Changed None (control.Make kind.Strand name)) (state_of limits past))
+shows_made marks limits past counts names cells jobs name state legal may shows =
+    let s = state_of limits past in
+    let free = free_shown marks limits counts names cells jobs s name may shows in
+    shows_opened marks limits counts names cells jobs s name state (s.settled ++ []) (cancelled [] s).waits
+    (ap (λ xs. xs ++ []) shows.settled) (may_open cells s.names.strands name shows.there free)
+    (unspared limits past legal name.place (unused_of s.names.strands name free)) shows

@@ -57,14 +57,14 @@ spares_changed places n p (x ∷ ops) unused own =
     changed_here places p x ops (phase_changed n (λ op. p) ops) (x.number == n) unused
     (spares_changed places n p ops unused.1 own) own
 
--- a change that leaves what is kept for each
-pub spares_kept : (places : List Place) (n : ℕ) (g : Op → Phase) → ((op : Op) → (spares_in (g op)).strand ≡ (spares_in op.phase).strand) →
+-- a change that leaves what is kept for each, or uses it
+pub spares_kept : (places : List Place) (n : ℕ) (g : Op → Phase) → ((op : Op) → IsUnusedSpare places (spares_in op.phase).strand →
+    IsUnusedSpare places (spares_in (g op)).strand) →
     (ops : List Op) → SparesUnused places ops → SparesUnused places (phase_changed n g ops)
-spares_kept places n g same [] unused = tt
-spares_kept places n g same (x ∷ ops) unused =
+spares_kept places n g less [] unused = tt
+spares_kept places n g less (x ∷ ops) unused =
     changed_here places (g x) x ops (phase_changed n g ops) (x.number == n) unused
-    (spares_kept places n g same ops unused.1)
-    (subst (IsUnusedSpare places) (sym (same x)) unused.0)
+    (spares_kept places n g less ops unused.1) (less x unused.0)
 
 without_here : (places : List Place) (x : Op) (ops rest : List Op) (b : Bool) → SparesUnused places (x ∷ ops) →
     SparesUnused places rest → SparesUnused places (if b then ops else x ∷ rest)

@@ -80,7 +80,7 @@ never_at_once s (operation.Wait timer) is = refl
 never_at_once s _ is = absurd (true≢false (sym is))
 
 -- so far, where these are left
-pub record IsCommitting {H : Type 0} (marks : H → Marks) (by at : ℕ) (all left : List (Staged H))
+pub record IsCommitting {H S : Type 0} (marks : H → Marks) (by at : ℕ) (all left : List (Staged H S))
     (old now : ContextState) : Type 0 where
   pub behind_all : staged_behind marks by at all old ≡ staged_behind marks by at left now
   pub staged_all : AreStaged marks by at left now → AreStaged marks by at all old

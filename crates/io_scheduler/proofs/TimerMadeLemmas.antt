@@ -37,7 +37,7 @@ use Rattle.io_timers.specs.Pending.{Timers}
 use Rattle.io_scheduler.specs.declared.counts.Counts.{Counts}
 use Rattle.io_scheduler.specs.declared.waiting.Waiting.{Waiting}
 use Rattle.io_scheduler.specs.Running.{HeldOp, IsExecution}
-use Rattle.io_scheduler.specs.Shown.{Shows}
+use Rattle.io_scheduler.specs.Shown.{IsUnusedSpare, Shows}
 use Rattle.io_scheduler.specs.Waits.{ShowsWaits}
 use Rattle.io_scheduler.proofs.CalledLemmas.{StillHeld, still_held}
 use Rattle.io_scheduler.proofs.GivenLemmas.{KeepsReady, shows_rephased}
@@ -47,13 +47,13 @@ use Rattle.io_scheduler.proofs.StayedLemmas.{StaysPending, none_among, not_runni
 use Rattle.io_scheduler.proofs.TimingLemmas.{renamed}
 
 -- a handler uses a name that is kept for it
-used_ready : (of : Kind) (p : Phase) → is_ready (spare_used of p) ≡ is_ready p
+pub used_ready : (of : Kind) (p : Phase) → is_ready (spare_used of p) ≡ is_ready p
 used_ready of (phase.Pending moved cancelled) = refl
 used_ready of (phase.Settled code size) = refl
 used_ready of (phase.Ready code size) = refl
 used_ready of (phase.Running own grant spares) = refl
 
-used_same : (of : Kind) (p : Phase) → is_running p ≡ false → spare_used of p ≡ p
+pub used_same : (of : Kind) (p : Phase) → is_running p ≡ false → spare_used of p ≡ p
 used_same of (phase.Pending moved cancelled) is = refl
 used_same of (phase.Settled code size) is = refl
 used_same of (phase.Ready code size) is = refl
@@ -65,27 +65,32 @@ ready_rests (phase.Pending moved cancelled) is = refl
 ready_rests (phase.Settled code size) is = refl
 ready_rests (phase.Running own grant spares) is = absurd (true≢false (sym is))
 
-used_strand : (p : Phase) → (spares_in (spare_used kind.Timer p)).strand ≡ (spares_in p).strand
-used_strand (phase.Pending moved cancelled) = refl
-used_strand (phase.Settled code size) = refl
-used_strand (phase.Ready code size) = refl
-used_strand (phase.Running own grant spares) = refl
+used_strand : (of : Kind) (places : List Place) (p : Phase) → IsUnusedSpare places (spares_in p).strand →
+    IsUnusedSpare places (spares_in (spare_used of p)).strand
+used_strand of places (phase.Pending moved cancelled) unused = unused
+used_strand of places (phase.Settled code size) unused = unused
+used_strand of places (phase.Ready code size) unused = unused
+used_strand kind.Strand places (phase.Running own grant spares) unused = tt
+used_strand kind.Timer places (phase.Running own grant spares) unused = unused
+used_strand kind.Slot places (phase.Running own grant spares) unused = unused
+used_strand kind.Stream places (phase.Running own grant spares) unused = unused
+used_strand kind.Listener places (phase.Running own grant spares) unused = unused
 
-timer_used : KeepsReady (λ o. spare_used kind.Timer o.phase)
-timer_used = record {
-  ready = λ op. used_ready kind.Timer op.phase;
-  same = λ op is. used_same kind.Timer op.phase (ready_rests op.phase is);
-  strand = λ op. used_strand op.phase;
+keeps_used : (of : Kind) → KeepsReady (λ o. spare_used of o.phase)
+keeps_used of = record {
+  ready = λ op. used_ready of op.phase;
+  same = λ op is. used_same of op.phase (ready_rests op.phase is);
+  strand = λ places op unused. used_strand of places op.phase unused;
 }
 
-shows_used : {H S : Type 0} (marks : H → Marks) (limits : Limits) (counts : Counts) (names : Names)
-    (cells : List (Cell H S)) (jobs : JobList (ReadyOp H)) (s : ContextState) (by : Option ℕ) →
+pub shows_used : {H S : Type 0} (marks : H → Marks) (limits : Limits) (counts : Counts) (names : Names)
+    (cells : List (Cell H S)) (jobs : JobList (ReadyOp H)) (s : ContextState) (by : Option ℕ) (of : Kind) →
     Shows marks limits counts names cells jobs s →
     Shows marks limits counts names cells jobs
-    (record s { ops = phase_changed_of by (λ o. spare_used kind.Timer o.phase) s.ops })
-shows_used marks limits counts names cells jobs s None shows = shows
-shows_used marks limits counts names cells jobs s (Some by) shows =
-    shows_rephased marks limits counts names cells jobs s by (λ o. spare_used kind.Timer o.phase) timer_used shows
+    (record s { ops = phase_changed_of by (λ o. spare_used of o.phase) s.ops })
+shows_used marks limits counts names cells jobs s None of shows = shows
+shows_used marks limits counts names cells jobs s (Some by) of shows =
+    shows_rephased marks limits counts names cells jobs s by (λ o. spare_used of o.phase) (keeps_used of) shows
 
 -- a timer is made, from outside or by a handler
 pub shows_timer : {H S : Type 0} (marks : H → Marks) (limits : Limits) (counts : Counts) (names : Names)
@@ -102,7 +107,7 @@ shows_timer marks limits counts names cells jobs s by name shows =
     (record s { ops = phase_changed_of by (λ o. spare_used kind.Timer o.phase) s.ops })
     (with_life life.Alive name s.names.timers) s.timers (s.settled ++ [])
     (filter (λ wait. not (is_among [] wait.op)) s.waits) (ap (λ xs. xs ++ []) shows.settled)
-    (shows_used marks limits counts names cells jobs s by shows))
+    (shows_used marks limits counts names cells jobs s by kind.Timer shows))
 
 pub stays_timer : (s : ContextState) (by : Option ℕ) (name : Name) →
     StaysPending s (after (event.Changed by (control.Make kind.Timer name)) s)

@@ -1,5 +1,5 @@
 -- What a handler staged while it executed takes effect in the order of its calls, and then it has ended.
-use Rattle.std.specs.Prelude.{◌≡◌, ◌+◌, ℕ, List, [], ◌∷◌, Option, None, Some, min}
+use Rattle.std.specs.Prelude.{◌≡◌, ◌+◌, ℕ, Bool, false, List, [], ◌∷◌, Option, None, Some, min}
 use Rattle.io_rules.specs.declared.control.Control.{Control}
 use Rattle.io_rules.specs.declared.control.Control.TheVariants as control
 use Rattle.io_rules.specs.declared.event.Event.{Event}
@@ -9,7 +9,9 @@ use Rattle.io_rules.specs.declared.request.Marks.{Marks}
 use Rattle.io_rules.specs.declared.request.Request.{Request}
 use Rattle.io_rules.specs.declared.spares.Spares.{Spares}
 use Rattle.io_rules.specs.Calls.{gone_of}
+use Rattle.io_rules.specs.Changes.{is_forgotten}
 use Rattle.io_rules.specs.Legal.{IsStep}
+use Rattle.io_rules.specs.Room.{one_if}
 use Rattle.io_rules.specs.State.{ContextState}
 use Rattle.io_handlers.specs.declared.staged.Staged.{Staged}
 use Rattle.io_handlers.specs.declared.staged.Staged.TheVariants as staged
@@ -43,11 +45,12 @@ changed_by by (control.Free kind.Listener name) s = frees (Some by) kind.Listene
 changed_by by change s = changes (Some by) change s
 
 -- the events of a call by the handler of this operation, oldest first; it has returned at this time
-abbrev pub events_of : {H : Type 0} → (H → Marks) → ℕ → ℕ → Staged H → ContextState → List Event
+abbrev pub events_of : {H S : Type 0} → (H → Marks) → ℕ → ℕ → Staged H S → ContextState → List Event
 events_of marks by now (staged.Called call) s = called_by by (request_of marks call) s
 events_of marks by now (staged.Changed change) s = changed_by by change s
 events_of marks by now (staged.ExpiresAfter timer after) s =
     changes (Some by) (control.Expires timer (later_by now after)) s
+events_of marks by now (staged.MadeStrand name state) s = changes (Some by) (control.Make kind.Strand name) s
 
 -- the handler of this operation initiates another one
 pub record IsCalled (by : ℕ) (request : Request) (old new : ContextState) : Type 0 where
@@ -55,26 +58,41 @@ pub record IsCalled (by : ℕ) (request : Request) (old new : ContextState) : Ty
   pub is : new ≡ behind (called_by by request old) old
 
 -- one call takes effect
-pub record IsCommitted {H : Type 0} (marks : H → Marks) (by now : ℕ) (call : Staged H) (old new : ContextState) :
+pub record IsCommitted {H S : Type 0} (marks : H → Marks) (by now : ℕ) (call : Staged H S) (old new : ContextState) :
     Type 0 where
   pub may : MayCome (events_of marks by now call old) old
   pub is : new ≡ behind (events_of marks by now call old) old
 
 -- the state behind all calls
-abbrev pub staged_behind : {H : Type 0} → (H → Marks) → ℕ → ℕ → List (Staged H) → ContextState → ContextState
+abbrev pub staged_behind : {H S : Type 0} → (H → Marks) → ℕ → ℕ → List (Staged H S) → ContextState → ContextState
 staged_behind marks by now [] s = s
 staged_behind marks by now (call ∷ calls) s =
     staged_behind marks by now calls (behind (events_of marks by now call s) s)
 
 -- all calls take effect, one after another
-abbrev pub AreStaged : {H : Type 0} → (H → Marks) → ℕ → ℕ → List (Staged H) → ContextState → Type 0
+abbrev pub AreStaged : {H S : Type 0} → (H → Marks) → ℕ → ℕ → List (Staged H S) → ContextState → Type 0
 AreStaged marks by now [] s = Unit {0}
 AreStaged marks by now (call ∷ calls) s =
     MayCome (events_of marks by now call s) s
     × AreStaged marks by now calls (behind (events_of marks by now call s) s)
 
+-- a strand that is freed and has no operations is forgotten, and its state is to be retired
+abbrev pub retires : Control → ContextState → Bool
+retires (control.Free kind.Strand name) s = is_forgotten s kind.Strand name
+retires _ s = false
+
+abbrev pub is_retiring : {H S : Type 0} → Staged H S → ContextState → Bool
+is_retiring (staged.Changed change) s = retires change s
+is_retiring _ s = false
+
+-- for so many of these calls
+abbrev pub retired_by : {H S : Type 0} → (H → Marks) → ℕ → ℕ → List (Staged H S) → ContextState → ℕ
+retired_by marks by now [] s = 0
+retired_by marks by now (call ∷ calls) s =
+    one_if (is_retiring call s) + retired_by marks by now calls (behind (events_of marks by now call s) s)
+
 -- all that its handler staged takes effect, and then it has ended with this mark; it returned at this time
-pub record IsEnded {H : Type 0} (marks : H → Marks) (op now : ℕ) (calls : List (Staged H)) (mark : ℕ)
+pub record IsEnded {H S : Type 0} (marks : H → Marks) (op now : ℕ) (calls : List (Staged H S)) (mark : ℕ)
     (old new : ContextState) : Type 0 where
   pub staged : AreStaged marks op now calls old
   pub ended : IsStep (staged_behind marks op now calls old) (event.Ended op mark) new

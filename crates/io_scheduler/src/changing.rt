@@ -94,7 +94,7 @@ fn note_made_by<C: Named, E: Happening>(
 }
 
 /// A handler that executes makes something under a name that is kept for it.
-fn begin_make<C: Named>(
+pub(crate) fn begin_make<C: Named>(
     table: &HistoryTable,
     keeper: &mut Keeper<C>,
     running: Running<C>,

@@ -1,4 +1,4 @@
-ghost use Rattle.std.specs.Prelude.{◌≡◌, ◌<◌, ◌+◌, if◌then◌else◌, None, Some};
+ghost use Rattle.std.specs.Prelude.{◌≡◌, ◌<◌, ◌+◌, length, if◌then◌else◌, None, Some};
 ghost use Rattle.std.specs.Option.{is_some};
 ghost use Rattle.io_rules.specs.declared.event.Event.TheVariants as event;
 ghost use Rattle.io_rules.specs.Legal.{IsStep};
@@ -6,7 +6,7 @@ ghost use Rattle.io_rules.specs.Strands.{is_last_on};
 ghost use Rattle.io_handlers.specs.Initiated.{with_none};
 ghost use Rattle.io_scheduler.specs.Begun.{is_strand};
 ghost use Rattle.io_scheduler.specs.Ended.{mark_of};
-ghost use Rattle.io_scheduler.specs.Staged.{IsEnded, reading_or, staged_behind};
+ghost use Rattle.io_scheduler.specs.Staged.{IsEnded, reading_or, retired_by, staged_behind};
 
 use crate::leaving::{forget_if, is_last, leave};
 use crate::noting::note_ended;
@@ -20,15 +20,15 @@ use std::sync::ledger::Share;
 impl<H: Handler, C: Named> Scheduler<H, C> {
     /// A handler has returned this mark, and the clock was read, unless it can't be. What it staged takes
     /// effect in the order of its calls, and then it has ended, which counts in the share of whoever executed
-    /// it. Answers the state of its strand, to be
-    /// retired, where that is gone and this was its last operation.
+    /// it. Answers the state of its strand, to be retired, where that is gone and this was its last operation;
+    /// the states of other strands that what it staged has freed and that are forgotten are to be retired, too.
     pub fn end(
         &mut self,
         table: &HistoryTable,
         running: Running<C>,
         state: Option<H::State>,
         mark: u64,
-        io: &mut Staging<H>,
+        io: &mut Staging<H, H::State>,
         by: &mut Share<C>,
         now: Option<u64>,
     ) -> Option<H::State>
@@ -41,7 +41,9 @@ impl<H: Handler, C: Named> Scheduler<H, C> {
         ensures counted { by.new.amount ≡ by.old.amount + 1 }
         ensures parts { by.new.parts ≡ by.old.parts }
         ensures ended { IsEnded H.marks running.op (reading_or now self.old) io.old.staged mark self.old self.new }
-        ensures taken { io.new ≡ with_none io.old }
+        ensures taken { io.new ≡ with_none io.new.retired io.old }
+        ensures freed { length io.new.retired ≡ length io.old.retired
+            + retired_by H.marks running.op (reading_or now self.old) io.old.staged self.old }
         ensures retired { result
             ≡ (if is_last_on (staged_behind H.marks running.op (reading_or now self.old) io.old.staged self.old) running.lane
             then state else None) }

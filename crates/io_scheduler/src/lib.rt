@@ -42,6 +42,7 @@ mod settling;
 mod states;
 mod stopping;
 mod stranding;
+mod stranding_by;
 mod streaming;
 mod taking;
 mod tally;

@@ -25,7 +25,7 @@ use io_strands::Strand;
 use std::marker::Brand;
 
 /// A strand is made at a place where none is.
-fn open_at<H, S>(strands: &mut Vec<Strand<H, S>>, place: u32, state: S)
+pub(crate) fn open_at<H, S>(strands: &mut Vec<Strand<H, S>>, place: u32, state: S)
     requires { MayOpen place strands.old.items }
     ensures { strands.new.items ≡ opened_cells place state strands.old.items }
 {
@@ -33,7 +33,11 @@ fn open_at<H, S>(strands: &mut Vec<Strand<H, S>>, place: u32, state: S)
 }
 
 /// A strand's name is gone; where it has no operation its place is free, and its state comes out.
-fn free_at<H, S>(names: &mut NameTable, strands: &mut Vec<Strand<H, S>>, name: Name) -> Option<S>
+pub(crate) fn free_at<H, S>(
+    names: &mut NameTable,
+    strands: &mut Vec<Strand<H, S>>,
+    name: Name,
+) -> Option<S>
     requires { MayFree name.place names.old strands.old.items }
     ensures names { names.new ≡ names_freed name names.old strands.old.items }
     ensures strands { strands.new.items ≡

@@ -83,7 +83,7 @@ impl<'a> Handler for Counting<'a> {
         self,
         done: Completion,
         state: &mut Tally<'a>,
-        io: &mut Initiator<Counting<'a>>,
+        io: &mut Initiator<Counting<'a>, Tally<'a>>,
     ) -> u64 {
         let _done = done;
         let Counting { piece, lane } = self;
@@ -99,7 +99,7 @@ impl<'a> Handler for Counting<'a> {
         1
     }
 
-    fn call_free(self, done: Completion, io: &mut Initiator<Counting<'a>>) -> u64 {
+    fn call_free(self, done: Completion, io: &mut Initiator<Counting<'a>, Tally<'a>>) -> u64 {
         let _done = done;
         let _io = io;
         let _unused = self;
