@@ -1,8 +1,9 @@
 #!/usr/bin/env bash
 # What the system sees of tcp_echo with 1 and 4 workers: while it is idle it uses no processor; while clients send blocks for SECONDS
-# (10, or the first word) its memory doesn't grow; then no descriptor is left. Then each of its system calls fails, at its n-th use:
-# no client gets a wrong byte, the others are served, and the server ends when its standard input does. Ends with 'tcp_echo_system: N
-# passed, M failed'.
+# (10, or the first word) its memory doesn't grow; then no descriptor is left. With more clients than it may have descriptors it uses
+# hardly any processor either, and serves new ones once they are gone. Then each of its system calls fails, at its n-th use: no client
+# gets a wrong byte, the others are served, and the server ends when its standard input does. Ends with 'tcp_echo_system: N passed, M
+# failed'.
 set -u
 cd "$(dirname "$0")/.." || exit 1
 seconds=${1:-10}
@@ -70,6 +71,35 @@ for workers in 1 4; do
   stop
   [ "$status" = 0 ]
   count $? "the server's end with $workers workers: $status"
+done
+
+# More clients come than it may have descriptors for: no accept of the others succeeds meanwhile.
+for workers in 1 4; do
+  start bash -c 'ulimit -n 40 && exec "$@"' limited "$room/tcp_echo" 0 --workers "$workers"
+  pid=$(server_pid)
+  clients=()
+  for client in {1..60}; do
+    exec {client}<> "/dev/tcp/127.0.0.1/$port"
+    clients+=("$client")
+  done
+  sleep 0.5
+  [ "$(files_of "$pid")" -ge 40 ]
+  count $? "descriptors of $workers workers that may have 40: $(files_of "$pid")"
+  used=$(ticks_of "$pid")
+  sleep 2
+  used=$(($(ticks_of "$pid") - used))
+  [ "$used" -le 3 ]
+  count $? "$workers workers without descriptors use $used hundredths of a second in two seconds"
+  echo here >&"${clients[0]}" && read -r -t 5 line <&"${clients[0]}" && [ "$line" = here ]
+  count $? "a client that was there before is served by $workers workers"
+  for client in "${clients[@]}"; do
+    exec {client}>&-
+  done
+  python3 examples/tcp_echo_probe.py "$port" > "$room/whole" && [ "$(cat "$room/whole")" = 8 ]
+  count $? "new clients with $workers workers, once descriptors are free: $(cat "$room/whole") of 8"
+  stop
+  [ "$status" = 0 ]
+  count $? "the end with $workers workers, without descriptors: $status"
 done
 
 # Whether no client gets a wrong byte and the server ends, where call $1 fails with $2 at its use $3. Before it listens it may give up.

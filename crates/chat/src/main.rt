@@ -1,6 +1,7 @@
 //! A chat server over an io_context that some threads run: `chat PORT ROOM.. [--workers N]` listens on 127.0.0.1, at
 //! any free port where PORT is 0, prints the port, and ends when its standard input has a byte or ends. A client's
-//! first line is a room's word and the client's name; each further line goes to all members of that room. Nothing
+//! first line is a room's word and the client's name; each further line goes to all members of that room. A client
+//! that hasn't joined within a minute is let go, and a member to whom nothing was written for an hour. Nothing
 //! stands on it.
 #![tactic(auto)]
 
@@ -9,11 +10,11 @@ mod words;
 ghost use Rattle.std.specs.Prelude.{◌≡◌, ◌<◌, ◌≤◌};
 
 use asio_types::{Failed, NoMemory};
-use chat_handlers::{Chat, MOST_MEMBERS, MOST_PENDING, Room};
-use io_context::{Context, Lane, Limits, Name, Named, NewContext, Reactor, run_on_threads};
+use chat_handlers::{Chat, MOST_MEMBERS, MOST_PENDING, Room, Service};
+use io_context::{Context, Lane, Limits, Name, Named, NewContext, Reactor};
 use io_reactor_mio::MioReactor;
+use server_program::{MOST_WORKERS, ServerWords, serve_until_end, words_of};
 use std::alloc::Global;
-use std::io::Read;
 use std::marker::Brand;
 use std::net::{Ipv4Addr, Net, SocketAddr, TcpListener, TcpStream};
 use std::process::ExitCode;
@@ -21,37 +22,29 @@ use std::rt::{Clock, Env};
 use std::sync::Wait;
 use std::sync::ledger::Share;
 use std::thread::Threads;
-use std::{env, thread};
-use words::{Asked, MOST_ROOMS, MOST_WORKERS, asked_of};
+use words::{MOST_ROOMS, are_rooms};
 
 const USAGE: &str = "usage: chat PORT ROOM.. [--workers N]";
 
 /// As many connections at a time, members or not.
 const CONNECTIONS: u32 = 1024;
 
-/// A connection has one read or posting at a time, and each member of each room its pending writes. A room's handler
-/// initiates a write to each member, and a read; a worker keeps places for so many.
+/// A connection has one read or posting at a time and one wait or posting of its timer, and each member of each room
+/// its pending writes. A room's handler initiates a write to each member, and a read; a worker keeps places for so
+/// many. A timer may last a little longer than its connection.
 const LIMITS: Limits = Limits {
-    operations: CONNECTIONS
+    operations: 2 * CONNECTIONS
         + (MOST_ROOMS * MOST_MEMBERS) as u32 * MOST_PENDING as u32
         + (MOST_WORKERS * (MOST_MEMBERS + 1)) as u32
         + 64,
     strands: MOST_ROOMS as u32,
-    timers: 0,
+    timers: CONNECTIONS + 256,
     slots: 0,
     streams: CONNECTIONS + 1,
     grant: MOST_MEMBERS as u32,
     staged: MOST_MEMBERS as u32 + 16,
     held: 0,
 };
-
-/// Waits until standard input has a byte or ends, and stops the context.
-fn stop_at_end<R: Input + Wait, C: Named, W: Reactor>(rt: &R, context: &Context<Chat, C, W>) {
-    let mut input = rt.reader();
-    let mut byte = [0];
-    let _ended = input.read(&mut byte);
-    let _section = context.stop(rt);
-}
 
 /// Makes a room, which is asked before this one.
 fn make_room<R: Wait, C: Named, W: Reactor>(
@@ -94,11 +87,16 @@ fn listen<R: Print + Wait, C: Named, W: Reactor>(
 ) -> Result<(), Failed> {
     let listening = context.listen(rt, SocketAddr::from((Ipv4Addr::LOCALHOST, port)))?;
     let listener = listening.listener;
-    let first = Chat::Accepted {
+    let Ok((timer, _section)) = context.make_timer(rt) else {
+        return Err(Failed);
+    };
+    let service = Service {
         alloc,
         listener,
+        timer,
         door,
     };
+    let first = Chat::Accepted { service };
     if context.accept(rt, Lane::Own, listener, first).is_err() {
         return Err(Failed);
     }
@@ -113,9 +111,9 @@ fn start<R: Print + Wait, C: Named, W: Reactor>(
     rt: &R,
     alloc: Global,
     context: &Context<Chat, C, W>,
-    asked: &Asked,
+    asked: &ServerWords,
 ) -> Result<(), Failed> {
-    match make_rooms(rt, alloc, context, asked.rooms.as_slice())? {
+    match make_rooms(rt, alloc, context, asked.others.as_slice())? {
         None => Err(Failed),
         Some(door) => listen(rt, alloc, context, asked.port, door),
     }
@@ -126,25 +124,18 @@ fn serve<
     R: AllocGlobal + Eprint + Input + Print + Threads + Wait + Sync,
     C: Named + Send + Sync,
     W: Reactor + Sync,
->(rt: &R, context: &Context<Chat, C, W>, asked: &Asked, share: &mut Share<C>)
+>(rt: &R, context: &Context<Chat, C, W>, asked: &ServerWords, share: &mut Share<C>)
 where
     W::Socket: Send,
     W::Poll: Send,
     requires { asked.now.workers < share.old.parts }
 {
     let alloc = rt.alloc();
-    let workers = asked.workers;
     if start(rt, alloc, context, asked).is_err() {
         let _unsaid = rt.eprintln("chat: it can't listen there");
         return;
     }
-    let _ran = thread::join(
-        rt,
-        ||
-            requires { workers < share.now.parts }
-        { run_on_threads(rt, alloc, context, workers, share) },
-        || stop_at_end(rt, context),
-    );
+    serve_until_end(rt, context, asked.workers, share);
 }
 
 /// Serves over this reactor.
@@ -152,7 +143,7 @@ fn run_over<
     R: AllocGlobal + Eprint + Input + Print + Threads + Wait + Sync,
     C: Named + Send + Sync,
     W: Reactor + Sync,
->(rt: &R, new: NewContext, reactor: W, poll: W::Poll, asked: &Asked) -> Result<(), NoMemory>
+>(rt: &R, new: NewContext, reactor: W, poll: W::Poll, asked: &ServerWords) -> Result<(), NoMemory>
 where
     W::Socket: Send,
     W::Poll: Send,
@@ -162,9 +153,7 @@ where
     requires parts { new.parts ≡ C.parts }
 {
     let (context, mut share) = Context::<Chat, C, W>::make(rt.alloc(), new, reactor, poll)?;
-    if asked.workers <= MOST_WORKERS {
-        serve(rt, &context, asked, &mut share);
-    }
+    serve(rt, &context, asked, &mut share);
     let _history = context.finish(rt, share);
     Ok(())
 }
@@ -180,7 +169,7 @@ fn run<
         + Threads
         + Wait
         + Sync,
->(rt: &R, asked: &Asked) -> Result<(), NoMemory> {
+>(rt: &R, asked: &ServerWords) -> Result<(), NoMemory> {
     let alloc = rt.alloc();
     let Ok((reactor, poll)) = MioReactor::make(*rt, alloc) else {
         return Err(NoMemory);
@@ -192,18 +181,13 @@ fn run<
     run_over::<R, Brand, MioReactor<R>>(rt, new, reactor, poll, asked)
 }
 
-/// What the program's words ask for.
-fn words_of<R: Env + AllocGlobal>(rt: &R) -> Option<Asked> {
-    let words = env::args(rt)
-        .ok()?
-        .skip(1)
-        .collect::<Vec<String>>(rt.alloc())
-        .ok()?;
-    asked_of(rt.alloc(), words.as_slice())
+/// What the program's words ask for, of which the others name rooms.
+fn asked_of<R: Env + AllocGlobal>(rt: &R) -> Option<ServerWords> {
+    words_of(rt).filter(|asked| are_rooms(asked.others.as_slice()))
 }
 
 fn main(rt: HostRuntime) -> ExitCode {
-    let Some(asked) = words_of(&rt) else {
+    let Some(asked) = asked_of(&rt) else {
         let _unsaid = rt.eprintln(USAGE);
         return ExitCode::from(1);
     };

@@ -5,7 +5,7 @@ use Rattle.chat_handlers.specs.declared.room.Member.{Member}
 use Rattle.chat_handlers.specs.Rooms.{new_member}
 
 pub nobody : Member
-nobody = new_member (record { place = 0; generation = 0 })
+nobody = new_member (record { place = 0; generation = 0 }) 0
 
 -- the next one, and those behind it
 pub next_of : (members : List Member) (k : ℕ) → k < length members →

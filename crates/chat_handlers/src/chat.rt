@@ -1,25 +1,26 @@
 ghost use Rattle.std.specs.Prelude.{◌≡◌};
-ghost use Rattle.io_handlers.specs.Initiated.{MayInitiate, called};
-ghost use Rattle.chat_handlers.specs.declared.chat.Chat.TheVariants as chat;
-ghost use Rattle.chat_handlers.specs.Chats.{Accepts, BeginsIf, MayRead, accepting};
+ghost use Rattle.chat_handlers.specs.Chats.{MayRead};
 ghost use Rattle.chat_handlers.specs.Serving.{MayServe};
 
-use crate::reading::{Caller, Speaker, begin, came, met};
+use crate::accepting::{Service, accept, accept_if};
+use crate::link::{Link, close, part};
+use crate::reading::{Caller, Speaker, came, met};
 use crate::room::Room;
 use crate::serving::{join, leave, say, written};
-use crate::telling::close;
-use io_handlers::{Completion, Full, Handler, Initiator};
-use io_rules::{Lane, Name};
-use std::alloc::Global;
+use crate::watching::wait_on;
+use io_handlers::{Completion, Handler, Initiator};
+use io_rules::Name;
 
 /// What the server does when an operation has completed.
 #[derive(Drop)]
 pub enum Chat {
-    /// A connection was accepted.
+    /// A connection was accepted, or that failed.
     Accepted {
-        alloc: Global,
-        listener: Name,
-        door: Name,
+        service: Service,
+    },
+    /// An accept failed, and its listener's timer has expired.
+    Rested {
+        service: Service,
     },
     /// Bytes of its first line came.
     Met {
@@ -51,56 +52,15 @@ pub enum Chat {
         room: Name,
         stream: Name,
     },
+    /// A client's timer has expired, or is destroyed; this room looks for the client.
+    Idle {
+        room: Name,
+        link: Link,
+    },
     /// A client was told why it is let go.
     Refused {
-        stream: Name,
+        link: Link,
     },
-}
-
-/// Accepts the next connection.
-fn accept(io: &mut Initiator<Chat>, alloc: Global, listener: Name, door: Name)
-    ensures next { MayInitiate io.old → io.new ≡ called (accepting listener (chat.Accepted alloc listener door)) io.old }
-    ensures none { ¬ MayInitiate io.old → io.new ≡ io.old }
-    ensures grant { io.new.granted ≡ io.old.granted }
-    ensures kept { io.new.kept ≡ io.old.kept }
-{
-    let next = Chat::Accepted {
-        alloc,
-        listener,
-        door,
-    };
-    match io.accept(Lane::Own, listener, next) {
-        Ok(()) => {}
-        Err(Full(_)) => {}
-    }
-}
-
-/// Begins to read from what was accepted, if anything was.
-fn begin_if(io: &mut Initiator<Chat>, alloc: Global, door: Name, made: Option<Name>)
-    ensures begins { BeginsIf door made io.old io.new }
-    ensures grant { io.new.granted ≡ io.old.granted }
-    ensures kept { io.new.kept ≡ io.old.kept }
-{
-    match made {
-        None => {}
-        Some(stream) => begin(io, alloc, door, stream),
-    }
-}
-
-/// The next connection, and then this one.
-fn take_turn(
-    io: &mut Initiator<Chat>,
-    alloc: Global,
-    listener: Name,
-    door: Name,
-    made: Option<Name>,
-)
-    ensures accepts { Accepts listener door (chat.Accepted alloc listener door) made io.old io.new }
-    ensures grant { io.new.granted ≡ io.old.granted }
-    ensures kept { io.new.kept ≡ io.old.kept }
-{
-    accept(io, alloc, listener, door);
-    begin_if(io, alloc, door, made);
 }
 
 impl Handler for Chat {
@@ -112,27 +72,28 @@ impl Handler for Chat {
 
     ghost may_free = { MayRead };
 
-    fn call(self, done: Completion, state: &mut Room, io: &mut Initiator<Chat>) -> u64 {
+    fn call(self, done: Completion, state: &mut Room, io: &mut Initiator<Chat, Room>) -> u64 {
         match self {
             Chat::Joins {
                 word,
                 speaker,
                 buffer,
                 text,
-            } => join(io, state, word, speaker, buffer, text),
+            } => join(io, state, word, speaker, buffer, text, done.now),
             Chat::Says {
                 speaker,
                 buffer,
                 text,
             } => say(io, state, speaker, buffer, text),
             Chat::Leaves { speaker } => leave(io, state, speaker),
-            Chat::Written { room: _, stream } => written(io, state, stream, done.code),
+            Chat::Written { room: _, stream } => written(io, state, stream, done.code, done.now),
+            Chat::Idle { room, link } => wait_on(io, state, room, link, done.code, done.now),
             other => other.perform(done, io),
         }
         1
     }
 
-    fn call_free(self, done: Completion, io: &mut Initiator<Chat>) -> u64 {
+    fn call_free(self, done: Completion, io: &mut Initiator<Chat, Room>) -> u64 {
         self.perform(done, io);
         1
     }
@@ -149,7 +110,7 @@ impl Handler for Chat {
 
 impl Chat {
     /// What it does on no strand.
-    fn perform(self, done: Completion, io: &mut Initiator<Chat>)
+    fn perform(self, done: Completion, io: &mut Initiator<Chat, Room>)
         ensures may { MayRead self done io.old io.new }
         ensures grant { io.new.granted ≡ io.old.granted }
         ensures kept { io.new.kept ≡ io.old.kept }
@@ -159,14 +120,11 @@ impl Chat {
             size,
             buffer,
             made,
-            now: _,
+            now,
         } = done;
         match self {
-            Chat::Accepted {
-                alloc,
-                listener,
-                door,
-            } => take_turn(io, alloc, listener, door, made),
+            Chat::Accepted { service } => accept_if(io, service, code, made, now),
+            Chat::Rested { service } => accept(io, service),
             Chat::Met { caller } => met(io, caller, code, size, buffer),
             Chat::Came { speaker } => came(io, speaker, code, size, buffer),
             Chat::Joins {
@@ -174,15 +132,16 @@ impl Chat {
                 speaker,
                 buffer: _,
                 text: _,
-            } => close(io, speaker.stream),
+            } => part(io, speaker.link),
             Chat::Says {
                 speaker,
                 buffer: _,
                 text: _,
-            } => close(io, speaker.stream),
-            Chat::Leaves { speaker } => close(io, speaker.stream),
+            } => part(io, speaker.link),
+            Chat::Leaves { speaker } => part(io, speaker.link),
             Chat::Written { room: _, stream } => close(io, stream),
-            Chat::Refused { stream } => close(io, stream),
+            Chat::Idle { room: _, link } => part(io, link),
+            Chat::Refused { link } => part(io, link),
         }
     }
 }

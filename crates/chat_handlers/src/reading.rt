@@ -1,12 +1,15 @@
 ghost use Rattle.std.specs.Prelude.{◌≡◌, ◌++◌, ◌==◌, IfOk, OnErr, vec_len};
-ghost use Rattle.chat_handlers.specs.Chats.{Answers, Begins, GoesAway, GoesOn, Greets, Hears, IsAsking, IsHeard, Meets, MeetsIf, PassesUnless, ReadsOn, Refuses, Takes, Waits, came_in, is_long, long_line, no_room, posted, reading, refusing};
+ghost use Rattle.chat_handlers.specs.Chats.{Answers, Begins, GoesAway, Greets, Hears, IsAsking, IsHeard, Meets, MeetsIf, PassesUnless, ReadsFirst, ReadsOn, Refuses, Takes, Waits, came_in, is_long, long_line, no_room, reading, refusing, to_join};
+ghost use Rattle.chat_handlers.specs.Links.{GoesOn, posted};
 ghost use Rattle.chat_handlers.specs.declared.chat.Chat.TheVariants as chat;
 ghost use Rattle.chat_handlers.specs.Serving.{EndsIf};
 
 use crate::chat::Chat;
 use crate::lines::{MOST_LINE, next_line, without_return};
-use crate::telling::close;
+use crate::link::{Link, close, part, until};
+use crate::room::Room;
 use crate::texts::{say_all, tell_of, words_of};
+use crate::watching::watch;
 use asio_types::{Code, NoMemory};
 use io_handlers::{Full, FullTransfer, Initiator};
 use io_rules::{Lane, Name};
@@ -14,6 +17,9 @@ use std::alloc::Global;
 
 /// How many bytes one read takes at most.
 pub const MOST_READ: usize = 1024;
+
+/// A client has so many nanoseconds to join a room.
+const TO_JOIN: u64 = 60_000_000_000;
 
 const NO_ROOM: &[u8] = b"* no such room\n";
 
@@ -27,8 +33,8 @@ pub struct Caller {
     pub alloc: Global,
     /// The strand of the room that is asked first.
     pub door: Name,
-    /// Its stream.
-    pub stream: Name,
+    /// Its connection.
+    pub link: Link,
     /// What has come of its first line.
     pub kept: Vec<u8>,
 }
@@ -39,8 +45,8 @@ pub struct Speaker {
     pub alloc: Global,
     /// The strand of the room.
     pub room: Name,
-    /// Its stream.
-    pub stream: Name,
+    /// Its connection.
+    pub link: Link,
     /// Its name.
     pub name: Vec<u8>,
     /// What is behind the last line end.
@@ -56,91 +62,113 @@ struct Asked {
 }
 
 /// Writes all of this buffer to a client that is let go.
-fn write_last(io: &mut Initiator<Chat>, stream: Name, buffer: Vec<u8>)
-    ensures writes { GoesOn stream (refusing stream buffer) io.old io.new }
+fn write_last(io: &mut Initiator<Chat, Room>, link: Link, buffer: Vec<u8>)
+    ensures writes { GoesOn link (refusing link buffer) io.old io.new }
     ensures grant { io.new.granted ≡ io.old.granted }
     ensures kept { io.new.kept ≡ io.old.kept }
 {
     let size = buffer.len() as u64;
-    match io.write_all(Lane::Own, stream, buffer, size, Chat::Refused { stream }) {
+    match io.write_all(Lane::Own, link.stream, buffer, size, Chat::Refused { link }) {
         Ok(()) => {}
         Err(
             FullTransfer {
                 buffer: _,
                 handler: _,
             },
-        ) => close(io, stream),
+        ) => part(io, link),
     }
 }
 
 /// A client is told why it is let go, and is closed then.
-pub(crate) fn refuse(io: &mut Initiator<Chat>, alloc: Global, stream: Name, why: &[u8])
-    ensures refuses { Refuses stream why.now io.old io.new }
+pub(crate) fn refuse(io: &mut Initiator<Chat, Room>, alloc: Global, link: Link, why: &[u8])
+    ensures refuses { Refuses link why.now io.old io.new }
     ensures grant { io.new.granted ≡ io.old.granted }
     ensures kept { io.new.kept ≡ io.old.kept }
 {
     match Vec::from_slice(alloc, why) {
-        Ok(buffer) => write_last(io, stream, buffer),
-        Err(_) => close(io, stream),
+        Ok(buffer) => write_last(io, link, buffer),
+        Err(_) => part(io, link),
     }
 }
 
 /// Reads what comes next from a client.
-fn read(io: &mut Initiator<Chat>, stream: Name, buffer: Vec<u8>, handler: Chat)
-    ensures reads { GoesOn stream (reading stream buffer handler) io.old io.new }
+fn read(io: &mut Initiator<Chat, Room>, link: Link, buffer: Vec<u8>, handler: Chat)
+    ensures reads { GoesOn link (reading link buffer handler) io.old io.new }
     ensures grant { io.new.granted ≡ io.old.granted }
     ensures kept { io.new.kept ≡ io.old.kept }
 {
-    match io.read_some(Lane::Own, stream, buffer, handler) {
+    match io.read_some(Lane::Own, link.stream, buffer, handler) {
         Ok(()) => {}
         Err(
             FullTransfer {
                 buffer: _,
                 handler: _,
             },
-        ) => close(io, stream),
+        ) => part(io, link),
     }
 }
 
 /// A handler goes to the strand of a room.
-pub(crate) fn post(io: &mut Initiator<Chat>, room: Name, stream: Name, handler: Chat)
-    ensures posts { GoesOn stream (posted room handler) io.old io.new }
+pub(crate) fn post(io: &mut Initiator<Chat, Room>, room: Name, link: Link, handler: Chat)
+    ensures posts { GoesOn link (posted room handler) io.old io.new }
     ensures grant { io.new.granted ≡ io.old.granted }
     ensures kept { io.new.kept ≡ io.old.kept }
 {
     match io.post(Lane::Strand(room), handler) {
         Ok(()) => {}
-        Err(Full(_)) => close(io, stream),
+        Err(Full(_)) => part(io, link),
     }
 }
 
-/// Begins to read a client's first line.
-pub(crate) fn begin(io: &mut Initiator<Chat>, alloc: Global, door: Name, stream: Name)
-    ensures begins { Begins door stream io.old io.new }
+/// Reads a client's first line; closes the connection where there is no memory for a buffer.
+fn read_first(io: &mut Initiator<Chat, Room>, alloc: Global, door: Name, link: Link)
+    ensures reads { ReadsFirst door link io.old io.new }
     ensures grant { io.new.granted ≡ io.old.granted }
     ensures kept { io.new.kept ≡ io.old.kept }
 {
     let caller = Caller {
         alloc,
         door,
-        stream,
+        link,
         kept: Vec::new(alloc),
     };
     match vec![in alloc; 0; MOST_READ] {
-        Ok(buffer) => read(io, stream, buffer, Chat::Met { caller }),
-        Err(_) => close(io, stream),
+        Ok(buffer) => read(io, link, buffer, Chat::Met { caller }),
+        Err(_) => part(io, link),
+    }
+}
+
+/// A new connection is watched, and its first line is read; it is closed where no timer is left.
+pub(crate) fn begin(
+    io: &mut Initiator<Chat, Room>,
+    alloc: Global,
+    door: Name,
+    stream: Name,
+    now: u64,
+)
+    ensures begins { Begins door stream now io.old io.new }
+    ensures grant { io.new.granted ≡ io.old.granted }
+    ensures kept { io.new.kept ≡ io.old.kept }
+{
+    match io.make_timer() {
+        None => close(io, stream),
+        Some(timer) => {
+            let link = Link { stream, timer };
+            watch(io, door, link, until(now, TO_JOIN));
+            read_first(io, alloc, door, link);
+        }
     }
 }
 
 /// A member leaves.
-fn leave(io: &mut Initiator<Chat>, speaker: Speaker)
+fn leave(io: &mut Initiator<Chat, Room>, speaker: Speaker)
     ensures leaves { GoesAway speaker io.old io.new }
     ensures grant { io.new.granted ≡ io.old.granted }
     ensures kept { io.new.kept ≡ io.old.kept }
 {
     let room = speaker.room;
-    let stream = speaker.stream;
-    post(io, room, stream, Chat::Leaves { speaker });
+    let link = speaker.link;
+    post(io, room, link, Chat::Leaves { speaker });
 }
 
 /// Whether what is behind its last line end is too long for a line.
@@ -151,7 +179,7 @@ pub(crate) fn is_long(speaker: &Speaker) -> bool
 }
 
 /// Reads more of what a member says, unless a line is too long already: then it leaves.
-pub(crate) fn read_on(io: &mut Initiator<Chat>, speaker: Speaker, buffer: Vec<u8>)
+pub(crate) fn read_on(io: &mut Initiator<Chat, Room>, speaker: Speaker, buffer: Vec<u8>)
     ensures reads { ReadsOn speaker buffer io.old io.new }
     ensures grant { io.new.granted ≡ io.old.granted }
     ensures kept { io.new.kept ≡ io.old.kept }
@@ -159,31 +187,31 @@ pub(crate) fn read_on(io: &mut Initiator<Chat>, speaker: Speaker, buffer: Vec<u8
     if is_long(&speaker) {
         leave(io, speaker);
     } else {
-        let stream = speaker.stream;
-        read(io, stream, buffer, Chat::Came { speaker });
+        let link = speaker.link;
+        read(io, link, buffer, Chat::Came { speaker });
     }
 }
 
-/// A member's stream ends: it is told why, if its line was too long.
-pub(crate) fn end(io: &mut Initiator<Chat>, speaker: &Speaker)
-    ensures ends { EndsIf (is_long speaker.now) speaker.now.stream io.old io.new }
+/// A member's connection ends: it is told why, if its line was too long.
+pub(crate) fn end(io: &mut Initiator<Chat, Room>, speaker: &Speaker)
+    ensures ends { EndsIf (is_long speaker.now) speaker.now.link io.old io.new }
     ensures grant { io.new.granted ≡ io.old.granted }
     ensures kept { io.new.kept ≡ io.old.kept }
 {
     if is_long(speaker) {
-        refuse(io, speaker.alloc, speaker.stream, LONG_LINE);
+        refuse(io, speaker.alloc, speaker.link, LONG_LINE);
     } else {
-        close(io, speaker.stream);
+        part(io, speaker.link);
     }
 }
 
 /// No room has the word that a client asks for.
-pub(crate) fn turn_away(io: &mut Initiator<Chat>, alloc: Global, stream: Name)
-    ensures refuses { Refuses stream no_room io.old io.new }
+pub(crate) fn turn_away(io: &mut Initiator<Chat, Room>, alloc: Global, link: Link)
+    ensures refuses { Refuses link no_room io.old io.new }
     ensures grant { io.new.granted ≡ io.old.granted }
     ensures kept { io.new.kept ≡ io.old.kept }
 {
-    refuse(io, alloc, stream, NO_ROOM);
+    refuse(io, alloc, link, NO_ROOM);
 }
 
 /// These bytes behind those.
@@ -216,7 +244,7 @@ fn hear(speaker: &mut Speaker, came: &[u8]) -> Result<Vec<u8>, NoMemory>
 }
 
 /// What a member says goes to its room; without a whole line more is read at once.
-fn pass(io: &mut Initiator<Chat>, speaker: Speaker, buffer: Vec<u8>, text: Vec<u8>)
+fn pass(io: &mut Initiator<Chat, Room>, speaker: Speaker, buffer: Vec<u8>, text: Vec<u8>)
     ensures passes { PassesUnless (vec_len text == 0) speaker buffer text io.old io.new }
     ensures grant { io.new.granted ≡ io.old.granted }
     ensures kept { io.new.kept ≡ io.old.kept }
@@ -225,18 +253,18 @@ fn pass(io: &mut Initiator<Chat>, speaker: Speaker, buffer: Vec<u8>, text: Vec<u
         read_on(io, speaker, buffer);
     } else {
         let room = speaker.room;
-        let stream = speaker.stream;
+        let link = speaker.link;
         let says = Chat::Says {
             speaker,
             buffer,
             text,
         };
-        post(io, room, stream, says);
+        post(io, room, link, says);
     }
 }
 
 /// Bytes have come from a member.
-fn take(io: &mut Initiator<Chat>, mut speaker: Speaker, buffer: Vec<u8>, size: u64)
+fn take(io: &mut Initiator<Chat, Room>, mut speaker: Speaker, buffer: Vec<u8>, size: u64)
     ensures takes { Takes speaker (came_in size buffer) buffer io.old io.new }
     ensures grant { io.new.granted ≡ io.old.granted }
     ensures kept { io.new.kept ≡ io.old.kept }
@@ -249,7 +277,7 @@ fn take(io: &mut Initiator<Chat>, mut speaker: Speaker, buffer: Vec<u8>, size: u
 
 /// Likewise, or the end, or an error.
 pub(crate) fn came(
-    io: &mut Initiator<Chat>,
+    io: &mut Initiator<Chat, Room>,
     speaker: Speaker,
     code: Code,
     size: u64,
@@ -280,7 +308,7 @@ fn asking(caller: &Caller, word: &[u8], name: &[u8], behind: &[u8]) -> Result<As
     let speaker = Speaker {
         alloc,
         room: caller.door,
-        stream: caller.stream,
+        link: caller.link,
         name,
         kept,
     };
@@ -292,8 +320,8 @@ fn asking(caller: &Caller, word: &[u8], name: &[u8], behind: &[u8]) -> Result<As
 }
 
 /// Likewise on the strand of that room.
-fn ask(io: &mut Initiator<Chat>, door: Name, stream: Name, asked: Asked, buffer: Vec<u8>)
-    ensures asks { GoesOn stream (posted door (chat.Joins asked.word asked.speaker buffer asked.text)) io.old io.new }
+fn ask(io: &mut Initiator<Chat, Room>, door: Name, link: Link, asked: Asked, buffer: Vec<u8>)
+    ensures asks { GoesOn link (posted door (chat.Joins asked.word asked.speaker buffer asked.text)) io.old io.new }
     ensures grant { io.new.granted ≡ io.old.granted }
     ensures kept { io.new.kept ≡ io.old.kept }
 {
@@ -308,46 +336,52 @@ fn ask(io: &mut Initiator<Chat>, door: Name, stream: Name, asked: Asked, buffer:
         buffer,
         text,
     };
-    post(io, door, stream, joins);
+    post(io, door, link, joins);
 }
 
 /// More is read of a first line that isn't whole, or it is too long.
-fn wait(io: &mut Initiator<Chat>, caller: Caller, bytes: Vec<u8>, buffer: Vec<u8>)
+fn wait(io: &mut Initiator<Chat, Room>, caller: Caller, bytes: Vec<u8>, buffer: Vec<u8>)
     ensures waits { Waits (record caller { kept = bytes }) buffer io.old io.new }
     ensures grant { io.new.granted ≡ io.old.granted }
     ensures kept { io.new.kept ≡ io.old.kept }
 {
     if bytes.len() > MOST_LINE {
-        refuse(io, caller.alloc, caller.stream, LONG_LINE);
+        refuse(io, caller.alloc, caller.link, LONG_LINE);
     } else {
-        let stream = caller.stream;
+        let link = caller.link;
         let caller = Caller {
             alloc: caller.alloc,
             door: caller.door,
-            stream,
+            link,
             kept: bytes,
         };
-        read(io, stream, buffer, Chat::Met { caller });
+        read(io, link, buffer, Chat::Met { caller });
     }
 }
 
 /// A first line that is whole is answered.
-fn answer(io: &mut Initiator<Chat>, caller: &Caller, line: &[u8], behind: &[u8], buffer: Vec<u8>)
+fn answer(
+    io: &mut Initiator<Chat, Room>,
+    caller: &Caller,
+    line: &[u8],
+    behind: &[u8],
+    buffer: Vec<u8>,
+)
     ensures answers { Answers caller.now line.now behind.now buffer io.old io.new }
     ensures grant { io.new.granted ≡ io.old.granted }
     ensures kept { io.new.kept ≡ io.old.kept }
 {
     match words_of(line) {
-        None => turn_away(io, caller.alloc, caller.stream),
+        None => turn_away(io, caller.alloc, caller.link),
         Some((word, name)) => match asking(caller, word, name, behind) {
-            Err(_) => close(io, caller.stream),
-            Ok(asked) => ask(io, caller.door, caller.stream, asked, buffer),
+            Err(_) => part(io, caller.link),
+            Ok(asked) => ask(io, caller.door, caller.link, asked, buffer),
         },
     }
 }
 
 /// Likewise, if it is.
-fn greet(io: &mut Initiator<Chat>, caller: Caller, bytes: Vec<u8>, buffer: Vec<u8>)
+fn greet(io: &mut Initiator<Chat, Room>, caller: Caller, bytes: Vec<u8>, buffer: Vec<u8>)
     ensures greets { Greets caller bytes buffer io.old io.new }
     ensures grant { io.new.granted ≡ io.old.granted }
     ensures kept { io.new.kept ≡ io.old.kept }
@@ -359,20 +393,20 @@ fn greet(io: &mut Initiator<Chat>, caller: Caller, bytes: Vec<u8>, buffer: Vec<u
 }
 
 /// Bytes of a first line have come.
-fn meet(io: &mut Initiator<Chat>, caller: Caller, buffer: Vec<u8>, size: u64)
+fn meet(io: &mut Initiator<Chat, Room>, caller: Caller, buffer: Vec<u8>, size: u64)
     ensures meets { Meets caller (came_in size buffer) buffer io.old io.new }
     ensures grant { io.new.granted ≡ io.old.granted }
     ensures kept { io.new.kept ≡ io.old.kept }
 {
     match joined(caller.alloc, caller.kept.as_slice(), came_in(&buffer, size)) {
-        Err(_) => close(io, caller.stream),
+        Err(_) => part(io, caller.link),
         Ok(bytes) => greet(io, caller, bytes, buffer),
     }
 }
 
 /// Likewise, or the end, or an error.
 pub(crate) fn met(
-    io: &mut Initiator<Chat>,
+    io: &mut Initiator<Chat, Room>,
     caller: Caller,
     code: Code,
     size: u64,
@@ -384,6 +418,6 @@ pub(crate) fn met(
 {
     match (code, buffer) {
         (Code::Ok, Some(buffer)) => meet(io, caller, buffer, size),
-        _ => close(io, caller.stream),
+        _ => part(io, caller.link),
     }
 }

@@ -3,26 +3,28 @@ ghost use Rattle.chat_handlers.specs.Rooms.{has_member, most_members};
 ghost use Rattle.chat_handlers.specs.Serving.{Admits, AsksNext, Counts, Joins, Parts, ReadsAndTells, SaysIf, Tells, TellsLeft};
 
 use crate::chat::Chat;
+use crate::link::{close, part};
 use crate::reading::{FULL_ROOM, Speaker, end, post, read_on, refuse, turn_away};
-use crate::room::{MOST_MEMBERS, Member, Room, count_down, has_member, remove};
-use crate::telling::{close, tell};
+use crate::room::{MOST_MEMBERS, Room, count_down, has_member, new_member, remove};
+use crate::telling::tell;
 use crate::texts::tell_of;
 use asio_types::Code;
 use io_handlers::Initiator;
 use io_rules::Name;
 
 /// All members of a room are told this text.
-fn tell_room(io: &mut Initiator<Chat>, room: &mut Room, strand: Name, text: &[u8])
+fn tell_room(io: &mut Initiator<Chat, Room>, room: &mut Room, strand: Name, text: &[u8])
     ensures tells { Tells strand text.now room.old.members.items io.old io.new room.old room.new }
     ensures grant { io.new.granted ≡ io.old.granted }
     ensures kept { io.new.kept ≡ io.old.kept }
 {
-    tell(io, room.alloc, strand, &mut room.members, text);
+    let refused = tell(io, room.alloc, strand, &mut room.members, text);
+    room.refused = room.refused.saturating_add(refused);
 }
 
 /// Likewise, and more is read from the one who says it.
 fn read_and_tell(
-    io: &mut Initiator<Chat>,
+    io: &mut Initiator<Chat, Room>,
     room: &mut Room,
     speaker: Speaker,
     buffer: Vec<u8>,
@@ -39,49 +41,48 @@ fn read_and_tell(
 
 /// A client joins behind the others.
 fn admit(
-    io: &mut Initiator<Chat>,
+    io: &mut Initiator<Chat, Room>,
     room: &mut Room,
     speaker: Speaker,
     buffer: Vec<u8>,
     text: Vec<u8>,
+    now: u64,
 )
     requires { nat_lt (length room.old.members.items) most_members ≡ true }
-    ensures admits { Admits speaker buffer text io.old io.new room.old room.new }
+    ensures admits { Admits speaker buffer text now io.old io.new room.old room.new }
     ensures grant { io.new.granted ≡ io.old.granted }
     ensures kept { io.new.kept ≡ io.old.kept }
 {
-    let member = Member {
-        stream: speaker.stream,
-        pending: 0,
-    };
+    let member = new_member(speaker.link.stream, now);
     match room.members.push_back(member) {
-        Err(_) => close(io, speaker.stream),
+        Err(_) => part(io, speaker.link),
         Ok(()) => read_and_tell(io, room, speaker, buffer, text.as_slice()),
     }
 }
 
 /// Likewise where there is room.
 fn admit_if(
-    io: &mut Initiator<Chat>,
+    io: &mut Initiator<Chat, Room>,
     room: &mut Room,
     speaker: Speaker,
     buffer: Vec<u8>,
     text: Vec<u8>,
+    now: u64,
 )
-    ensures admits { Admits speaker buffer text io.old io.new room.old room.new }
+    ensures admits { Admits speaker buffer text now io.old io.new room.old room.new }
     ensures grant { io.new.granted ≡ io.old.granted }
     ensures kept { io.new.kept ≡ io.old.kept }
 {
     if room.members.len() < MOST_MEMBERS {
-        admit(io, room, speaker, buffer, text);
+        admit(io, room, speaker, buffer, text, now);
     } else {
-        refuse(io, speaker.alloc, speaker.stream, FULL_ROOM);
+        refuse(io, speaker.alloc, speaker.link, FULL_ROOM);
     }
 }
 
 /// The next room is asked, if there is one.
 fn ask_next(
-    io: &mut Initiator<Chat>,
+    io: &mut Initiator<Chat, Room>,
     next: Option<Name>,
     word: Vec<u8>,
     speaker: Speaker,
@@ -93,13 +94,13 @@ fn ask_next(
     ensures kept { io.new.kept ≡ io.old.kept }
 {
     match next {
-        None => turn_away(io, speaker.alloc, speaker.stream),
+        None => turn_away(io, speaker.alloc, speaker.link),
         Some(room) => {
-            let stream = speaker.stream;
+            let link = speaker.link;
             let speaker = Speaker {
                 alloc: speaker.alloc,
                 room,
-                stream,
+                link,
                 name: speaker.name,
                 kept: speaker.kept,
             };
@@ -109,44 +110,45 @@ fn ask_next(
                 buffer,
                 text,
             };
-            post(io, room, stream, joins);
+            post(io, room, link, joins);
         }
     }
 }
 
 /// A client asks for the room of this word.
 pub(crate) fn join(
-    io: &mut Initiator<Chat>,
+    io: &mut Initiator<Chat, Room>,
     room: &mut Room,
     word: Vec<u8>,
     speaker: Speaker,
     buffer: Vec<u8>,
     text: Vec<u8>,
+    now: u64,
 )
-    ensures joins { Joins word speaker buffer text io.old io.new room.old room.new }
+    ensures joins { Joins word speaker buffer text now io.old io.new room.old room.new }
     ensures grant { io.new.granted ≡ io.old.granted }
     ensures kept { io.new.kept ≡ io.old.kept }
 {
     if room.word.as_slice() == word.as_slice() {
-        admit_if(io, room, speaker, buffer, text);
+        admit_if(io, room, speaker, buffer, text, now);
     } else {
         ask_next(io, room.next, word, speaker, buffer, text);
     }
 }
 
 /// A member leaves: it is taken out, its stream ends, and the others are told.
-pub(crate) fn leave(io: &mut Initiator<Chat>, room: &mut Room, speaker: Speaker)
+pub(crate) fn leave(io: &mut Initiator<Chat, Room>, room: &mut Room, speaker: Speaker)
     ensures parts { Parts speaker io.old io.new room.old room.new }
     ensures grant { io.new.granted ≡ io.old.granted }
     ensures kept { io.new.kept ≡ io.old.kept }
 {
-    remove(&mut room.members, speaker.stream);
+    remove(&mut room.members, speaker.link.stream);
     end(io, &speaker);
     tell_left(io, room, &speaker);
 }
 
 /// The others are told that it has left.
-fn tell_left(io: &mut Initiator<Chat>, room: &mut Room, speaker: &Speaker)
+fn tell_left(io: &mut Initiator<Chat, Room>, room: &mut Room, speaker: &Speaker)
     ensures tells { TellsLeft speaker.now room.old.members.items io.old io.new room.old room.new }
     ensures grant { io.new.granted ≡ io.old.granted }
     ensures kept { io.new.kept ≡ io.old.kept }
@@ -160,17 +162,17 @@ fn tell_left(io: &mut Initiator<Chat>, room: &mut Room, speaker: &Speaker)
 
 /// All members are told what one says, and more is read from it; one that was dropped leaves.
 pub(crate) fn say(
-    io: &mut Initiator<Chat>,
+    io: &mut Initiator<Chat, Room>,
     room: &mut Room,
     speaker: Speaker,
     buffer: Vec<u8>,
     text: Vec<u8>,
 )
-    ensures says { SaysIf (has_member speaker.stream room.old.members.items) speaker buffer text io.old io.new room.old room.new }
+    ensures says { SaysIf (has_member speaker.link.stream room.old.members.items) speaker buffer text io.old io.new room.old room.new }
     ensures grant { io.new.granted ≡ io.old.granted }
     ensures kept { io.new.kept ≡ io.old.kept }
 {
-    if has_member(&room.members, speaker.stream) {
+    if has_member(&room.members, speaker.link.stream) {
         read_and_tell(io, room, speaker, buffer, text.as_slice());
     } else {
         leave(io, room, speaker);
@@ -178,13 +180,19 @@ pub(crate) fn say(
 }
 
 /// A write to a member is over; one to which it can't be written is dropped.
-pub(crate) fn written(io: &mut Initiator<Chat>, room: &mut Room, stream: Name, code: Code)
-    ensures counts { Counts stream code io.old io.new room.old room.new }
+pub(crate) fn written(
+    io: &mut Initiator<Chat, Room>,
+    room: &mut Room,
+    stream: Name,
+    code: Code,
+    now: u64,
+)
+    ensures counts { Counts stream code now io.old io.new room.old room.new }
     ensures grant { io.new.granted ≡ io.old.granted }
     ensures kept { io.new.kept ≡ io.old.kept }
 {
     match code {
-        Code::Ok => count_down(&mut room.members, stream),
+        Code::Ok => count_down(&mut room.members, stream, now),
         _ => {
             remove(&mut room.members, stream);
             close(io, stream);

@@ -1,7 +1,7 @@
 ghost use Rattle.std.specs.Prelude.{◌≡◌};
 ghost use Rattle.echo_handlers.specs.declared.echo.Echo.TheVariants as echo;
 ghost use Rattle.io_handlers.specs.Initiated.{MayInitiate, called};
-ghost use Rattle.echo_handlers.specs.Echoed.{Accepts, Answers, Begins, BeginsIf, GoesOn, MayEcho, Reads, ReadsOn, WaitsOn, Watches, accepting, closed, heard, idling, lane_of, linked, most, parted, reading, set, until, writing};
+ghost use Rattle.echo_handlers.specs.Echoed.{Accepts, AcceptsIf, AcceptsNext, Answers, Begins, BeginsIf, GoesOn, MayEcho, Reads, ReadsOn, Rests, StartsIf, WaitsOn, Watches, accepting, closed, heard, idling, lane_of, left, linked, most, parted, reading, resting, set, until, writing};
 
 use asio_types::Code;
 use io_handlers::{Completion, Full, FullTransfer, Handler, Initiator};
@@ -10,6 +10,9 @@ use std::alloc::Global;
 
 /// How many bytes one read takes at most.
 const MOST: usize = 4096;
+
+/// So many nanoseconds after an accept failed the next one is initiated.
+const PAUSE: u64 = 100_000_000;
 
 /// What the handlers of a connection share, on its strand.
 #[derive(Drop)]
@@ -20,14 +23,14 @@ pub struct Activity {
 
 /// What connections are served with.
 #[derive(Clone, Copy)]
-pub struct Service<'a> {
+pub struct Service {
     pub alloc: Global,
     /// What accepts them.
     pub listener: Name,
+    /// A timer of that listener's own: where an accept fails, the next one waits for it.
+    pub timer: Name,
     /// For so many nanoseconds nothing may come before a connection is closed.
     pub idle: u64,
-    /// Where the handlers of each connection execute, by the place of its stream: strands of their own.
-    pub lanes: &'a [Lane],
 }
 
 /// A connection.
@@ -37,17 +40,19 @@ pub struct Link {
     pub stream: Name,
     /// The timer that watches it.
     pub timer: Name,
-    /// Where its handlers execute.
-    pub lane: Lane,
+    /// The strand on which its handlers execute.
+    pub strand: Name,
     /// For so many nanoseconds nothing may come before it is closed.
     pub idle: u64,
 }
 
 /// What the server does when an operation has completed.
 #[derive(Drop)]
-pub enum Echo<'a> {
-    /// A connection was accepted.
-    Accepted { service: Service<'a> },
+pub enum Echo {
+    /// A connection was accepted, or that failed.
+    Accepted { service: Service },
+    /// An accept failed, and its listener's timer has expired.
+    Rested { service: Service },
     /// Bytes came.
     Came { link: Link },
     /// All of them are written back.
@@ -64,29 +69,26 @@ fn until(now: u64, idle: u64) -> u64
 }
 
 /// Where the handlers of a connection execute.
-fn lane_of(lanes: &[Lane], stream: Name) -> Lane
-    ensures { result ≡ lane_of lanes.now stream }
+fn lane_of(link: Link) -> Lane
+    ensures { result ≡ lane_of link }
 {
-    match lanes.get(stream.place as usize) {
-        Some(lane) => *lane,
-        None => Lane::Own,
-    }
+    Lane::Strand(link.strand)
 }
 
 /// A connection that is served so.
-fn link_of(service: Service<'_>, stream: Name, timer: Name) -> Link
-    ensures { result ≡ linked service.entry stream timer }
+fn link_of(service: Service, stream: Name, timer: Name, strand: Name) -> Link
+    ensures { result ≡ linked service stream timer strand }
 {
     Link {
         stream,
         timer,
-        lane: lane_of(service.lanes, stream),
+        strand,
         idle: service.idle,
     }
 }
 
 /// Closes a stream.
-fn close(io: &mut Initiator<Echo<'_>>, stream: Name)
+fn close(io: &mut Initiator<Echo, Activity>, stream: Name)
     ensures closed { io.new ≡ closed stream io.old }
     ensures grant { io.new.granted ≡ io.old.granted }
     ensures kept { io.new.kept ≡ io.old.kept }
@@ -94,23 +96,33 @@ fn close(io: &mut Initiator<Echo<'_>>, stream: Name)
     let _closed = io.close(stream);
 }
 
-/// Closes a connection, and destroys its timer.
-fn part(io: &mut Initiator<Echo<'_>>, link: Link)
+/// Frees a strand.
+fn free(io: &mut Initiator<Echo, Activity>, strand: Name)
+    ensures freed { io.new ≡ left strand io.old }
+    ensures grant { io.new.granted ≡ io.old.granted }
+    ensures kept { io.new.kept ≡ io.old.kept }
+{
+    let _freed = io.free_strand(strand);
+}
+
+/// Closes a connection, destroys its timer, and frees its strand.
+fn part(io: &mut Initiator<Echo, Activity>, link: Link)
     ensures parted { io.new ≡ parted link io.old }
     ensures grant { io.new.granted ≡ io.old.granted }
     ensures kept { io.new.kept ≡ io.old.kept }
 {
     close(io, link.stream);
     let _freed = io.free_timer(link.timer);
+    free(io, link.strand);
 }
 
 /// Reads into this buffer; closes the connection where no place is left.
-fn read(io: &mut Initiator<Echo<'_>>, link: Link, buffer: Vec<u8>)
+fn read(io: &mut Initiator<Echo, Activity>, link: Link, buffer: Vec<u8>)
     ensures reads { GoesOn link (reading link buffer) io.old io.new }
     ensures grant { io.new.granted ≡ io.old.granted }
     ensures kept { io.new.kept ≡ io.old.kept }
 {
-    match io.read_some(link.lane, link.stream, buffer, Echo::Came { link }) {
+    match io.read_some(lane_of(link), link.stream, buffer, Echo::Came { link }) {
         Ok(()) => {}
         Err(
             FullTransfer {
@@ -122,12 +134,18 @@ fn read(io: &mut Initiator<Echo<'_>>, link: Link, buffer: Vec<u8>)
 }
 
 /// Writes the first so many bytes of this buffer. Likewise.
-fn write(io: &mut Initiator<Echo<'_>>, link: Link, buffer: Vec<u8>, size: u64)
+fn write(io: &mut Initiator<Echo, Activity>, link: Link, buffer: Vec<u8>, size: u64)
     ensures writes { GoesOn link (writing link size buffer) io.old io.new }
     ensures grant { io.new.granted ≡ io.old.granted }
     ensures kept { io.new.kept ≡ io.old.kept }
 {
-    match io.write_all(link.lane, link.stream, buffer, size, Echo::Written { link }) {
+    match io.write_all(
+        lane_of(link),
+        link.stream,
+        buffer,
+        size,
+        Echo::Written { link },
+    ) {
         Ok(()) => {}
         Err(
             FullTransfer {
@@ -139,38 +157,38 @@ fn write(io: &mut Initiator<Echo<'_>>, link: Link, buffer: Vec<u8>, size: u64)
 }
 
 /// Waits for the timer of a connection. Likewise.
-fn wait(io: &mut Initiator<Echo<'_>>, link: Link)
+fn wait(io: &mut Initiator<Echo, Activity>, link: Link)
     ensures waits { GoesOn link (idling link) io.old io.new }
     ensures grant { io.new.granted ≡ io.old.granted }
     ensures kept { io.new.kept ≡ io.old.kept }
 {
-    match io.wait(link.timer, link.lane, Echo::Idle { link }) {
+    match io.wait(link.timer, lane_of(link), Echo::Idle { link }) {
         Ok(()) => {}
         Err(Full(_)) => part(io, link),
     }
 }
 
-/// The timer of a connection expires at this time.
-fn set(io: &mut Initiator<Echo<'_>>, link: Link, at: u64)
-    ensures set { io.new ≡ set link at io.old }
+/// A timer expires at this time.
+fn set(io: &mut Initiator<Echo, Activity>, timer: Name, at: u64)
+    ensures set { io.new ≡ set timer at io.old }
     ensures grant { io.new.granted ≡ io.old.granted }
     ensures kept { io.new.kept ≡ io.old.kept }
 {
-    let _set = io.expires_at(link.timer, at);
+    let _set = io.expires_at(timer, at);
 }
 
-/// It does, and is waited for.
-fn watch(io: &mut Initiator<Echo<'_>>, link: Link, at: u64)
+/// That of a connection does, and is waited for.
+fn watch(io: &mut Initiator<Echo, Activity>, link: Link, at: u64)
     ensures watches { Watches link at io.old io.new }
     ensures grant { io.new.granted ≡ io.old.granted }
     ensures kept { io.new.kept ≡ io.old.kept }
 {
-    set(io, link, at);
+    set(io, link.timer, at);
     wait(io, link);
 }
 
 /// The first read of a connection; closes it where there is no memory for its buffer.
-fn read_first(io: &mut Initiator<Echo<'_>>, alloc: Global, link: Link)
+fn read_first(io: &mut Initiator<Echo, Activity>, alloc: Global, link: Link)
     ensures reads { Reads link io.old io.new }
     ensures grant { io.new.granted ≡ io.old.granted }
     ensures kept { io.new.kept ≡ io.old.kept }
@@ -181,25 +199,41 @@ fn read_first(io: &mut Initiator<Echo<'_>>, alloc: Global, link: Link)
     }
 }
 
-/// A new connection is watched, and its first bytes are read; it is closed where no timer is left.
-fn begin(io: &mut Initiator<Echo<'_>>, service: Service<'_>, stream: Name, now: u64)
-    ensures begins { Begins service.entry stream now io.old io.new }
+/// A connection that has a strand is watched, and its first bytes are read; it is closed where no timer is
+/// left.
+fn start(io: &mut Initiator<Echo, Activity>, service: Service, stream: Name, strand: Name, now: u64)
+    ensures starts { StartsIf service stream strand now io.old io.new }
     ensures grant { io.new.granted ≡ io.old.granted }
     ensures kept { io.new.kept ≡ io.old.kept }
 {
     match io.make_timer() {
-        None => close(io, stream),
+        None => {
+            close(io, stream);
+            free(io, strand);
+        }
         Some(timer) => {
-            let link = link_of(service, stream, timer);
+            let link = link_of(service, stream, timer, strand);
             watch(io, link, until(now, service.idle));
             read_first(io, service.alloc, link);
         }
     }
 }
 
+/// A new connection starts on a strand of its own; it is closed where none is left.
+fn begin(io: &mut Initiator<Echo, Activity>, service: Service, stream: Name, now: u64)
+    ensures begins { Begins service stream now io.old io.new }
+    ensures grant { io.new.granted ≡ io.old.granted }
+    ensures kept { io.new.kept ≡ io.old.kept }
+{
+    match io.make_strand(Activity { until: 0 }) {
+        Err(Full(_)) => close(io, stream),
+        Ok(strand) => start(io, service, stream, strand, now),
+    }
+}
+
 /// Likewise of what was accepted, if anything was.
-fn begin_if(io: &mut Initiator<Echo<'_>>, service: Service<'_>, made: Option<Name>, now: u64)
-    ensures begins { BeginsIf service.entry made now io.old io.new }
+fn begin_if(io: &mut Initiator<Echo, Activity>, service: Service, made: Option<Name>, now: u64)
+    ensures begins { BeginsIf service made now io.old io.new }
     ensures grant { io.new.granted ≡ io.old.granted }
     ensures kept { io.new.kept ≡ io.old.kept }
 {
@@ -210,9 +244,8 @@ fn begin_if(io: &mut Initiator<Echo<'_>>, service: Service<'_>, made: Option<Nam
 }
 
 /// Accepts the next connection.
-fn accept<'a>(io: &mut Initiator<Echo<'a>>, service: Service<'a>)
-    ensures next { MayInitiate io.old → io.new ≡ called (accepting service.entry) io.old }
-    ensures none { ¬ MayInitiate io.old → io.new ≡ io.old }
+fn accept(io: &mut Initiator<Echo, Activity>, service: Service)
+    ensures next { AcceptsNext service io.old io.new }
     ensures grant { io.new.granted ≡ io.old.granted }
     ensures kept { io.new.kept ≡ io.old.kept }
 {
@@ -223,8 +256,8 @@ fn accept<'a>(io: &mut Initiator<Echo<'a>>, service: Service<'a>)
 }
 
 /// The next connection, and then this one.
-fn take_turn<'a>(io: &mut Initiator<Echo<'a>>, service: Service<'a>, made: Option<Name>, now: u64)
-    ensures accepts { Accepts service.entry made now io.old io.new }
+fn take_turn(io: &mut Initiator<Echo, Activity>, service: Service, made: Option<Name>, now: u64)
+    ensures accepts { Accepts service made now io.old io.new }
     ensures grant { io.new.granted ≡ io.old.granted }
     ensures kept { io.new.kept ≡ io.old.kept }
 {
@@ -232,8 +265,48 @@ fn take_turn<'a>(io: &mut Initiator<Echo<'a>>, service: Service<'a>, made: Optio
     begin_if(io, service, made, now);
 }
 
+/// Waits for a while before the next connection is accepted.
+fn rest(io: &mut Initiator<Echo, Activity>, service: Service, now: u64)
+    ensures rests { Rests service now io.old io.new }
+    ensures grant { io.new.granted ≡ io.old.granted }
+    ensures kept { io.new.kept ≡ io.old.kept }
+{
+    set(io, service.timer, until(now, PAUSE));
+    match io.wait(service.timer, Lane::Own, Echo::Rested { service }) {
+        Ok(()) => {}
+        Err(Full(_)) => {}
+    }
+}
+
+/// The next connection and this one; where that failed the next one waits, and a listener that is closed
+/// accepts no more.
+fn accept_if(
+    io: &mut Initiator<Echo, Activity>,
+    service: Service,
+    code: Code,
+    made: Option<Name>,
+    now: u64,
+)
+    ensures accepts { AcceptsIf service code made now io.old io.new }
+    ensures grant { io.new.granted ≡ io.old.granted }
+    ensures kept { io.new.kept ≡ io.old.kept }
+{
+    match code {
+        Code::Ok => take_turn(io, service, made, now),
+        Code::Aborted => {}
+        Code::Bad => {}
+        _ => rest(io, service, now),
+    }
+}
+
 /// What came goes back; at the end or an error the connection is closed.
-fn answer(io: &mut Initiator<Echo<'_>>, link: Link, code: Code, size: u64, buffer: Option<Vec<u8>>)
+fn answer(
+    io: &mut Initiator<Echo, Activity>,
+    link: Link,
+    code: Code,
+    size: u64,
+    buffer: Option<Vec<u8>>,
+)
     ensures answers { Answers link code size buffer io.old io.new }
     ensures grant { io.new.granted ≡ io.old.granted }
     ensures kept { io.new.kept ≡ io.old.kept }
@@ -245,7 +318,7 @@ fn answer(io: &mut Initiator<Echo<'_>>, link: Link, code: Code, size: u64, buffe
 }
 
 /// All of it is written: more is read. Likewise.
-fn read_on(io: &mut Initiator<Echo<'_>>, link: Link, code: Code, buffer: Option<Vec<u8>>)
+fn read_on(io: &mut Initiator<Echo, Activity>, link: Link, code: Code, buffer: Option<Vec<u8>>)
     ensures reads { ReadsOn link code buffer io.old io.new }
     ensures grant { io.new.granted ≡ io.old.granted }
     ensures kept { io.new.kept ≡ io.old.kept }
@@ -257,7 +330,7 @@ fn read_on(io: &mut Initiator<Echo<'_>>, link: Link, code: Code, buffer: Option<
 }
 
 /// Closes a connection whose timer has expired, or waits again where it is kept for longer.
-fn wait_on(io: &mut Initiator<Echo<'_>>, link: Link, code: Code, now: u64, kept: u64)
+fn wait_on(io: &mut Initiator<Echo, Activity>, link: Link, code: Code, now: u64, kept: u64)
     ensures waits { WaitsOn link code now kept io.old io.new }
     ensures grant { io.new.granted ≡ io.old.granted }
     ensures kept { io.new.kept ≡ io.old.kept }
@@ -274,7 +347,7 @@ fn wait_on(io: &mut Initiator<Echo<'_>>, link: Link, code: Code, now: u64, kept:
     }
 }
 
-impl<'a> Echo<'a> {
+impl Echo {
     /// Until when its connection is kept, which was this time before.
     fn heard(&self, code: Code, now: u64, kept: u64) -> u64
         ensures { result ≡ heard self.now code now kept }
@@ -286,8 +359,8 @@ impl<'a> Echo<'a> {
     }
 
     /// What it does, where its connection is kept until this time.
-    fn perform(self, done: Completion, kept: u64, io: &mut Initiator<Echo<'a>>)
-        ensures may { MayEcho kept self.entry done io.old io.new }
+    fn perform(self, done: Completion, kept: u64, io: &mut Initiator<Echo, Activity>)
+        ensures may { MayEcho kept self done io.old io.new }
         ensures grant { io.new.granted ≡ io.old.granted }
         ensures kept { io.new.kept ≡ io.old.kept }
     {
@@ -299,7 +372,8 @@ impl<'a> Echo<'a> {
             now,
         } = done;
         match self {
-            Echo::Accepted { service } => take_turn(io, service, made, now),
+            Echo::Accepted { service } => accept_if(io, service, code, made, now),
+            Echo::Rested { service } => accept(io, service),
             Echo::Came { link } => answer(io, link, code, size, buffer),
             Echo::Written { link } => read_on(io, link, code, buffer),
             Echo::Idle { link } => wait_on(io, link, code, now, kept),
@@ -307,7 +381,7 @@ impl<'a> Echo<'a> {
     }
 }
 
-impl<'a> Handler for Echo<'a> {
+impl Handler for Echo {
     type State = Activity;
 
     ghost marks = { λ _. record { run = 1; drop = 0 } };
@@ -317,14 +391,19 @@ impl<'a> Handler for Echo<'a> {
 
     ghost may_free = { MayEcho 0 };
 
-    fn call(self, done: Completion, state: &mut Activity, io: &mut Initiator<Echo<'a>>) -> u64 {
+    fn call(
+        self,
+        done: Completion,
+        state: &mut Activity,
+        io: &mut Initiator<Echo, Activity>,
+    ) -> u64 {
         let kept = state.until;
         state.until = self.heard(done.code, done.now, kept);
         self.perform(done, kept, io);
         1
     }
 
-    fn call_free(self, done: Completion, io: &mut Initiator<Echo<'a>>) -> u64 {
+    fn call_free(self, done: Completion, io: &mut Initiator<Echo, Activity>) -> u64 {
         self.perform(done, 0, io);
         1
     }

@@ -15,6 +15,8 @@ pub(crate) struct Counts {
     pub(crate) discarded: AtomicU64,
     pub(crate) refused: AtomicU64,
     pub(crate) retired: AtomicU64,
+    /// How many handlers of one strand execute.
+    pub(crate) inside: AtomicU64,
     /// The marks of handlers, in the order of their executions.
     pub(crate) order: AtomicU64,
 }
@@ -27,6 +29,7 @@ impl Counts {
             discarded: AtomicU64::new(0),
             refused: AtomicU64::new(0),
             retired: AtomicU64::new(0),
+            inside: AtomicU64::new(0),
             order: AtomicU64::new(0),
         }
     }
@@ -64,6 +67,14 @@ pub(crate) enum Task {
     SetAgain(Name),
     /// Leaves mark 2, destroys its timer and waits for it.
     FreeTimer(Name),
+    /// Makes a strand, and posts two that are to be alone there and one that frees it.
+    MakeStrand,
+    /// Makes a strand and frees it.
+    MakeAndFree,
+    /// Leaves mark 1, or 9 where another one of its strand executes.
+    Alone,
+    /// Leaves mark 2, frees its strand and posts to it.
+    FreeStrand(Name),
 }
 
 /// A handler that counts its execution.
@@ -109,7 +120,7 @@ fn initiated<'a>(posted: Result<(), Full<Counting<'a>>>) {
 
 impl<'a> Counting<'a> {
     /// Counts its execution, and does its task.
-    fn perform(self, code: Code, io: &mut Initiator<Counting<'a>>)
+    fn perform(self, code: Code, io: &mut Initiator<Counting<'a>, &'a Counts>)
         ensures grant { io.new.granted ≡ io.old.granted }
         ensures kept { io.new.kept ≡ io.old.kept }
     {
@@ -170,12 +181,60 @@ impl<'a> Counting<'a> {
                 let task = Task::Waited(3);
                 initiated(io.wait(timer, Lane::Own, Counting { task, counts }));
             }
+            Task::MakeStrand => make_strand(counts, io),
+            Task::MakeAndFree => match io.make_strand(counts) {
+                Ok(strand) => {
+                    io.free_strand(strand);
+                }
+                Err(Full(state)) => count(&state.refused),
+            },
+            Task::Alone => be_alone(counts),
+            Task::FreeStrand(strand) => {
+                mark(&counts.order, 2);
+                io.free_strand(strand);
+                let task = Task::Waited(3);
+                initiated(io.post(Lane::Strand(strand), Counting { task, counts }));
+            }
         }
     }
 }
 
+/// Leaves mark 1, or 9 where another one is here.
+fn be_alone(counts: &Counts) {
+    let others = counts.inside.fetch_add(1, Ordering::SeqCst);
+    for _ in 0..100u32 {
+        thread::yield_now();
+    }
+    mark(&counts.order, if others == 0 { 1 } else { 9 });
+    counts.inside.fetch_sub(1, Ordering::SeqCst);
+}
+
+/// Makes a strand, and posts two that are to be alone there and one that frees it.
+fn make_strand<'a>(counts: &'a Counts, io: &mut Initiator<Counting<'a>, &'a Counts>)
+    ensures grant { io.new.granted ≡ io.old.granted }
+    ensures kept { io.new.kept ≡ io.old.kept }
+{
+    match io.make_strand(counts) {
+        Ok(strand) => {
+            let lane = Lane::Strand(strand);
+            let task = Task::Alone;
+            initiated(io.post(lane, Counting { task, counts }));
+            let task = Task::Alone;
+            initiated(io.post(lane, Counting { task, counts }));
+            let task = Task::FreeStrand(strand);
+            initiated(io.post(lane, Counting { task, counts }));
+        }
+        Err(Full(state)) => count(&state.refused),
+    }
+}
+
 /// Sets a timer to expire soon, and waits for it.
-fn wait_soon<'a>(timer: Name, task: Task, counts: &'a Counts, io: &mut Initiator<Counting<'a>>)
+fn wait_soon<'a>(
+    timer: Name,
+    task: Task,
+    counts: &'a Counts,
+    io: &mut Initiator<Counting<'a>, &'a Counts>,
+)
     ensures grant { io.new.granted ≡ io.old.granted }
     ensures kept { io.new.kept ≡ io.old.kept }
 {
@@ -184,7 +243,7 @@ fn wait_soon<'a>(timer: Name, task: Task, counts: &'a Counts, io: &mut Initiator
 }
 
 /// Posts so many that do nothing.
-fn post_so_many<'a>(many: u32, counts: &'a Counts, io: &mut Initiator<Counting<'a>>)
+fn post_so_many<'a>(many: u32, counts: &'a Counts, io: &mut Initiator<Counting<'a>, &'a Counts>)
     ensures grant { io.new.granted ≡ io.old.granted }
     ensures kept { io.new.kept ≡ io.old.kept }
 {
@@ -207,14 +266,14 @@ impl<'a> Handler for Counting<'a> {
         self,
         done: Completion,
         state: &mut &'a Counts,
-        io: &mut Initiator<Counting<'a>>,
+        io: &mut Initiator<Counting<'a>, &'a Counts>,
     ) -> u64 {
         let _state = state;
         self.perform(done.code, io);
         1
     }
 
-    fn call_free(self, done: Completion, io: &mut Initiator<Counting<'a>>) -> u64 {
+    fn call_free(self, done: Completion, io: &mut Initiator<Counting<'a>, &'a Counts>) -> u64 {
         self.perform(done.code, io);
         1
     }

@@ -5,9 +5,13 @@
 #[cfg(test)]
 mod chain;
 #[cfg(test)]
+mod clients;
+#[cfg(test)]
 mod grant;
 #[cfg(test)]
 mod handlers;
+#[cfg(test)]
+mod making;
 #[cfg(test)]
 mod many;
 #[cfg(test)]
@@ -15,8 +19,12 @@ mod meeting;
 #[cfg(test)]
 mod order;
 #[cfg(test)]
+mod outside;
+#[cfg(test)]
 mod running;
 #[cfg(test)]
 mod serving;
+#[cfg(test)]
+mod talking;
 #[cfg(test)]
 mod timing;

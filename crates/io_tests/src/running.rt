@@ -5,6 +5,7 @@ ghost use Rattle.std.specs.Prelude.{◌≡◌, ◌≤◌, ◌<◌};
 use crate::chain::chain;
 use crate::grant::grant;
 use crate::handlers::{Counting, Counts, Task, count};
+use crate::making::make_strands;
 use crate::many::{initiate_and_run, stop_and_finish};
 use crate::meeting::meet;
 use crate::order::dispatch;
@@ -48,6 +49,8 @@ pub(crate) enum Scenario {
     Watch,
     /// A handler makes a timer, which others set again and destroy.
     Own,
+    /// Handlers make strands and free them.
+    Strands,
 }
 
 /// Room for so many operations and strands, and two timers.
@@ -206,6 +209,7 @@ fn play<'a, R: Abort + Threads + Wait + Clock + Sync + Copy, C: Named + Send + S
         Scenario::Earlier => wait_earlier(rt, alloc, case),
         Scenario::Watch => watch(rt, alloc, case),
         Scenario::Own => make_own(rt, alloc, case),
+        Scenario::Strands => make_strands(rt, alloc, case),
     }
 }
 

@@ -2,13 +2,12 @@
 
 ghost use Rattle.std.specs.Prelude.{◌≡◌};
 
+use crate::clients::{Client, clock_by, peer_of, playing, script_of, took_at};
 use crate::running::MEMORY;
 use asio_types::{Failed, NoMemory};
-use echo_handlers::{Activity, Echo, Service};
+use echo_handlers::{Echo, Service};
 use io_context::{Context, Lane, Limits, Named, NewContext, Reactor};
-use io_reactor_memory::{
-    MemoryPoll, MemoryReactor, PeerScript, PollTurn, ReadEnd, Script, Visit, WriteEnd,
-};
+use io_reactor_memory::{MemoryPoll, MemoryReactor, PollTurn, ReadEnd, Script, Visit, WriteEnd};
 use std::alloc::Global;
 use std::marker::Brand;
 use std::net::{Ipv4Addr, SocketAddr};
@@ -22,7 +21,7 @@ const LOOKS: usize = 24;
 const LIMITS: Limits = Limits {
     operations: 8,
     strands: 2,
-    timers: 2,
+    timers: 3,
     slots: 0,
     streams: 2,
     grant: 2,
@@ -32,32 +31,6 @@ const LIMITS: Limits = Limits {
 
 /// For so many nanoseconds a client may send nothing.
 const IDLE: u64 = 60_000_000_000;
-
-/// What a client does, and what it has got back then.
-#[derive(Clone, Copy)]
-struct Client {
-    sends: &'static [&'static [u8]],
-    sends_end: ReadEnd,
-    takes: &'static [usize],
-    takes_end: WriteEnd,
-    back: &'static [u8],
-}
-
-fn playing(
-    sends: &'static [&'static [u8]],
-    sends_end: ReadEnd,
-    takes: &'static [usize],
-    takes_end: WriteEnd,
-    back: &'static [u8],
-) -> Client {
-    Client {
-        sends,
-        sends_end,
-        takes,
-        takes_end,
-        back,
-    }
-}
 
 fn clients() -> [Client; 10] {
     [
@@ -102,47 +75,6 @@ fn clients() -> [Client; 10] {
     ]
 }
 
-fn bytes_of<T: Copy>(alloc: Global, items: &[T]) -> Result<Vec<T>, NoMemory> {
-    let mut all = Vec::new(alloc);
-    all.extend_from_slice(items)?;
-    Ok(all)
-}
-
-fn peer_of(alloc: Global, client: &Client) -> Result<PeerScript, NoMemory> {
-    let mut sends = Vec::new(alloc);
-    for piece in client.sends {
-        sends.push(bytes_of(alloc, piece)?)?;
-    }
-    let takes = bytes_of(alloc, client.takes)?;
-    Ok(PeerScript::of(sends, client.sends_end, takes, client.takes_end))
-}
-
-/// A listener with these visits.
-fn script_of(alloc: Global, visits: Vec<Visit>) -> Result<Script, NoMemory> {
-    let mut listeners = Vec::new(alloc);
-    listeners.push(Some(visits))?;
-    Ok(Script {
-        listeners,
-        connects: Vec::new(alloc),
-        clock: Vec::new(alloc),
-        polls: Vec::new(alloc),
-    })
-}
-
-/// A strand for each connection.
-fn make_strands<R: Wait, C: Named, W: Reactor>(
-    rt: &R,
-    context: &Context<Echo<'_>, C, W>,
-    lanes: &mut Vec<Lane>,
-) -> Result<(), NoMemory> {
-    for _ in 0..LIMITS.strands {
-        if let Ok((name, _section)) = context.make_strand(rt, Activity { until: 0 }) {
-            lanes.push(Lane::Strand(name))?;
-        }
-    }
-    Ok(())
-}
-
 /// Serves, and answers whether a wait has failed.
 fn serve_as<'s, R: Abort + Wait, C: Named>(
     rt: &R,
@@ -156,19 +88,20 @@ fn serve_as<'s, R: Abort + Wait, C: Named>(
     requires name { new.name ≡ C.name }
     requires parts { new.parts ≡ C.parts }
 {
-    let mut lanes = Vec::new(alloc);
-    let made = Context::<Echo<'_>, C, MemoryReactor<'s>>::make(alloc, new, reactor, poll);
+    let made = Context::<Echo, C, MemoryReactor<'s>>::make(alloc, new, reactor, poll);
     let (context, mut share) = made.expect(rt, MEMORY);
-    make_strands(rt, &context, &mut lanes).expect(rt, MEMORY);
     let mut worker = context.worker(alloc, &mut share).expect(rt, MEMORY);
     let listened = context.listen(rt, SocketAddr::from((Ipv4Addr::LOCALHOST, 1)));
+    let Ok((timer, _section)) = context.make_timer(rt) else {
+        panic!(rt; "no timer is free")
+    };
     if let Ok(listening) = &listened {
         let listener = listening.listener;
         let service = Service {
             alloc,
             listener,
+            timer,
             idle: IDLE,
-            lanes: lanes.as_slice(),
         };
         let first = Echo::Accepted { service };
         let _accepted = context.accept(rt, Lane::Own, listener, first);
@@ -189,26 +122,6 @@ fn serve<R: Abort + Wait>(rt: &R, alloc: Global, script: &Script) -> Result<bool
     serve_as::<R, Brand>(rt, alloc, new, reactor, poll)
 }
 
-/// What the client of a visit got back.
-fn took(visit: &Visit) -> Option<&[u8]> {
-    match visit {
-        Visit::Comes(peer) => peer.took(),
-        _ => None,
-    }
-}
-
-/// What the client of the listener's visit with this number got back.
-fn took_at(script: &Script, number: usize) -> Option<&[u8]> {
-    let visits = match script.listeners.first() {
-        Some(Some(visits)) => visits,
-        _ => return None,
-    };
-    match visits.get(number) {
-        Some(visit) => took(visit),
-        None => None,
-    }
-}
-
 #[test]
 fn what_comes_from_a_client_goes_back(rt: HostRuntime) -> Result<(), NoMemory> {
     let alloc = rt.alloc();
@@ -222,21 +135,38 @@ fn what_comes_from_a_client_goes_back(rt: HostRuntime) -> Result<(), NoMemory> {
     Ok(())
 }
 
-#[test]
-fn an_accept_that_fails_or_has_no_place_lets_others_be_served(
-    rt: HostRuntime,
-) -> Result<(), NoMemory> {
-    let alloc = rt.alloc();
+/// Of three accepts the first fails, and before the last there is a pause; by this clock.
+fn failing_accepts(alloc: Global, clock: Vec<u64>) -> Result<Script, NoMemory> {
     let clients = clients();
     let mut visits = Vec::new(alloc);
     visits.push(Visit::Fails)?;
     visits.push(Visit::Comes(peer_of(alloc, &clients[0])?))?;
     visits.push(Visit::Later)?;
     visits.push(Visit::Comes(peer_of(alloc, &clients[3])?))?;
-    let script = script_of(alloc, visits)?;
+    let mut script = script_of(alloc, visits)?;
+    script.clock = clock;
+    Ok(script)
+}
+
+#[test]
+fn an_accept_that_fails_or_has_no_place_lets_others_be_served(
+    rt: HostRuntime,
+) -> Result<(), NoMemory> {
+    let alloc = rt.alloc();
+    let script = failing_accepts(alloc, clock_by(alloc, 0, 40)?)?;
     assert_eq!(rt; serve(&rt, alloc, &script), Ok(false));
     assert_eq!(rt; took_at(&script, 1), Some(b"hello".as_slice()));
     assert_eq!(rt; took_at(&script, 3), Some(b"hello".as_slice()));
+    Ok(())
+}
+
+#[test]
+fn an_accept_that_failed_is_not_tried_at_once(rt: HostRuntime) -> Result<(), NoMemory> {
+    let alloc = rt.alloc();
+    // by a clock that stands still
+    let script = failing_accepts(alloc, Vec::new(alloc))?;
+    assert_eq!(rt; serve(&rt, alloc, &script), Ok(false));
+    assert_eq!(rt; took_at(&script, 1), None);
     Ok(())
 }
 
@@ -252,11 +182,7 @@ fn silent_and_next(
     visits.push(Visit::Comes(peer_of(alloc, silent)?))?;
     visits.push(Visit::Comes(peer_of(alloc, next)?))?;
     let mut script = script_of(alloc, visits)?;
-    for at in 0..100u64 {
-        script
-            .clock
-            .push(at.saturating_mul(seconds).saturating_mul(1_000_000_000))?;
-    }
+    script.clock = clock_by(alloc, 0, seconds.saturating_mul(1_000))?;
     Ok(script)
 }
 

@@ -5,5 +5,5 @@ use Rattle.chat_handlers.proofs.room.count_down.Goals as goal
 
 pub loop-preserved : goal.loop-preserved
 loop-preserved c =
-    counted_next (one_less c.args.stream) c.args.members.now.items c.loop.members.items _ c.loop.counter
+    counted_next (one_less c.args.stream c.args.now) c.args.members.now.items c.loop.members.items _ c.loop.counter
     (omega (arith, c.args.members.now.ok)) c.loop.invariant c.count_first_down.ensures

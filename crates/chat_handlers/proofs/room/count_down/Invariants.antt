@@ -5,4 +5,4 @@ use Rattle.chat_handlers.proofs.room.count_down.Given as goal
 -- those that are counted stand behind the others
 abbrev pub invariant-loop : goal.invariant-loop
 invariant-loop l = l.members.items
-    ≡ drop l.counter l.initial.members.items ++ map (one_less l.stream) (take l.counter l.initial.members.items)
+    ≡ drop l.counter l.initial.members.items ++ map (one_less l.stream l.now) (take l.counter l.initial.members.items)

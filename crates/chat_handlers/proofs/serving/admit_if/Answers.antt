@@ -8,4 +8,4 @@ admit-requires c = lt-ltb (length c.args.room.now.members.items) 64 (omega (arit
 pub returns-else-len-lt-MOST_MEMBERS-clause-admits : goal.returns-else-len-lt-MOST_MEMBERS-clause-admits
 returns-else-len-lt-MOST_MEMBERS-clause-admits c =
     refuses (le-ltb (length c.args.room.now.members.items) 64 (omega (arith, c.args.room.now.members.ok)))
-    (record { refuses = c.refuse.ensures.refuses; same = record { are = refl; word = refl; next = refl; alloc = refl } })
+    (record { refuses = c.refuse.ensures.refuses; same = record { are = refl; word = refl; next = refl; alloc = refl; counted = refl } })

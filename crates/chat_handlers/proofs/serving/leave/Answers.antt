@@ -6,6 +6,6 @@ pub returns-clause-parts : goal.returns-clause-parts
 returns-clause-parts c = record {
   behind = c.end.new.io;
   ends = c.end.ensures.ends;
-  tells = left_from _ _ _ _ _ _ _ _ (record { word = refl; next = refl; alloc = refl }) c.remove.ensures
+  tells = left_from _ _ _ _ _ _ _ _ (record { word = refl; next = refl; alloc = refl; refused = refl }) c.remove.ensures
       c.tell_left.ensures.tells;
 }

@@ -9,7 +9,7 @@ returns-then-has_member-clause-says c =
     (λ has. SaysIf has c.args.speaker c.args.buffer c.args.text c.args.io.now c.read_and_tell.new.io c.args.room.now
     c.read_and_tell.new.room)
     (sym c.if-has_member.true ∙ c.has_member.ensures)
-    (reads_from _ _ _ _ _ _ _ _ _ _ _ (record { word = refl; next = refl; alloc = refl }) c.as_slice.ensures.value refl
+    (reads_from _ _ _ _ _ _ _ _ _ _ _ (record { word = refl; next = refl; alloc = refl; refused = refl }) c.as_slice.ensures.value refl
     c.read_and_tell.ensures.tells)
 
 pub returns-else-has_member-clause-says : goal.returns-else-has_member-clause-says

@@ -3,7 +3,8 @@ use Rattle.chat_handlers.proofs.serving.tell_room.Goals as goal
 
 pub returns-clause-tells : goal.returns-clause-tells
 returns-clause-tells c = record {
-  left = c.tell.new.members.items;
-  told = c.tell.ensures.told;
-  has = record { are = refl; word = refl; next = refl; alloc = refl };
+  left = c.tell-refused.new.members.items;
+  refused = c.tell-refused.result;
+  told = c.tell-refused.ensures.told;
+  has = record { are = refl; word = refl; next = refl; alloc = refl; counted = c.saturating_add-room.ensures };
 }

@@ -1,6 +1,6 @@
-use Rattle.std.proofs.Common.{lt-ltb, refl}
+use Rattle.std.proofs.Common.{arith, lt-ltb, refl}
 use Rattle.chat_handlers.proofs.telling.tell_one.Goals as goal
 
-pub returns-then-write_copy-clause-tells : goal.returns-then-write_copy-clause-tells
-returns-then-write_copy-clause-tells c =
-    (refl, lt-ltb _ _ c.if-member-lt-MOST_PENDING.true, c.write_copy.ensures.written c.if-write_copy.true)
+pub returns-in-Ok-true-clause-tells : goal.returns-in-Ok-true-clause-tells
+returns-in-Ok-true-clause-tells c =
+    (refl, lt-ltb c.args.member.pending 128 (omega (arith, c.if-member-ge-MOST_PENDING.false)), c.in-Ok-true.ensures.written c.in-Ok-true.field-0-test)

@@ -4,6 +4,5 @@ pub returns-clause-accepts : goal.returns-clause-accepts
 returns-clause-accepts c = record {
   behind = c.accept.new.io;
   next = c.accept.ensures.next;
-  none = c.accept.ensures.none;
   begins = c.begin_if.ensures.begins;
 }
