@@ -1,0 +1,4 @@
+mod AnswersLemmas
+mod HeadsLemmas
+mod RequestsLemmas
+mod ConnectionsLemmas
