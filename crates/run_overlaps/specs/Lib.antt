@@ -1,3 +1,4 @@
 pub mod Watching
 pub mod Guarding
 pub mod Noting
+pub mod Handing

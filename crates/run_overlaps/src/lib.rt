@@ -11,6 +11,7 @@ mod guessing;
 mod handed;
 mod holds;
 mod noting;
+mod strands;
 mod watch;
 
 pub use claims::{Claim, claims_of};

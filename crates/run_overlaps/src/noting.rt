@@ -26,7 +26,7 @@ fn is_gone(watch: &Watch, line: &Line) -> bool
 
 /// Follows a line, and answers what is known of it.
 #[tactic(auto, using(crate::proofs::NotingLemmas::noted))]
-fn note(watch: &mut Watch, line: &Line) -> Result<Note, NotFollowed>
+pub(crate) fn note(watch: &mut Watch, line: &Line) -> Result<Note, NotFollowed>
     ensures { IfOk result (λ note. (past : List Line) → IsWatch past watch.old → IsNote line.now past note × IsWatch (line.now ∷ past) watch.new) }
 {
     let frame = watch.frame(line.thread);

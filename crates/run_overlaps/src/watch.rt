@@ -2,6 +2,7 @@ ghost use Rattle.std.specs.Prelude.{◌≡◌, ◌∷◌, [], ℕ, IfOk, IsTrue,
 ghost use Rattle.run_lines.specs.declared.line.Line.{Line};
 ghost use Rattle.run_rules.specs.MayCome.{MayDo};
 ghost use Rattle.run_rules.specs.Stacks.{frame};
+ghost use Rattle.run_rules.specs.Starting.{Holds};
 ghost use Rattle.run_rules.specs.Takings.{is_taken_by};
 ghost use Rattle.run_check.specs.After.{loose};
 
@@ -104,6 +105,13 @@ impl Watch {
         ensures { (past : List Line) → IsWatch past self.now → result ≡ called_of past op }
     {
         self.calls.of(op)
+    }
+
+    /// Whether an execution of a strand goes on on a thread.
+    pub(crate) fn holds(&self, thread: u64, strand: u64) -> bool
+        ensures { (past : List Line) → IsWatch past self.now → Holds past thread strand → IsTrue result }
+    {
+        self.checker.holder(strand) == Some(thread)
     }
 
     /// Whether the frame that writes the next line of a thread has taken this.

@@ -1,6 +1,9 @@
 pub mod PlacingLemmas
 pub mod StandingLemmas
+pub mod ExecutionsLemmas
 pub mod FactsLemmas
 pub mod CausesLemmas
 pub mod JudgingLemmas
+pub mod BusyLemmas
 pub mod WitnessLemmas
+pub mod SearchLemmas

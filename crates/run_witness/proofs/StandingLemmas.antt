@@ -1,6 +1,6 @@
 -- What may stand in an order may be put there.
 use Rattle.std.proofs.Common.{◌≡◌, ℕ, List, [], ◌∷◌, refl, ap, sym, subst, ◌∙◌, inl, inr, ⊎_elim, length}
-use Rattle.std.proofs.lemmas.Bool.{cases_Bool, eq-eqb, eqb-true}
+use Rattle.std.proofs.lemmas.Bool.{cases_Bool, cond_both, eq-eqb, eqb-true}
 use Rattle.std.specs.Prelude.{Bool, true, false, ◌==◌, if◌then◌else◌, Option, Some, None}
 use Rattle.std.specs.Option.{option_map, unwrap_or}
 use Rattle.run_lines.specs.declared.line.Doing.{Doing}
@@ -15,7 +15,7 @@ use Rattle.run_check.specs.After.{is_spent, loose, waiter_from, waiter_of}
 use Rattle.run_check.specs.declared.waiting.Waiter.{Waiter}
 use Rattle.run_orders.specs.declared.order.Step.{Step}
 use Rattle.run_orders.specs.Orders.{BeginsTree, EachMayStand, IsPut, MayStand, Stands, lines_of, renumbered}
-use Rattle.run_orders.specs.Trees.{Spot, around, around_by, frame_by, root, spot_at, tree, writer}
+use Rattle.run_orders.specs.Trees.{Spot, around, around_by, frame_by, is_among, root, spot_at, tree, writer}
 use Rattle.run_orders.proofs.BeginLemmas.{IsBegun, around_begin, begun_before}
 use Rattle.run_orders.proofs.StandLemmas.{equal_ops, one_number, op_of_begin, renumbered_begins, stack_of, stands_step, stood}
 use Rattle.run_orders.proofs.TreeLemmas.{found, some_same}
@@ -38,7 +38,8 @@ no_position (step ∷ before) place none =
     (cases_Bool (step.place == place))
 
 -- the number of what is renumbered
-copied_with : (does copy : Doing) (number : ℕ) → copy ≡ renumbered number does → copy ≡ renumbered (unwrap_or (op_of copy) 0) does
+copied_with : (does copy : Doing) (number : ℕ) → copy ≡ renumbered number does
+    → copy ≡ renumbered (unwrap_or (op_of copy) 0) does
 copied_with (doing.Call op word context strand thing) copy number is = rw is refl
 copied_with (doing.Back op) copy number is = rw is refl
 copied_with (doing.Done op code size) copy number is = rw is refl
@@ -59,8 +60,9 @@ op_copied (doing.Drop op) number = refl
 op_copied _ number = refl
 
 -- the numbers of a line that may stand
-may_pair : (run : List Line) (before : List Step) (old : Placing) (step : Step) → IsPlacing run before old
-    → (may : MayStand run [] before step) → (a b : Option ℕ) → op_of may.spot.line.does ≡ a → op_of step.line.does ≡ b
+may_pair : {apart : List ℕ} (run : List Line) (before : List Step) (old : Placing) (step : Step)
+    → IsPlacing run apart before old
+    → (may : MayStand run apart before step) → (a b : Option ℕ) → op_of may.spot.line.does ≡ a → op_of step.line.does ≡ b
     → b ≡ option_map (λ (op : ℕ). may.copied.0) a → MayPair old a b
 may_pair run before old step kept may None None is_a is_b both = tt
 may_pair run before old step kept may None (Some number) is_a is_b both = cc
@@ -84,49 +86,66 @@ outside_tree thread other None is = ((let e : thread ≡ other = cc in e), refl)
 outside_tree thread other (Some op) is = cc
 
 -- the tree of a line of an execution is that of its begin
-root_around : (does : Doing) (op : ℕ) (ops : List ℕ) → root [] (op ∷ ops) ≡ root [] (around_by does (op ∷ ops))
-root_around (doing.Begin other code size) op ops = refl
-root_around _ op ops = refl
+root_around : (apart : List ℕ) (thread : ℕ) (does : Doing) (op : ℕ) (ops : List ℕ)
+    → ¬ (BeginsIts does (frame_by thread (root apart (around_by does (op ∷ ops)))))
+    → root apart (op ∷ ops) ≡ root apart (around_by does (op ∷ ops))
+root_around apart thread (doing.Begin other code size) op ops inside =
+    cond_both (is_among apart other) (Some other) (root apart (op ∷ ops))
+    (λ (o : Option ℕ). ¬ (BeginsIts (doing.Begin other code size) (frame_by thread o)) → root apart (op ∷ ops) ≡ o)
+    (λ among not. absurd (not (eq-eqb other other refl))) (λ own not. refl) inside
+root_around apart thread _ op ops inside = refl
 
-one_tree : (run : List Line) (spot : Spot) (op : ℕ) → (began : IsBegun run spot op) → tree [] began.spot ≡ tree [] spot
-one_tree run spot op began =
-    ap (λ (ops : List ℕ). frame_by began.spot.line.thread (root [] ops))
+one_tree : (apart : List ℕ) (run : List Line) (spot : Spot) (op : ℕ) → (began : IsBegun run spot op)
+    → ¬ (BeginsIts spot.line.does (tree apart spot)) → tree apart began.spot ≡ tree apart spot
+one_tree apart run spot op began inside =
+    ap (λ (ops : List ℕ). frame_by began.spot.line.thread (root apart ops))
     (around_begin began.spot.line.does op (stack_of began.spot) began.begun ∙ sym began.around)
-    ∙ ap (λ (t : ℕ). frame_by t (root [] (stack_of spot))) began.on
-    ∙ ap (λ (o : Option ℕ). frame_by spot.line.thread o) (top spot.line.does (stack_of spot) (stack_of began.spot) began.around)
+    ∙ ap (λ (t : ℕ). frame_by t (root apart (stack_of spot))) began.on
+    ∙ ap (λ (o : Option ℕ). frame_by spot.line.thread o) (top spot.line.does (stack_of spot)
+    (stack_of began.spot) began.around inside)
   where
-    top : (does : Doing) (ops rest : List ℕ) → ops ≡ op ∷ rest → root [] ops ≡ root [] (around_by does ops)
-    top does ops rest is = rw is (root_around does op rest)
+    top : (does : Doing) (ops rest : List ℕ) → ops ≡ op ∷ rest
+        → ¬ (BeginsIts does (frame_by spot.line.thread (root apart (around_by does ops))))
+        → root apart ops ≡ root apart (around_by does ops)
+    top does ops rest is =
+        subst (λ (all : List ℕ). ¬ (BeginsIts does (frame_by spot.line.thread (root apart (around_by does all))))
+        → root apart all ≡ root apart (around_by does all)) (sym is) (root_around apart spot.line.thread does op rest)
 
 -- who writes a line writes it in the order, too
-same_caller : (thing : ℕ) (run : List Line) (facts : Facts) (before : List Step) (old : Placing) (step : Step)
-    → AreFacts thing run facts → IsPlacing run before old → EachMayStand run [] before → (may : MayStand run [] before step)
-    → (op number : ℕ) → writer may.spot ≡ Execution op → number_of old op ≡ Some number
+same_caller : {apart : List ℕ} (thing : ℕ) (run : List Line) (facts : Facts) (before : List Step) (old : Placing)
+    (step : Step)
+    → AreFacts apart thing run facts → IsPlacing run apart before old → EachMayStand run apart before
+    → (may : MayStand run apart before step)
+    → ¬ (BeginsIts may.spot.line.does (tree apart may.spot)) → (op number : ℕ) → writer may.spot ≡ Execution op
+    → number_of old op ≡ Some number
     → frame (lines_of before) step.line.thread ≡ Execution number
-same_caller thing run facts before old step are kept each may op number writes known =
+same_caller {apart} thing run facts before old step are kept each may inside op number writes known =
     let spot = may.spot in
     let began = begun_before run loose are.legal spot (found run step.place spot may.there).end op writes in
-    let same : tree [] began.spot ≡ tree [] spot = one_tree run spot op began in
+    let same : tree apart began.spot ≡ tree apart spot = one_tree apart run spot op began inside in
     let here = stands_step before (length began.spot.past)
     (may.behind (length began.spot.past) began.spot began.there (record { earlier = began.earlier; reason = inl same })) in
     let there : spot_at run (here.0).place ≡ Some began.spot = ap (spot_at run) here.2 ∙ began.there in
     let put : IsPut run before here.0 began.spot = record { stands = here.1; there = there } in
-    let was = stood run [] before each here.0 began.spot here.1 there in
+    let was = stood run apart before each here.0 began.spot here.1 there in
     let copied : begins (here.0).line.does was.may.copied.0 ≡ true =
     ap (λ (d : Doing). begins d was.may.copied.0) was.may.copied.1
-    ∙ renumbered_begins was.may.spot.line.does op was.may.copied.0 (ap (λ (s : Spot). begins s.line.does op) was.same ∙ began.begun) in
+    ∙ renumbered_begins was.may.spot.line.does op was.may.copied.0 (ap (λ (s : Spot). begins s.line.does op) was.same
+    ∙ began.begun) in
     let pair : Pairs old (Some op) (Some was.may.copied.0) =
     subst (λ (o : Option ℕ). Pairs old o (Some was.may.copied.0)) (op_of_begin began.spot.line.does op began.begun)
-    (subst (λ (o : Option ℕ). Pairs old (op_of began.spot.line.does) o) (op_of_begin (here.0).line.does was.may.copied.0 copied)
+    (subst (λ (o : Option ℕ). Pairs old (op_of began.spot.line.does) o) (op_of_begin
+    (here.0).line.does was.may.copied.0 copied)
     (kept.numbers here.0 began.spot put)) in
     may.caller here.0 began.spot op was.may.copied.0 put same writes began.begun copied
     ∙ ap Execution (some_same was.may.copied.0 number (sym pair.0 ∙ known))
 
 -- a line begins its tree in the run, too
-begins_tree : (spot : Spot) (tree_of : Frame) → tree [] spot ≡ tree_of → BeginsIts spot.line.does tree_of → BeginsTree [] spot
-begins_tree spot (Outside thread) is begins =
-    inl (is ∙ ap Outside (sym (outside_tree spot.line.thread thread (root [] (around spot)) is).0))
-begins_tree spot (Execution op) is begins = inr (op, begins, is)
+begins_tree : (apart : List ℕ) (spot : Spot) (tree_of : Frame) → tree apart spot ≡ tree_of
+    → BeginsIts spot.line.does tree_of → BeginsTree apart spot
+begins_tree apart spot (Outside thread) is begins =
+    inl (is ∙ ap Outside (sym (outside_tree spot.line.thread thread (root apart (around spot)) is).0))
+begins_tree apart spot (Execution op) is begins = inr (op, begins, is)
 
 -- how an operation was called that waits
 pub waiter_call : (past : List Line) (op : ℕ) (waiter : Waiter) → waiter_of past op ≡ Some waiter
@@ -151,10 +170,12 @@ may_work run facts thread past (doing.Begin op code size) waiter works_for is =
 may_work run facts thread past _ waiter works_for is = cc
 
 -- a line that may stand may be put
-pub may_put : (thing : ℕ) (run : List Line) (facts : Facts) (before : List Step) (old : Placing) (step : Step) (who : Frame) (fact : Fact)
-    → AreFacts thing run facts → IsPlacing run before old → who ≡ frame (lines_of before) step.line.thread
-    → EachMayStand run [] before → (may : MayStand run [] before step) → fact ≡ fact_of thing may.spot → MayPut old facts fact step who
-may_put thing run facts before old step who fact are kept is each may is_fact =
+pub may_put : {apart : List ℕ} (thing : ℕ) (run : List Line) (facts : Facts) (before : List Step) (old : Placing)
+    (step : Step) (who : Frame) (fact : Fact)
+    → AreFacts apart thing run facts → IsPlacing run apart before old → who ≡ frame (lines_of before) step.line.thread
+    → EachMayStand run apart before → (may : MayStand run apart before step) → fact ≡ fact_of apart thing may.spot
+    → MayPut old facts fact step who
+may_put {apart} thing run facts before old step who fact are kept is each may is_fact =
     let spot = may.spot in
     subst (λ (f : Fact). MayPut old facts f step who) (sym is_fact)
     (record {
@@ -162,16 +183,18 @@ may_put thing run facts before old step who fact are kept is each may is_fact =
       copied = copied_with spot.line.does step.line.does may.copied.0 may.copied.1;
       numbered = may_pair run before old step kept may (op_of spot.line.does) (op_of step.line.does) refl refl
           (ap op_of may.copied.1 ∙ op_copied spot.line.does may.copied.0);
-      together = or_unknown (thread_of old (tree [] spot)) step.line.thread (λ thread on.
-          let was = kept.on (tree [] spot) thread on in
+      together = or_unknown (thread_of old (tree apart spot)) step.line.thread (λ thread on.
+          let was = kept.on (tree apart spot) thread on in
           sym was.has.1 ∙ may.together was.step was.first was.put was.has.0);
       home = λ thread outside.
-          let own = (outside_tree spot.line.thread thread (root [] (around spot)) outside).0 in
+          let own = (outside_tree spot.line.thread thread (root apart (around spot)) outside).0 in
           sym own ∙ sym (may.outside (outside ∙ ap Outside (sym own)));
-      caller = λ op number writes known. is ∙ same_caller thing run facts before old step are kept each may op number writes known;
-      idle = λ begins. is ∙ may.idle (begins_tree spot (tree [] spot) refl begins);
+      caller = λ inside op number writes known. is
+          ∙ same_caller thing run facts before old step are kept each may inside op number writes known;
+      idle = λ begins. is ∙ may.idle (begins_tree apart spot (tree apart spot) refl begins);
       worker = λ waiter begun. may_work run facts step.line.thread spot.past spot.line.does waiter
-          (λ op context begins of_context. (are.workers step.line.thread context).1 (may.worker op context begins of_context)) begun;
+          (λ op context begins of_context. (are.workers step.line.thread context).1
+          (may.worker op context begins of_context)) begun;
     })
 
 -- what is known of no line stands for none

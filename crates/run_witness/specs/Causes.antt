@@ -75,7 +75,8 @@ pub record NotesLine (old new : Causes) (fact : Fact) (place : ℕ) (at : Option
       ≡ (if same_frame fact.tree other
       then Some (reached_with (reached_at same_frame old.trees fact.tree) at) else reached_at same_frame old.trees other)
   pub called : NotesAt (reached_at nat_eq old.called) (reached_at nat_eq new.called) (called_by fact.line.does) at
-  pub completed : NotesAt (reached_at nat_eq old.completed) (reached_at nat_eq new.completed) (completed_by fact.line.does) at
+  pub completed : NotesAt (reached_at nat_eq old.completed) (reached_at nat_eq new.completed)
+      (completed_by fact.line.does) at
   pub marked : NotesAt (reached_at nat_eq old.marked) (reached_at nat_eq new.marked) (marked_by fact.line.does) at
   pub left : NotesAt (reached_at nat_eq old.left) (reached_at nat_eq new.left) (left_by fact) at
   pub cancelled : new.cancelled.items ≡ cancelled_with old.cancelled.items place at fact.line.does
@@ -94,9 +95,9 @@ IsNotedCancel run placing count one =
     IsNoted run placing count (λ first. (first.line.does ≡ doing.Cancel one.thing) × (length first.past ≡ one.place)) one.at
 
 -- nothing but the first lines of a run was noted
-pub record AreNoted (run : List Line) (placing : Placing) (count : ℕ) (kept : Causes) : Type 0 where
+pub record AreNoted (run : List Line) (apart : List ℕ) (placing : Placing) (count : ℕ) (kept : Causes) : Type 0 where
   pub trees : (key : Frame) (at : Option ℕ) → reached_at same_frame kept.trees key ≡ Some at →
-      IsNoted run placing count (λ first. tree [] first ≡ key) at
+      IsNoted run placing count (λ first. tree apart first ≡ key) at
   pub called : (op : ℕ) (at : Option ℕ) → reached_at nat_eq kept.called op ≡ Some at →
       IsNoted run placing count (λ first. called_by first.line.does ≡ Some op) at
   pub completed : (op : ℕ) (at : Option ℕ) → reached_at nat_eq kept.completed op ≡ Some at →
@@ -108,9 +109,9 @@ pub record AreNoted (run : List Line) (placing : Placing) (count : ℕ) (kept : 
   pub cancelled : All (IsNotedCancel run placing count) kept.cancelled.items
 
 -- the first lines of a run were noted
-pub record AreCauses (run : List Line) (placing : Placing) (count : ℕ) (kept : Causes) : Type 0 where
+pub record AreCauses (run : List Line) (apart : List ℕ) (placing : Placing) (count : ℕ) (kept : Causes) : Type 0 where
   pub trees : (place : ℕ) (first : Spot) → place < count → spot_at run place ≡ Some first →
-      Covers (reached_at same_frame kept.trees (tree [] first)) (position_of placing place)
+      Covers (reached_at same_frame kept.trees (tree apart first)) (position_of placing place)
   pub called : (place op : ℕ) (first : Spot) → place < count → spot_at run place ≡ Some first →
       called_by first.line.does ≡ Some op → Covers (reached_at nat_eq kept.called op) (position_of placing place)
   pub completed : (place op : ℕ) (first : Spot) → place < count → spot_at run place ≡ Some first →
@@ -122,9 +123,10 @@ pub record AreCauses (run : List Line) (placing : Placing) (count : ℕ) (kept :
   pub cancelled : (place thing : ℕ) (first : Spot) → place < count → spot_at run place ≡ Some first →
       first.line.does ≡ doing.Cancel thing →
       Contains kept.cancelled.items (record { thing = thing; place = place; at = position_of placing place })
-  pub only : AreNoted run placing count kept
+  pub only : AreNoted run apart placing count kept
 
 -- the line at a place of a run is found good if it stands behind its causes, and is noted then
-pub record SeesLine (run : List Line) (placing : Placing) (place : ℕ) (new : Causes) (good : Bool) : Type 0 where
-  pub behind : IsTrue good ↔ IsLineBehind run (position_of placing) place
-  pub noted : IsTrue good → AreCauses run placing (place + 1) new
+pub record SeesLine (run : List Line) (apart : List ℕ) (placing : Placing) (place : ℕ) (new : Causes)
+    (good : Bool) : Type 0 where
+  pub behind : IsTrue good ↔ IsLineBehind run apart (position_of placing) place
+  pub noted : IsTrue good → AreCauses run apart placing (place + 1) new

@@ -1,3 +1,4 @@
+pub mod Executions
 pub mod Facts
 pub mod Placing
 pub mod Reached

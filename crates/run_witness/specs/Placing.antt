@@ -6,13 +6,14 @@ use Rattle.run_lines.specs.declared.line.Line.{Line}
 use Rattle.run_lines.specs.declared.line.Doing.{Doing}
 use Rattle.run_rules.specs.declared.frame.Frame.{Frame}
 use Rattle.run_rules.specs.declared.frame.Frame.TheVariants.{Execution, Outside}
-use Rattle.run_rules.specs.Against.{op_of}
+use Rattle.run_rules.specs.Against.{calls, op_of}
 use Rattle.run_rules.specs.Calls.{begins, context_of}
 use Rattle.run_rules.specs.Stacks.{frame, same_frame}
 use Rattle.run_check.specs.declared.waiting.Waiter.{Waiter}
 use Rattle.run_orders.specs.declared.order.Step.{Step}
-use Rattle.run_orders.specs.Orders.{BeginsTree, IsPut, IsWorker, Stands, lines_of, renumbered, same_op}
-use Rattle.run_orders.specs.Trees.{Spot, spot_at, tree}
+use Rattle.run_orders.specs.Apart.{WasIdle}
+use Rattle.run_orders.specs.Orders.{BeginsTree, IsBusy, IsPut, IsWorker, Stands, lines_of, renumbered, same_op}
+use Rattle.run_orders.specs.Trees.{Spot, is_among, spot_at, tree}
 use Rattle.run_witness.specs.Facts.{works}
 use Rattle.run_witness.specs.declared.facts.Fact.{Fact}
 use Rattle.run_witness.specs.declared.facts.Facts.{Facts}
@@ -66,7 +67,8 @@ pub record MayPut (kept : Placing) (facts : Facts) (fact : Fact) (step : Step) (
   pub numbered : MayPair kept (op_of fact.line.does) (op_of step.line.does)
   pub together : IsOrUnknown (thread_of kept fact.tree) step.line.thread
   pub home : (thread : ℕ) → fact.tree ≡ Outside thread → thread ≡ step.line.thread
-  pub caller : (op number : ℕ) → fact.writer ≡ Execution op → number_of kept op ≡ Some number → who ≡ Execution number
+  pub caller : ¬ (BeginsIts fact.line.does fact.tree) → (op number : ℕ) → fact.writer ≡ Execution op →
+      number_of kept op ≡ Some number → who ≡ Execution number
   pub idle : BeginsIts fact.line.does fact.tree → who ≡ Outside step.line.thread
   pub worker : (waiter : Waiter) → fact.begun ≡ Some waiter → IsTrue (works facts step.line.thread waiter.context)
 
@@ -98,37 +100,43 @@ abbrev pub NamesPair : ℕ → ℕ → Spot → Line → Type 0
 NamesPair op number first line = (op_of first.line.does ≡ Some op) × (op_of line.does ≡ Some number)
 
 -- these lines were put, and no others
-pub record IsPlacing (run : List Line) (before : List Step) (kept : Placing) : Type 0 where
+pub record IsPlacing (run : List Line) (apart : List ℕ) (before : List Step) (kept : Placing) : Type 0 where
   pub count : kept.count ≡ length before
   pub places : (place : ℕ) → position_of kept place ≡ position before place
   pub threads : (other : Step) (first : Spot) → IsPut run before other first →
-      thread_of kept (tree [] first) ≡ Some other.line.thread
+      thread_of kept (tree apart first) ≡ Some other.line.thread
   pub numbers : (other : Step) (first : Spot) → IsPut run before other first →
       Pairs kept (op_of first.line.does) (op_of other.line.does)
   pub on : (tree_of : Frame) (thread : ℕ) → thread_of kept tree_of ≡ Some thread →
-      IsPutWith run before (λ first line. (tree [] first ≡ tree_of) × (line.thread ≡ thread))
+      IsPutWith run before (λ first line. (tree apart first ≡ tree_of) × (line.thread ≡ thread))
   pub numbered : (op number : ℕ) → number_of kept op ≡ Some number → IsPutWith run before (NamesPair op number)
   pub named : (op number : ℕ) → op_named kept number ≡ Some op → IsPutWith run before (NamesPair op number)
 
--- a line of the run may stand behind these, but that nothing is said of its causes
-pub record IsPutWell (run : List Line) (before : List Step) (step : Step) : Type 0 where
+-- a line of the run may stand behind these, but that nothing is said of its causes, and of strands that have to be busy
+pub record IsPutWell (run : List Line) (apart : List ℕ) (before : List Step) (step : Step) : Type 0 where
   pub spot : Spot
   pub there : spot_at run step.place ≡ Some spot
   pub once : ¬ (Stands before step.place)
   pub copied : (number : ℕ) × (step.line.does ≡ renumbered number spot.line.does)
   pub numbered : (other : Step) (first : Spot) → IsPut run before other first →
       same_op first.line.does spot.line.does ≡ same_op other.line.does step.line.does
-  pub together : (other : Step) (first : Spot) → IsPut run before other first → tree [] first ≡ tree [] spot →
+  pub together : (other : Step) (first : Spot) → IsPut run before other first → tree apart first ≡ tree apart spot →
       other.line.thread ≡ step.line.thread
-  pub outside : tree [] spot ≡ Outside spot.line.thread → step.line.thread ≡ spot.line.thread
+  pub outside : tree apart spot ≡ Outside spot.line.thread → step.line.thread ≡ spot.line.thread
   pub caller : (other : Step) (first : Spot) (op number : ℕ) → IsPut run before other first →
-      tree [] first ≡ tree [] spot → frame spot.past spot.line.thread ≡ Execution op →
+      tree apart first ≡ tree apart spot → frame spot.past spot.line.thread ≡ Execution op →
       IsTrue (begins first.line.does op) → IsTrue (begins other.line.does number) →
       frame (lines_of before) step.line.thread ≡ Execution number
-  pub idle : BeginsTree [] spot → frame (lines_of before) step.line.thread ≡ Outside step.line.thread
+  pub idle : BeginsTree apart spot → frame (lines_of before) step.line.thread ≡ Outside step.line.thread
   pub worker : (op context : ℕ) → IsTrue (begins spot.line.does op) → context_of spot.past op ≡ Some context →
       IsWorker run step.line.thread context
 
-abbrev pub EachIsPutWell : List Line → List Step → Type 0
-EachIsPutWell run [] = Unit {0}
-EachIsPutWell run (step ∷ before) = EachIsPutWell run before × IsPutWell run before step
+-- where a line calls what is set apart and was idle, its strand is busy
+abbrev pub FindsBusy : List Line → List ℕ → List Step → Step → Type 0
+FindsBusy run apart before step = (spot : Spot) (op strand : ℕ) → spot_at run step.place ≡ Some spot →
+    IsTrue (calls spot.line.does op) → IsTrue (is_among apart op) → WasIdle run op strand → IsBusy (lines_of before) strand
+
+abbrev pub EachIsPutWell : List Line → List ℕ → List Step → Type 0
+EachIsPutWell run apart [] = Unit {0}
+EachIsPutWell run apart (step ∷ before) =
+    EachIsPutWell run apart before × IsPutWell run apart before step × FindsBusy run apart before step

@@ -33,4 +33,5 @@ IsBefore (Some (Some place)) bound = place < bound
 -- a place is noted at this key, if there is one
 abbrev pub NotesAt : (ℕ → Option (Option ℕ)) → (ℕ → Option (Option ℕ)) → Option ℕ → Option ℕ → Type 0
 NotesAt old new None place = (other : ℕ) → new other ≡ old other
-NotesAt old new (Some key) place = (other : ℕ) → new other ≡ (if key == other then Some (reached_with (old key) place) else old other)
+NotesAt old new (Some key) place = (other : ℕ) → new other ≡ (if key == other then Some (reached_with
+    (old key) place) else old other)

@@ -100,7 +100,7 @@ fn note_tree(trees: &mut Reached<Frame>, tree: Frame, at: Option<u64>) -> Result
 
 impl Causes {
     pub(crate) fn new(alloc: Global) -> Self
-        ensures { (run : List Line) (placing : Placing) → AreCauses run placing 0 result }
+        ensures { (run : List Line) (apart : List ℕ) (placing : Placing) → AreCauses run apart placing 0 result }
     {
         Causes {
             trees: Reached::new(alloc),
@@ -221,8 +221,8 @@ impl Causes {
 
     /// Whether the line at this place stands behind its causes, if it stands; and notes it.
     fn see(&mut self, facts: &Facts, placing: &Placing, place: u64) -> Result<bool, NoRoom>
-        ensures { IfOk result (λ good. (thing : ℕ) (run : List Line) → AreFacts thing run facts.now →
-            place < facts.now.lines → AreCauses run placing.now place self.old → SeesLine run placing.now place self.new good) }
+        ensures { IfOk result (λ good. (apart : List ℕ) (thing : ℕ) (run : List Line) → AreFacts apart thing run facts.now →
+            place < facts.now.lines → AreCauses run apart placing.now place self.old → SeesLine run apart placing.now place self.new good) }
     {
         let stands = placing.position(place);
         match facts.at(place) {
@@ -241,8 +241,8 @@ impl Causes {
 
 /// Whether each line of a run stands behind its causes, if it stands.
 pub(crate) fn are_behind(alloc: Global, facts: &Facts, placing: &Placing) -> Result<bool, NoRoom>
-    ensures { IfOk result (λ good. (thing : ℕ) (run : List Line) → AreFacts thing run facts.now →
-        IsTrue good ↔ AreBehind run (position_of placing.now)) }
+    ensures { IfOk result (λ good. (apart : List ℕ) (thing : ℕ) (run : List Line) → AreFacts apart thing run facts.now →
+        IsTrue good ↔ AreBehind run apart (position_of placing.now)) }
 {
     let mut causes = Causes::new(alloc);
     for place in 0..facts.lines {

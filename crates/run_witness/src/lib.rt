@@ -1,9 +1,11 @@
 //! The judge of other orders of a recorded run. It promises that it accepts exactly the orders of the
-//! run with no execution set apart in which all lines but the last keep the rules of runs, and that end
-//! as two threads come to hold one thing. Programs that show overlaps stand on it.
+//! run, with just the named executions set apart, in which all lines but the last keep the rules of
+//! runs, and that end as two threads come to hold one thing. Programs that show overlaps stand on it.
 #![tactic(auto)]
 
+mod attempt;
 mod causes;
+mod executions;
 mod facts;
 mod fault;
 mod judging;
@@ -12,7 +14,8 @@ mod placing;
 mod reached;
 mod search;
 mod spelling;
+mod witness;
 
 pub use fault::Fault;
 pub use judging::judge;
-pub use search::{Witness, find_witness};
+pub use witness::{Witness, find_witness};

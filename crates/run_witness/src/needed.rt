@@ -1,3 +1,4 @@
+use crate::attempt::Plan;
 use crate::facts::{Fact, Facts};
 use run_check::{NoRoom, Waiter};
 use run_lines::{Code, Doing};
@@ -186,23 +187,22 @@ fn want_trees(
     Ok(())
 }
 
-/// The lines that have to stand in an order of which these two are part, the last one first, and the
-/// trees of those before as a whole; with all that went before on a strand, if that is asked.
+/// The lines that have to stand in an order by this plan, the last one first, with all that is wanted
+/// already; with all that went before on a strand, if that is asked.
 fn needed_with(
     alloc: Global,
     facts: &Facts,
     strands: &StrandsOfOps,
-    pair: (u64, u64),
-    whole: bool,
+    plan: &Plan,
     mut wants: Wants,
 ) -> Result<Vec<u64>, NoRoom> {
     let mut all = Vec::new(alloc);
     for index in 0..facts.lines {
         let place = facts.lines.saturating_sub(index).saturating_sub(1);
         if let Some(fact) = facts.at(place) {
-            if place == pair.0 || place == pair.1 || wants.wants(&fact, place, strands) {
+            if plan.wants(place) || wants.wants(&fact, place, strands) {
                 wants.want(&fact)?;
-                if whole {
+                if plan.whole {
                     wants.want_strand(&fact)?;
                 }
                 all.push(place)?;
@@ -212,23 +212,22 @@ fn needed_with(
     Ok(all)
 }
 
-/// The lines that have to stand in an order of which these two are part, the last one first. The other
-/// trees run to their ends. With all that went before on a strand, if that is asked.
+/// The lines that have to stand in an order by this plan, the last one first. The trees but for those of
+/// the claims run to their ends. With all that went before on a strand, if that is asked.
 pub(crate) fn needed(
     alloc: Global,
     facts: &Facts,
     strands: &StrandsOfOps,
-    pair: (u64, u64),
-    whole: bool,
+    plan: &Plan,
 ) -> Result<Vec<u64>, NoRoom> {
-    let mut all = needed_with(alloc, facts, strands, pair, whole, Wants::new(alloc))?;
-    let (Some(one), Some(other)) = (facts.at(pair.0), facts.at(pair.1)) else {
+    let mut all = needed_with(alloc, facts, strands, plan, Wants::new(alloc))?;
+    let (Some(one), Some(other)) = (facts.at(plan.held), facts.at(plan.last)) else {
         return Ok(all);
     };
     for _ in 0..ROUNDS {
         let mut wants = Wants::new(alloc);
         want_trees(&mut wants, facts, &all, (one.tree, other.tree))?;
-        let next = needed_with(alloc, facts, strands, pair, whole, wants)?;
+        let next = needed_with(alloc, facts, strands, plan, wants)?;
         if next.len() == all.len() {
             return Ok(all);
         }

@@ -85,7 +85,7 @@ pub(crate) struct Placing {
 
 impl Placing {
     pub(crate) fn new(alloc: Global) -> Self
-        ensures { (run : List Line) → IsPlacing run [] result }
+        ensures { (run : List Line) (apart : List ℕ) → IsPlacing run apart [] result }
     {
         Placing {
             count: 0,
@@ -135,7 +135,7 @@ impl Placing {
         }
     }
 
-    /// Whether the caller of a line is the same, where this frame writes it.
+    /// Whether the caller of a line inside a tree is the same, where this frame writes it.
     fn is_by_same(&self, fact: &Fact, frame: Frame) -> bool
         ensures { IsTrue result ↔ ((op number : ℕ) → fact.now.writer ≡ Frame.Execution op → number_of self.now op ≡ Some number → frame ≡ Frame.Execution number) }
     {
@@ -148,6 +148,18 @@ impl Placing {
         }
     }
 
+    /// Whether the caller of a line is the same, where this frame writes it, unless its tree begins there.
+    fn has_caller(&self, fact: &Fact, frame: Frame) -> bool
+        ensures { IsTrue result ↔ (¬ (BeginsIts fact.now.line.does fact.now.tree) → (op number : ℕ) → fact.now.writer ≡ Frame.Execution op →
+            number_of self.now op ≡ Some number → frame ≡ Frame.Execution number) }
+    {
+        if begins_tree(fact) {
+            true
+        } else {
+            self.is_by_same(fact, frame)
+        }
+    }
+
     /// Whether a line of the run may be put behind these, as this frame's next one.
     fn may_put(&self, facts: &Facts, fact: &Fact, step: &Step, frame: Frame) -> bool
         ensures { IsTrue result ↔ MayPut self.now facts.now fact.now step.now frame }
@@ -157,7 +169,7 @@ impl Placing {
             && self.is_one_to_one(op_of(&fact.line.does), op_of(&step.line.does))
             && is_or_unknown(self.thread(fact.tree), step.line.thread)
             && is_at_home(fact, step)
-            && self.is_by_same(fact, frame)
+            && self.has_caller(fact, frame)
             && is_idle(fact, step, frame)
             && is_by_worker(facts, fact, step)
     }
@@ -216,12 +228,12 @@ impl Placing {
 
     /// Puts a line of the run behind these, if it may stand there as this frame's next one.
     pub(crate) fn put(&mut self, facts: &Facts, step: &Step, who: Frame) -> Result<bool, NoRoom>
-        ensures good { IfOk result (λ good. (thing : ℕ) (run : List Line) (before : List Step) → AreFacts thing run facts.now →
-            IsPlacing run before self.old → who ≡ frame (lines_of before) step.now.line.thread → IsTrue good →
-            IsPlacing run (step.now ∷ before) self.new × IsPutWell run before step.now) }
-        ensures bad { IfOk result (λ good. (thing : ℕ) (run : List Line) (before : List Step) → AreFacts thing run facts.now →
-            IsPlacing run before self.old → who ≡ frame (lines_of before) step.now.line.thread →
-            EachMayStand run [] (step.now ∷ before) → IsTrue good) }
+        ensures good { IfOk result (λ good. (apart : List ℕ) (thing : ℕ) (run : List Line) (before : List Step) → AreFacts apart thing run facts.now →
+            IsPlacing run apart before self.old → who ≡ frame (lines_of before) step.now.line.thread → IsTrue good →
+            IsPlacing run apart (step.now ∷ before) self.new × IsPutWell run apart before step.now) }
+        ensures bad { IfOk result (λ good. (apart : List ℕ) (thing : ℕ) (run : List Line) (before : List Step) → AreFacts apart thing run facts.now →
+            IsPlacing run apart before self.old → who ≡ frame (lines_of before) step.now.line.thread →
+            EachMayStand run apart (step.now ∷ before) → IsTrue good) }
     {
         match facts.at(step.place) {
             Some(fact) => {

@@ -5,4 +5,5 @@ use Rattle.run_witness.proofs.CausesLemmas.{AreBehindBelow}
 use Rattle.run_witness.proofs.causes.are_behind.Given as goal
 
 abbrev pub invariant-loop-place : goal.invariant-loop-place
-invariant-loop-place l = (thing : ℕ) (run : List Line) → AreFacts thing run l.facts → AreBehindBelow run l.placing l.place l.causes
+invariant-loop-place l = (apart : List ℕ) (thing : ℕ) (run : List Line) → AreFacts apart thing run l.facts →
+    AreBehindBelow run apart l.placing l.place l.causes

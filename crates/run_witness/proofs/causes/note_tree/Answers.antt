@@ -12,5 +12,6 @@ returns c =
     (λ _. (other : Frame) →
     reached_at test c.note.new.self other
     ≡ (if test c.args.tree other
-    then Some (reached_with (reached_at test c.args.trees.now c.args.tree) c.args.at) else reached_at test c.args.trees.now other)) in
+    then Some (reached_with
+    (reached_at test c.args.trees.now c.args.tree) c.args.at) else reached_at test c.args.trees.now other)) in
     subst P frame_test c.note.ensures

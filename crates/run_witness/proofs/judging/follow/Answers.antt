@@ -3,7 +3,11 @@ use Rattle.run_witness.proofs.JudgingLemmas.{false_true, may_loose, refuted}
 use Rattle.run_witness.proofs.judging.follow.Goals as goal
 
 pub returns-in_ok-follow-clause-exact : goal.returns-in_ok-follow-clause-exact
-returns-in_ok-follow-clause-exact c = λ past after. (λ good. (c.may_come.ensures past after).0 c.if-may_come.true, λ came. refl)
+returns-in_ok-follow-clause-exact c = λ past after. (
+  λ good.
+      (c.may_come.ensures past after).0 c.if-may_come.true,
+  λ came. refl,
+)
 
 pub returns-in_ok-follow-clause-followed : goal.returns-in_ok-follow-clause-followed
 returns-in_ok-follow-clause-followed c = λ past after good.

@@ -1,21 +1,14 @@
-use Rattle.std.proofs.Common.{◌∷◌, reverse, sym, ◌∙◌}
-use Rattle.run_witness.proofs.JudgingLemmas.{is_witness, ok_more, refuted}
-use Rattle.run_witness.proofs.WitnessLemmas.{are_stood}
+use Rattle.std.proofs.Common.{sym, ◌∙◌}
+use Rattle.run_witness.proofs.JudgingLemmas.{ok_more, refuted}
 use Rattle.run_witness.proofs.judging.judge_by.Goals as goal
 
-pub returns-then-branch : goal.returns-then-branch
-returns-then-branch c =
-    ok_more c.is_shown.result
-    (λ good shown run are.
-    let before = reverse c.args.steps.now in
-    let last = c.args.last.now in
-    let put = c.in_ok-put_order.ensures.good c.args.thing run are (c.new-replay.ensures run) c.if-branch.true in
-    let both = shown run (last ∷ before) are put.placing in (
-      λ is. is_witness run before last c.args.thing c.args.claim c.put_order.new.self.placing put (both.0 is).0 (both.0 is).1,
-      λ witness. both.1 (are_stood run (last ∷ before) c.put_order.new.self.placing put.placing witness.order.each, witness.holds),
-    )) c.is_shown.ensures
+pub returns-then-may_be_apart : goal.returns-then-may_be_apart
+returns-then-may_be_apart c =
+    ok_more c.judge_lines.result
+    (λ good judged run are. judged c.args.apart.now run are
+    ((c.may_be_apart.ensures c.args.apart.now c.args.thing run are).0 c.if-may_be_apart.true)) c.judge_lines.ensures
 
-pub returns : goal.returns
-returns c = λ run are.
-    refuted (λ witness. sym c.if-branch.false
-    ∙ c.in_ok-put_order.ensures.bad c.args.thing run are (c.new-replay.ensures run) witness.order.each witness.legal)
+pub returns-else-may_be_apart : goal.returns-else-may_be_apart
+returns-else-may_be_apart c = λ run are.
+    refuted (λ witness. sym c.if-may_be_apart.false ∙
+    (c.may_be_apart.ensures c.args.apart.now c.args.thing run are).1 witness.order.alone)

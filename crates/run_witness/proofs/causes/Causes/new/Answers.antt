@@ -8,7 +8,7 @@ use Rattle.run_witness.proofs.CausesLemmas.{nothing_noted}
 use Rattle.run_witness.proofs.causes.Causes.new.Goals as goal
 
 pub returns : goal.returns
-returns c = λ run placing.
+returns c = λ run apart placing.
     let kept : Causes = record {
       trees = c.new.result;
       called = c.new-2.result;

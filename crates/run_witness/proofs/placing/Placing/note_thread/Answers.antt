@@ -9,5 +9,6 @@ pub returns-clause-threads : goal.returns-clause-threads
 returns-clause-threads c =
     let P : (Frame → Frame → Bool) → Type 0 =
     λ test. (q : Frame) →
-    get test c.insert.new.self q ≡ (if test c.args.tree q then Some c.args.thread else get test c.args.self.now.threads q) in
+    get test c.insert.new.self q ≡
+    (if test c.args.tree q then Some c.args.thread else get test c.args.self.now.threads q) in
     subst P frame_test c.in_ok-insert.ensures.updates.0

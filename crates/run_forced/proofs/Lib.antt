@@ -1,0 +1,9 @@
+pub mod ClockLemmas
+pub mod EdgeLemmas
+pub mod ChainLemmas
+pub mod KnownLemmas
+pub mod SourceLemmas
+pub mod TurnLemmas
+pub mod PastLemmas
+pub mod ClaimLemmas
+pub mod FindingLemmas

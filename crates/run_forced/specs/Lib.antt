@@ -1,0 +1,9 @@
+pub mod Events
+pub mod Clocks
+pub mod Chains
+pub mod Known
+pub mod Sources
+pub mod Turns
+pub mod Past
+pub mod Claims
+pub mod Finding
