@@ -26,7 +26,7 @@ export -f run_tests
 
 if [ $# = 0 ]; then
   # the crates whose sessions have many workers first, since they take longest; then those with the most tests
-  longest='context_tests session_tests io_tests future_tests'
+  longest='context_tests session_tests io_tests future_tests group_tests'
   mapfile -t with_tests < <(
     printf '%s\n' $longest
     grep -rE '^ *#\[test\]' crates/*/src | cut -d/ -f2 | sort | uniq -c | sort -rn | awk '{ print $2 }' | grep -vxF "${longest// /$'\n'}"
